@@ -1,0 +1,3 @@
+//! Transactions: their parts, their canonical bytes, and views of these.
+
+pub mod parts;
