@@ -4,3 +4,6 @@ pub mod Version
 pub mod Setting
 pub mod Cluster
 pub mod Transaction
+pub mod Words
+pub mod Causes
+pub mod Memory

@@ -2,9 +2,15 @@
 #![tactic(auto)]
 
 pub mod bytes;
+pub mod clock;
 pub mod cluster;
+pub mod links;
 pub mod list;
 pub mod memory;
+pub mod outbox;
 pub mod party;
+pub mod sink;
+pub mod source;
 pub mod transaction;
 pub mod version;
+pub mod words;
