@@ -1,8 +1,10 @@
--- A transaction, its canonical bytes, its id and its version.
-use Rattle.std.specs.Prelude.{ℕ, ◌∷◌, ◌++◌, [], List, Bool, length, ◌==◌, if◌then◌else◌}
+-- A transaction, its canonical bytes, its id and its version, and what is a transaction.
+use Rattle.std.specs.Prelude.{◌≡◌, ℕ, ◌≤◌, ◌<◌, ◌^◌, ◌∷◌, ◌++◌, [], List, true, false, length, ◌==◌, if◌then◌else◌}
 use Rattle.std.specs.List.{flat_map}
 use Rattle.std.specs.Int.{to_be_bytes, w64, w16}
 use Rattle.basil_types.specs.Id.{id_of}
+use Rattle.basil_types.specs.Lists.{AreItems}
+use Rattle.basil_types.specs.Texts.{IsKey, IsValue, IsVersion, key_below}
 use Rattle.basil_types.specs.declared.version.Version.{Version}
 use Rattle.basil_types.specs.declared.transaction.parts.ReadPart.{ReadPart}
 use Rattle.basil_types.specs.declared.transaction.parts.WritePart.{WritePart}
@@ -45,3 +47,43 @@ id t = id_of (canonical t)
 
 abbrev pub version_of : TransactionValue → Version
 version_of t = record { time = t.time; client = t.client; id = id t }
+
+-- ---- which values are transactions
+
+-- a read whose key stands above the one before it
+pub record FitsRead (before : List ℕ) (r : ReadPart) : Type 0 where
+  pub key : IsKey r.key
+  pub above : key_below before r.key ≡ true
+  pub version : IsVersion r.version
+
+-- a write whose key stands above the one before it; a deletion has no value, and stands in format 2
+pub record FitsWrite (format : ℕ) (before : List ℕ) (w : WritePart) : Type 0 where
+  pub key : IsKey w.key
+  pub above : key_below before w.key ≡ true
+  pub value : IsValue w.value
+  pub gives : format ≡ 1 → w.deletes ≡ false
+  pub deletes : w.deletes ≡ true → w.value ≡ []
+
+abbrev pub key_of_read : ReadPart → List ℕ
+key_of_read r = r.key
+
+abbrev pub key_of_write : WritePart → List ℕ
+key_of_write w = w.key
+
+-- what has canonical bytes
+pub record IsTransaction (t : TransactionValue) : Type 0 where
+  pub known : 1 ≤ t.format
+  pub format : t.format ≤ 2
+  pub time : t.time < 2 ^ 64
+  pub someone : 1 ≤ t.client
+  pub client : t.client ≤ 16
+  pub few_reads : length t.reads ≤ 32
+  pub reads : AreItems FitsRead key_of_read [] t.reads
+  pub few_writes : length t.writes ≤ 32
+  pub writes : AreItems (FitsWrite t.format) key_of_write [] t.writes
+
+-- these bytes begin with this transaction
+pub record Begins (bytes : List ℕ) (t : TransactionValue) : Type 0 where
+  pub is : IsTransaction t
+  pub rest : List ℕ
+  pub spelled : bytes ≡ canonical t ++ rest

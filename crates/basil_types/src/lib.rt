@@ -9,8 +9,12 @@ pub mod list;
 pub mod memory;
 pub mod outbox;
 pub mod party;
+pub mod reading;
+pub mod replayed;
 pub mod sink;
 pub mod source;
+#[cfg(test)]
+mod tests;
 pub mod transaction;
 pub mod version;
 pub mod words;

@@ -141,13 +141,16 @@ pub struct MemLinks {
 }
 
 impl MemLinks {
-    /// Links that take these connections in order.
+    /// Links that take these connections in order, before their first call: `changed` lists carries and `failing` calls,
+    /// both from 1. Takes no memory.
     pub fn new(
         alloc: Global,
         connections: Vec<Vec<u8>>,
         changed: Vec<u64>,
         failing: Vec<u64>,
-    ) -> MemLinks {
+    ) -> MemLinks
+        ensures { ⟦<MemLinks as Links>⟧.faults result ≡ 0 }
+    {
         MemLinks {
             connections: Connections::new(alloc, connections, changed),
             failing,

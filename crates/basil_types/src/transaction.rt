@@ -1,3 +1,19 @@
 //! Transactions: their parts, their canonical bytes, and views of these.
 
+mod fault;
+mod items;
+mod laws;
+mod lists;
+mod owned;
+mod parse;
 pub mod parts;
+mod spell;
+#[cfg(test)]
+mod tests;
+mod view;
+
+pub use fault::{BuildFault, PartFault};
+pub use laws::one_spelling;
+pub use owned::Transaction;
+pub use parse::first;
+pub use view::TransactionView;

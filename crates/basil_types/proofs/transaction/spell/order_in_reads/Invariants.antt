@@ -1,0 +1,7 @@
+use Rattle.std.proofs.Common.{◌≡◌, ◌+◌, map, drop}
+use Rattle.basil_types.specs.Transaction.{key_of_read}
+use Rattle.basil_types.specs.Built.{order_fault, order_fault_from}
+use Rattle.basil_types.proofs.transaction.spell.order_in_reads.Given as goal
+
+abbrev pub invariant-loop-i : goal.invariant-loop-i
+invariant-loop-i l = order_fault (map key_of_read l.fn.reads) ≡ order_fault_from (1 + l.i) l.before (map key_of_read (drop l.i l.rest))
