@@ -1,0 +1,5 @@
+use Rattle.agreement_laws.proofs.Safety.{after_each_event}
+use Rattle.agreement_laws.proofs.invariant.invariant_after_event.Goals as goal
+
+pub returns : goal.returns
+returns c = after_each_event

@@ -1,0 +1,9 @@
+pub mod Words
+pub mod Settings
+pub mod Certificates
+pub mod Replicas
+pub mod Lists
+pub mod Runs
+pub mod Invariants
+pub mod Laws
+pub mod Examples

@@ -1,0 +1,5 @@
+pub mod Counts
+pub mod Quorums
+mod Masks
+mod LawProofs
+pub mod ListSets
