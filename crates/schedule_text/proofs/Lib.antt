@@ -1,0 +1,17 @@
+pub mod Cutting
+pub mod Digits
+pub mod Unescaping
+pub mod Joining
+pub mod WordLaws
+pub mod FieldLaws
+pub mod EscapeLaws
+pub mod PartyLaws
+pub mod KindLaws
+pub mod HeaderLaws
+pub mod LineLaws
+pub mod ResultTakes
+pub mod FieldTakes
+pub mod EscapeTakes
+pub mod KindTakes
+pub mod HeaderTakes
+pub mod LineTakes

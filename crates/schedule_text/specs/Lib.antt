@@ -1,0 +1,11 @@
+pub mod Complaints
+pub mod Words
+pub mod Fields
+pub mod Parties
+pub mod Headers
+pub mod Kinds
+pub mod Lines
+pub mod Reading
+pub mod Spelling
+pub mod Fitting
+pub mod Pieces

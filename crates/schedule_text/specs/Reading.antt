@@ -1,0 +1,49 @@
+-- What a line of a schedule says, or the one reason why it says nothing.
+use Rattle.std.specs.Prelude.{ℕ, Bool, false, codes, bytes_eq, List, [], ◌∷◌, ◌==◌, length, nat_lt, nat_le, if◌then◌else◌, Option, Some, None, Result, Ok, Err}
+use Rattle.schedule_text.specs.declared.line.Line.{Line}
+use Rattle.schedule_text.specs.declared.line.Line.TheVariants.{Skipped}
+use Rattle.schedule_text.specs.declared.line.LineFault.{LineFault}
+use Rattle.schedule_text.specs.declared.line.LineFault.TheVariants.{BadLine}
+use Rattle.schedule_text.specs.declared.kinds.Kind.{Kind}
+use Rattle.schedule_text.specs.declared.complaint.Complaint.{Complaint}
+use Rattle.schedule_text.specs.declared.complaint.Complaint.TheVariants.{Misspelt, OutOfSize}
+use Rattle.schedule_text.specs.Complaints.{reason_of}
+use Rattle.schedule_text.specs.Words.{Word, words}
+use Rattle.schedule_text.specs.Kinds.{kind_of}
+use Rattle.schedule_text.specs.Lines.{line_of}
+
+abbrev pub of_kind : Option Kind → List Word → Result Line Complaint
+of_kind None rest = Err Misspelt
+of_kind (Some kind) rest = line_of kind rest
+
+-- what the first word and those behind it say
+unfoldable pub said : List Word → Result Line Complaint
+said [] = Err Misspelt
+said (first ∷ rest) = of_kind (kind_of first) rest
+
+-- an empty line and one that begins with `#` are skipped, whatever follows
+unfoldable pub line_value : List ℕ → Result Line Complaint
+line_value [] = Ok Skipped
+line_value (b ∷ rest) = if b == 35 then Ok Skipped else said (words (b ∷ rest))
+
+-- no line stands behind the millionth
+abbrev pub numbered : ℕ → Result Line Complaint → Result Line Complaint
+numbered number (Ok line) = if nat_le number 1000000 then Ok line else Err OutOfSize
+numbered number (Err c) = Err c
+
+abbrev pub answered : ℕ → Result Line Complaint → Result Line LineFault
+answered number (Ok line) = Ok line
+answered number (Err c) = Err (BadLine number (reason_of c))
+
+-- the value of a line with this number, or its first reason: a line above 2,200,000 bytes comes first of all
+unfoldable pub line_at : List ℕ → ℕ → Result Line LineFault
+line_at line number =
+    if nat_lt 2200000 (length line) then Err (BadLine number 8) else answered number (numbered number (line_value line))
+
+abbrev pub begins_a_header : List Word → Bool
+begins_a_header [] = false
+begins_a_header (first ∷ rest) = bytes_eq first (codes "basil")
+
+-- the first word is `basil`
+unfoldable pub is_header : List ℕ → Bool
+is_header line = begins_a_header (words line)

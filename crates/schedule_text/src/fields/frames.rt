@@ -1,0 +1,66 @@
+//! Bytes in hex.
+
+ghost use Rattle.std.specs.Prelude.{◌≡◌, IfOk};
+ghost use Rattle.std.specs.List.{list_all};
+ghost use Rattle.schedule_text.specs.Fields.{hex, frame, is_lower_hex};
+
+use crate::complaint::Complaint;
+use crate::fields::numbers::is_digit;
+use basil_types::bytes::Bytes;
+use basil_types::memory::NoMemory;
+use hex::FromHexError;
+use std::alloc::Global;
+
+/// The most bytes of a frame.
+const LONGEST_FRAME: usize = 1_048_576;
+
+/// Whether this is a lower-case hex digit.
+fn is_lower_hex(byte: u8) -> bool
+    ensures { result ≡ Rattle.schedule_text.specs.Fields.is_lower_hex byte }
+{
+    is_digit(byte) || b'a' <= byte && byte <= b'f'
+}
+
+/// Whether each byte is a lower-case hex digit.
+fn are_lower_hex(word: &[u8]) -> bool
+    ensures { result ≡ list_all is_lower_hex word.now }
+{
+    word.iter().all(|b| is_lower_hex(*b))
+}
+
+#[tactic(auto, unfolding(crate::specs::Fields::hex))]
+/// An even number of lower-case hex digits, at least two.
+pub fn read_hex(alloc: Global, word: &[u8]) -> Result<Result<Bytes, Complaint>, NoMemory>
+    ensures { IfOk result (λ r. r ≡ hex word.now) }
+{
+    if word.is_empty() || !are_lower_hex(word) {
+        return Ok(Err(Complaint::Misspelt));
+    }
+    match hex::decode(alloc, word) {
+        Ok(bytes) => Ok(Ok(Bytes::from_vec(bytes))),
+        Err(fault) => {
+            if fault == FromHexError::OutOfMemory {
+                Err(NoMemory)
+            } else {
+                Ok(Err(Complaint::Misspelt))
+            }
+        }
+    }
+}
+
+#[tactic(auto, unfolding(crate::specs::Fields::frame))]
+/// The hex of a frame of at most 1,048,576 bytes.
+pub fn read_frame(alloc: Global, word: &[u8]) -> Result<Result<Bytes, Complaint>, NoMemory>
+    ensures { IfOk result (λ r. r ≡ frame word.now) }
+{
+    match read_hex(alloc, word)? {
+        Ok(bytes) => {
+            if bytes.as_slice().len() > LONGEST_FRAME {
+                Ok(Err(Complaint::OutOfSize))
+            } else {
+                Ok(Ok(bytes))
+            }
+        }
+        Err(complaint) => Ok(Err(complaint)),
+    }
+}

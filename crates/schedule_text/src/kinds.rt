@@ -1,0 +1,108 @@
+//! The kinds of lines, by their first words, and what the words behind say.
+
+ghost use Rattle.std.specs.Prelude.{◌≡◌};
+ghost use Rattle.schedule_text.specs.Kinds;
+
+pub mod clients;
+pub mod header;
+pub mod messages;
+pub mod replicas;
+
+use crate::fields::spellings::is_text;
+
+/// The kinds of lines, by their first words.
+#[derive(Clone, Copy, Debug, PartialEq, Eq)]
+pub enum Kind {
+    Basil,
+    Faulty,
+    Begin,
+    Read,
+    Write,
+    Delete,
+    Claim,
+    Prepare,
+    Settle,
+    Recover,
+    Invoke,
+    Round,
+    Deliver,
+    Lose,
+    Divert,
+    Clock,
+    Vote,
+    Second,
+    Logged,
+    Elect,
+    Decide,
+    Raw,
+    Show,
+    Stop,
+}
+
+#[tactic(auto, unfolding(crate::specs::Kinds::kind_of))]
+/// The kind that a first word names.
+pub fn kind_of(word: &[u8]) -> Option<Kind>
+    ensures { result ≡ Kinds.kind_of word.now }
+{
+    if is_text(word, b"basil") {
+        Some(Kind::Basil)
+    } else if is_text(word, b"faulty") {
+        Some(Kind::Faulty)
+    } else if is_text(word, b"begin") {
+        Some(Kind::Begin)
+    } else if is_text(word, b"read") {
+        Some(Kind::Read)
+    } else if is_text(word, b"write") {
+        Some(Kind::Write)
+    } else if is_text(word, b"delete") {
+        Some(Kind::Delete)
+    } else if is_text(word, b"claim") {
+        Some(Kind::Claim)
+    } else if is_text(word, b"prepare") {
+        Some(Kind::Prepare)
+    } else if is_text(word, b"settle") {
+        Some(Kind::Settle)
+    } else if is_text(word, b"recover") {
+        Some(Kind::Recover)
+    } else if is_text(word, b"invoke") {
+        Some(Kind::Invoke)
+    } else {
+        message_kind_of(word)
+    }
+}
+
+#[tactic(auto, unfolding(crate::specs::Kinds::message_kind_of))]
+/// The kind that a first word names, of those that speak of messages or of faulty replicas.
+fn message_kind_of(word: &[u8]) -> Option<Kind>
+    ensures { result ≡ Kinds.message_kind_of word.now }
+{
+    if is_text(word, b"round") {
+        Some(Kind::Round)
+    } else if is_text(word, b"deliver") {
+        Some(Kind::Deliver)
+    } else if is_text(word, b"lose") {
+        Some(Kind::Lose)
+    } else if is_text(word, b"divert") {
+        Some(Kind::Divert)
+    } else if is_text(word, b"clock") {
+        Some(Kind::Clock)
+    } else if is_text(word, b"vote") {
+        Some(Kind::Vote)
+    } else if is_text(word, b"second") {
+        Some(Kind::Second)
+    } else if is_text(word, b"logged") {
+        Some(Kind::Logged)
+    } else if is_text(word, b"elect") {
+        Some(Kind::Elect)
+    } else if is_text(word, b"decide") {
+        Some(Kind::Decide)
+    } else if is_text(word, b"raw") {
+        Some(Kind::Raw)
+    } else if is_text(word, b"show") {
+        Some(Kind::Show)
+    } else if is_text(word, b"stop") {
+        Some(Kind::Stop)
+    } else {
+        None
+    }
+}

@@ -1,0 +1,144 @@
+//! The header of a schedule.
+
+ghost use Rattle.std.specs.Prelude.{◌≡◌, option_copied, true, false};
+ghost use Rattle.schedule_text.specs.Words.{words_after};
+ghost use Rattle.schedule_text.specs.Headers.{cluster_numbers, header_fields, journal_fields, seven_fields, eight_fields, cluster_of, header};
+ghost use Rattle.schedule_text.specs.Words.{seven_of, eight_of};
+
+use crate::complaint::{Complaint, read_all4, read_both};
+use crate::fields::spellings::{read_labelled_keys, read_labelled_number, read_literal};
+use crate::line::{KeysKind, Line};
+use crate::words::{eight, seven};
+use basil_types::cluster::Cluster;
+
+/// A cluster's numbers as a header spells them, before it is known whether there is such a cluster.
+#[derive(Clone, Copy, Debug)]
+pub struct ClusterNumbers {
+    pub f: u64,
+    pub shards: u64,
+    pub reads: u64,
+    pub delta: u64,
+}
+
+/// What a header's words say.
+#[derive(Clone, Copy, Debug)]
+pub struct HeaderFields {
+    pub numbers: ClusterNumbers,
+    pub clock: u64,
+    pub keys: KeysKind,
+    pub journal: bool,
+}
+
+#[tactic(auto, unfolding(crate::specs::Headers::cluster_numbers))]
+/// `f=F shards=N reads=Q delta=D`
+fn read_numbers(
+    f: &[u8],
+    shards: &[u8],
+    reads: &[u8],
+    delta: &[u8],
+) -> Result<ClusterNumbers, Complaint>
+    ensures { result ≡ cluster_numbers f.now shards.now reads.now delta.now }
+{
+    let numbers = read_all4(
+        read_labelled_number(f, b"f="),
+        read_labelled_number(shards, b"shards="),
+        read_labelled_number(reads, b"reads="),
+        read_labelled_number(delta, b"delta="),
+    );
+    match numbers {
+        Ok((f, shards, reads, delta)) => Ok(ClusterNumbers {
+            f,
+            shards,
+            reads,
+            delta,
+        }),
+        Err(complaint) => Err(complaint),
+    }
+}
+
+#[tactic(auto, unfolding(crate::specs::Headers::header_fields))]
+/// `1 f=F shards=N reads=Q delta=D clock=T keys=K`
+fn read_fields(
+    words: (&[u8], &[u8], &[u8], &[u8], &[u8], &[u8], &[u8]),
+    journal: bool,
+) -> Result<HeaderFields, Complaint>
+    ensures { result ≡ header_fields journal (words.entry.0.now, words.entry.1.now, words.entry.2.now, words.entry.3.now, words.entry.4.now, words.entry.5.now, words.entry.6.now) }
+{
+    let (version, f, shards, reads, delta, clock, keys) = words;
+    let fields = read_all4(
+        read_literal(version, b"1"),
+        read_numbers(f, shards, reads, delta),
+        read_labelled_number(clock, b"clock="),
+        read_labelled_keys(keys, b"keys="),
+    );
+    match fields {
+        Ok((_version, numbers, clock, keys)) => Ok(HeaderFields {
+            numbers,
+            clock,
+            keys,
+            journal,
+        }),
+        Err(complaint) => Err(complaint),
+    }
+}
+
+#[tactic(auto, unfolding(crate::specs::Headers::journal_fields))]
+/// The same with `journal` behind.
+fn read_journal_fields(
+    words: (&[u8], &[u8], &[u8], &[u8], &[u8], &[u8], &[u8], &[u8]),
+) -> Result<HeaderFields, Complaint>
+    ensures { result ≡ journal_fields (words.entry.0.now, words.entry.1.now, words.entry.2.now, words.entry.3.now, words.entry.4.now, words.entry.5.now, words.entry.6.now, words.entry.7.now) }
+{
+    let (version, f, shards, reads, delta, clock, keys, last) = words;
+    let fields = read_fields((version, f, shards, reads, delta, clock, keys), true);
+    let (_last, fields) = read_both(read_literal(last, b"journal"), fields)?;
+    Ok(fields)
+}
+
+#[tactic(auto, unfolding(crate::specs::Headers::cluster_of))]
+/// The cluster of these numbers, where it isn't refused.
+fn read_cluster(numbers: ClusterNumbers) -> Result<Cluster, Complaint>
+    ensures { result ≡ cluster_of numbers }
+{
+    if numbers.f > 6 || numbers.shards > 8 || numbers.reads > 25 {
+        return Err(Complaint::Refused);
+    }
+    let cluster = Cluster::new(
+        numbers.f as u8,
+        numbers.shards as u8,
+        numbers.reads as u8,
+        numbers.delta,
+    );
+    match cluster {
+        Ok(cluster) => Ok(cluster),
+        Err(_) => Err(Complaint::Refused),
+    }
+}
+
+/// The seven words of a header, or the eight of one with `journal`.
+fn read_words(rest: Option<&[u8]>) -> Result<HeaderFields, Complaint>
+    ensures { result ≡ seven_fields (eight_fields (eight_of (words_after (option_copied rest.entry)))) (seven_of (words_after (option_copied rest.entry))) }
+{
+    if let Some(words) = seven(rest) {
+        return read_fields(words, false);
+    }
+    match eight(rest) {
+        Some(words) => read_journal_fields(words),
+        None => Err(Complaint::Misspelt),
+    }
+}
+
+#[tactic(auto, unfolding(crate::specs::Headers::header))]
+/// `basil 1 f=F shards=N reads=Q delta=D clock=T keys=K`, with `journal` at its end or without.
+pub fn read_header(rest: Option<&[u8]>) -> Result<Line, Complaint>
+    ensures { result ≡ header (words_after (option_copied rest.entry)) }
+{
+    let fields = read_words(rest)?;
+    let cluster = read_cluster(fields.numbers)?;
+    Ok(Line::Header {
+        cluster,
+        clock: fields.clock,
+        keys: fields.keys,
+        journal: fields.journal,
+    })
+}

@@ -1,0 +1,13 @@
+//! The schedule language: one line of bytes, read into a value or into the one reason why not, and written again.
+#![tactic(auto)]
+
+mod complaint;
+mod fields;
+mod kinds;
+pub mod laws;
+pub mod line;
+pub mod reading;
+#[cfg(test)]
+mod tests;
+mod words;
+pub mod writing;

@@ -1,0 +1,143 @@
+//! Reading a line.
+
+ghost use Rattle.std.specs.Prelude.{◌≡◌, ◌≢◌, IfOk, IfErr, option_copied, bytes_eq, codes};
+ghost use Rattle.schedule_text.specs.Words.{words, words_after};
+ghost use Rattle.schedule_text.specs.Lines.{line_of};
+ghost use Rattle.schedule_text.specs.Reading;
+ghost use Rattle.schedule_text.specs.Reading.{line_at, line_value, said, numbered};
+
+use crate::complaint::Complaint;
+use crate::fields::spellings::is_text;
+use crate::kinds::clients::{
+    read_begin, read_claim, read_delete, read_invoke, read_prepare, read_read, read_recover,
+    read_settle, read_write,
+};
+use crate::kinds::header::read_header;
+use crate::kinds::messages::{
+    read_deliver, read_divert, read_faulty, read_lose, read_raw, read_round, read_show,
+};
+use crate::kinds::replicas::{
+    read_clock, read_decide, read_elect, read_logged, read_second, read_stop, read_vote,
+};
+use crate::kinds::{Kind, kind_of};
+use crate::line::{Line, LineFault};
+use crate::words::cut;
+use basil_types::memory::NoMemory;
+use std::alloc::Global;
+
+/// The most bytes of a line.
+pub const LONGEST_LINE: usize = 2_200_000;
+
+/// The most lines of a schedule.
+pub const MOST_LINES: u64 = 1_000_000;
+
+#[tactic(auto, unfolding(crate::specs::Lines::line_of))]
+/// What the words behind the first one say.
+fn read_rest(
+    alloc: Global,
+    kind: Kind,
+    rest: Option<&[u8]>,
+) -> Result<Result<Line, Complaint>, NoMemory>
+    ensures { IfOk result (λ r. r ≡ line_of kind (words_after (option_copied rest.entry))) }
+{
+    match kind {
+        Kind::Basil => Ok(read_header(rest)),
+        Kind::Faulty => Ok(read_faulty(rest)),
+        Kind::Begin => read_begin(alloc, rest),
+        Kind::Read => read_read(alloc, rest),
+        Kind::Write => read_write(alloc, rest),
+        Kind::Delete => read_delete(alloc, rest),
+        Kind::Claim => read_claim(alloc, rest),
+        Kind::Prepare => read_prepare(alloc, rest),
+        Kind::Settle => read_settle(alloc, rest),
+        Kind::Recover => read_recover(alloc, rest),
+        Kind::Invoke => read_invoke(alloc, rest),
+        Kind::Round => Ok(read_round(rest)),
+        Kind::Deliver => Ok(read_deliver(rest)),
+        Kind::Lose => Ok(read_lose(rest)),
+        Kind::Divert => Ok(read_divert(rest)),
+        Kind::Clock => Ok(read_clock(rest)),
+        Kind::Vote => read_vote(alloc, rest),
+        Kind::Second => read_second(alloc, rest),
+        Kind::Logged => read_logged(alloc, rest),
+        Kind::Elect => read_elect(alloc, rest),
+        Kind::Decide => read_decide(alloc, rest),
+        Kind::Raw => read_raw(alloc, rest),
+        Kind::Show => read_show(alloc, rest),
+        Kind::Stop => read_stop(alloc, rest),
+    }
+}
+
+#[tactic(auto, unfolding(crate::specs::Reading::said))]
+/// What the words of a line say.
+fn read_words(alloc: Global, line: &[u8]) -> Result<Result<Line, Complaint>, NoMemory>
+    ensures { IfOk result (λ r. r ≡ said (words line.now)) }
+{
+    let (first, rest) = cut(line);
+    match kind_of(first) {
+        Some(kind) => read_rest(alloc, kind, rest),
+        None => Ok(Err(Complaint::Misspelt)),
+    }
+}
+
+#[tactic(auto, unfolding(crate::specs::Reading::line_value))]
+/// What a line says by itself, whatever its length and number.
+fn read_value(alloc: Global, line: &[u8]) -> Result<Result<Line, Complaint>, NoMemory>
+    ensures { IfOk result (λ r. r ≡ line_value line.now) }
+{
+    match line {
+        [] => Ok(Ok(Line::Skipped)),
+        [b'#', ..] => Ok(Ok(Line::Skipped)),
+        _ => read_words(alloc, line),
+    }
+}
+
+/// The value of a line with this number, unless it stands behind the millionth.
+fn read_numbered(value: Result<Line, Complaint>, number: u64) -> Result<Line, Complaint>
+    ensures { result ≡ numbered number value }
+{
+    let line = value?;
+    if number > MOST_LINES {
+        return Err(Complaint::OutOfSize);
+    }
+    Ok(line)
+}
+
+#[tactic(auto, unfolding(crate::specs::Reading::line_at))]
+/// Reads one line of a schedule, without its newline. `number` is its place in the schedule, from 1.
+///
+/// A refused line gives its number and its first reason of those that the line and its number show alone. A line above
+/// 2,200,000 bytes is reason 8, and none of its bytes is looked at. Otherwise the least reason counts: 1 for a header
+/// whose cluster is refused, 2 for a wrong word, 3 for a number out of form or out of the widest range that any cluster
+/// gives, 8 for a key, value or frame out of size and for a line behind the millionth. Skipped lines have these limits
+/// too. A schedule's first line, and a later header, have reasons of their own, which are the caller's.
+pub fn read_line(alloc: Global, line: &[u8], number: u64) -> Result<Line, LineFault>
+    ensures value { IfOk result (λ value. line_at line.now number ≡ Ok value) }
+    ensures refused { IfErr result (λ fault. fault ≢ LineFault.NoMemory → line_at line.now number ≡ Err fault) }
+{
+    if line.len() > LONGEST_LINE {
+        return Err(LineFault::BadLine {
+            number,
+            reason: Complaint::OutOfSize.reason(),
+        });
+    }
+    let Ok(value) = read_value(alloc, line) else {
+        return Err(LineFault::NoMemory);
+    };
+    match read_numbered(value, number) {
+        Ok(line) => Ok(line),
+        Err(complaint) => Err(LineFault::BadLine {
+            number,
+            reason: complaint.reason(),
+        }),
+    }
+}
+
+#[tactic(auto, unfolding(crate::specs::Reading::is_header))]
+/// Whether a line's first word is `basil`. Looks at no byte behind that word.
+pub fn is_header(line: &[u8]) -> bool
+    ensures { result ≡ Reading.is_header line.now }
+{
+    let (first, _rest) = cut(line);
+    is_text(first, b"basil")
+}

@@ -1,0 +1,159 @@
+//! Lines, with the reasons of those that are refused.
+
+use crate::line::{Line, LineFault};
+use crate::reading::read_line;
+use crate::writing::write_line;
+
+/// Lines that are read, each the one spelling of its value.
+const TAKEN: [&str; 34] = [
+    "basil 1 f=0 shards=1 reads=1 delta=100 clock=50 keys=plain",
+    "basil 1 f=6 shards=8 reads=25 delta=18446744073709551615 clock=0 keys=w8h10 journal",
+    "basil 1 f=4 shards=2 reads=5 delta=0 clock=1 keys=batch",
+    "",
+    "faulty replica 7 30",
+    "faulty client 16",
+    "begin a 1 0",
+    "begin t234567890123456 16 18446744073709551615",
+    "read t1 %00",
+    "write t1 a %",
+    "write t1 a%3ab %25%20%ff",
+    "write t1 !~ x1",
+    "delete t1 a",
+    "claim t1 a -",
+    "claim t1 a t2",
+    "prepare t1",
+    "settle t1 1",
+    "recover t1 16",
+    "invoke t1 2",
+    "round",
+    "deliver 0",
+    "lose 18446744073709551615",
+    "divert 1 client 2",
+    "divert 1 replica 0 5",
+    "clock 0 0 0",
+    "vote 7 30 t1 commit 1",
+    "second t1 abort 30",
+    "logged 0 0 t1 commit 5 5 1",
+    "elect 0 0 t1 abort 1",
+    "decide 0 0 t1 commit 18446744073709551615 30",
+    "raw client 1 replica 0 0 00",
+    "raw replica 7 30 client 16 0123456789abcdef",
+    "show ff",
+    "stop 0 0 1 2 4d",
+];
+
+/// Lines that are refused, with their reasons.
+const REFUSED: [(&str, u8); 40] = [
+    ("basil 1 f=7 shards=1 reads=8 delta=0 clock=0 keys=plain", 1),
+    ("basil 1 f=0 shards=9 reads=1 delta=0 clock=0 keys=plain", 1),
+    ("basil 1 f=1 shards=1 reads=6 delta=0 clock=0 keys=plain", 1),
+    (
+        "basil 1 f=01 shards=1 reads=2 delta=0 clock=0 keys=plain",
+        3,
+    ),
+    ("basil 2 f=0 shards=1 reads=1 delta=0 clock=0 keys=plain", 2),
+    ("basil 1 f=0 shards=1 reads=1 delta=0 clock=0 keys=w4h4", 2),
+    (
+        "basil 1 f=0 shards=1 reads=1 delta=0 clock=0 journal keys=plain",
+        2,
+    ),
+    ("Round", 2),
+    ("round ", 2),
+    ("round 1", 2),
+    (" round", 2),
+    ("begin t1 1", 2),
+    ("begin t1 1 2 3", 2),
+    ("begin  t1 1 2", 2),
+    ("begin\tt1 1 2", 2),
+    ("begin T1 1 2", 2),
+    ("begin 1t 1 2", 2),
+    ("begin t2345678901234567 1 2", 2),
+    ("begin t1 +1 2", 2),
+    ("begin t1 01 2", 3),
+    ("begin t1 0 2", 3),
+    ("begin t1 17 2", 3),
+    ("begin t1 1 18446744073709551616", 3),
+    ("begin T1 01 2", 2),
+    ("read t1 %", 2),
+    ("read t1 %61", 2),
+    ("read t1 %3A", 2),
+    ("read t1 a:b", 2),
+    ("read t1 %0", 2),
+    (
+        "write zz 12345678901234567890123456789012345678901234567890123456789012345 v",
+        8,
+    ),
+    (
+        "write zz 12345678901234567890123456789012345678901234567890123456789012345 :",
+        2,
+    ),
+    ("faulty replica 0 31", 3),
+    ("faulty replica 8 0", 3),
+    ("elect 0 0 t1 commit 0", 3),
+    ("logged 0 0 t1 commit 5 4 1", 3),
+    ("logged 0 0 t1 maybe 5 4 1", 2),
+    ("show 0", 2),
+    ("show 0A", 2),
+    ("stop 0 0 1 3 4d", 3),
+    ("stop 0 0 1 2 ", 2),
+];
+
+fn reason_of(fault: LineFault) -> u8 {
+    match fault {
+        LineFault::BadLine { reason, .. } => reason,
+        LineFault::NoMemory => 0,
+    }
+}
+
+#[test]
+fn reads_and_writes(rt: HostRuntime) {
+    for text in TAKEN {
+        let Ok(line) = read_line(rt.alloc(), text.as_bytes(), 1_000_000) else {
+            panic!(rt; "{text}");
+        };
+        let mut out = Vec::new(rt.alloc());
+        assert!(rt; write_line(&line, &mut out).is_ok());
+        assert!(rt; out.pop() == Some(b'\n'));
+        assert!(rt; out.as_slice() == text.as_bytes(), "{text}");
+    }
+}
+
+#[test]
+fn refuses(rt: HostRuntime) {
+    for (text, reason) in REFUSED {
+        match read_line(rt.alloc(), text.as_bytes(), 2) {
+            Ok(_) => panic!(rt; "{text}"),
+            Err(fault) => assert_eq!(rt; reason_of(fault), reason, "{text}"),
+        }
+    }
+}
+
+#[test]
+fn skips_and_counts(rt: HostRuntime) {
+    let skipped = read_line(rt.alloc(), b"#\xff\t anything", 1_000_000);
+    assert!(rt; matches!(&skipped, Ok(Line::Skipped)));
+    for (text, number, reason) in [
+        ("#", 1_000_001, 8),
+        ("", 1_000_001, 8),
+        ("Round", 1_000_001, 2),
+    ] {
+        match read_line(rt.alloc(), text.as_bytes(), number) {
+            Ok(_) => panic!(rt; "{text}"),
+            Err(fault) => assert_eq!(rt; reason_of(fault), reason, "{text}"),
+        }
+    }
+    let Ok(mut long) = vec![in rt.alloc(); b'#'; 2_200_000] else {
+        return;
+    };
+    assert!(rt; matches!(&read_line(rt.alloc(), &long, 1), Ok(Line::Skipped)));
+    assert!(rt; long.push(b'#').is_ok());
+    assert!(rt;
+        matches!(
+            &read_line(rt.alloc(), &long, 1),
+            Err(LineFault::BadLine {
+                number: 1,
+                reason: 8
+            })
+        )
+    );
+}
