@@ -1,0 +1,4 @@
+pub mod Sets
+pub mod Digits
+pub mod Chains
+pub mod Signatures

@@ -1,0 +1,47 @@
+use crate::digits::digit_at;
+use crate::vectors::{CHOSEN_C, STREAM_C};
+use crate::{OtsRefusal, OtsSet, ots_candidate, ots_public, ots_sign};
+use hex::FromHex;
+use std::test::Fail;
+
+/// The example of RFC 8554, section 3.1.3, and its neighbours.
+#[test]
+fn digits_of_a_string(rt: HostRuntime) {
+    let string = [0x12u8, 0x34];
+    assert_eq!(rt; digit_at(OtsSet::W4, &string, 0), 1);
+    assert_eq!(rt; digit_at(OtsSet::W4, &string, 1), 2);
+    assert_eq!(rt; digit_at(OtsSet::W8, &string, 1), 0x34);
+}
+
+#[test]
+fn one_time_signatures_of_another_program(rt: HostRuntime) -> Result<(), Fail> {
+    let seed = <[u8; 32] as FromHex>::from_hex(
+        "000102030405060708090a0b0c0d0e0f101112131415161718191a1b1c1d1e1f",
+    )?;
+    let ident = <[u8; 16] as FromHex>::from_hex("6465666768696a6b6c6d6e6f70717273")?;
+    let c = <[u8; 32] as FromHex>::from_hex(
+        "2fa4f10250808e89a25231e50fdf6ee071c65f21ef9eee784c3f2d89061ae895",
+    )?;
+    let public = ots_public(OtsSet::W8, &ident, 0, &seed);
+    let stream_c = hex::decode(rt.alloc(), STREAM_C)?;
+    let chosen_c = hex::decode(rt.alloc(), CHOSEN_C)?;
+    let mut made = [0u8; 1124];
+    ots_sign(OtsSet::W8, &ident, 0, &seed, &c, b"", &mut made);
+    assert_eq!(rt; made.as_slice(), stream_c.as_slice());
+    for signature in [stream_c.as_slice(), chosen_c.as_slice()] {
+        assert_eq!(rt;
+            ots_candidate(OtsSet::W8, &ident, 0, b"", signature),
+            Ok(public)
+        );
+        assert_eq!(rt;
+            ots_candidate(OtsSet::W4, &ident, 0, b"", signature),
+            Err(OtsRefusal::Length)
+        );
+    }
+    made[3] = 3;
+    assert_eq!(rt;
+        ots_candidate(OtsSet::W8, &ident, 0, b"", &made),
+        Err(OtsRefusal::SetType)
+    );
+    Ok(())
+}

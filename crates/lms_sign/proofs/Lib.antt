@@ -1,0 +1,5 @@
+pub mod TreeLaws
+pub mod PathLaws
+pub mod PartLaws
+pub mod ValidLaws
+pub mod SpendingLaws

@@ -1,0 +1,7 @@
+pub mod Sets
+pub mod Randomizer
+pub mod Tree
+pub mod Filled
+pub mod Signing
+pub mod Verifying
+pub mod Laws
