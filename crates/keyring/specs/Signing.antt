@@ -1,0 +1,10 @@
+-- The fixed part of a signer.
+use Rattle.std.specs.Prelude.{ℕ, List, Bool}
+use Rattle.basil_types.specs.declared.party.Party.{Party}
+
+-- whose it is, the bytes of a signature, what it gives at each place for words, and the relation that holds of that
+pub record Signing : Type 0 where
+  pub party : Party
+  pub size : ℕ
+  pub gives : ℕ → List ℕ → List ℕ
+  pub holds : Party → List ℕ → List ℕ → Bool

@@ -1,0 +1,28 @@
+//! Laws of keyrings and signers, proved from their traits alone.
+
+ghost use Rattle.std.specs.Prelude.{◌≡◌, ◌<◌, ◌↔◌, true, IfOk, IsOk, OnOk, OnErr, length};
+
+use crate::signer::{Exhausted, Signer};
+use crate::verifier::Verifier;
+
+/// A law: what a signer signs is accepted by each keyring that has the signer's relation.
+/// Signs the words into `out`, which has the signer's size, and asks the keyring. Exhausted exactly where no signature
+/// is left, and then nothing changes. Takes no memory.
+pub fn sign_and_ask<V: Verifier, S: Signer>(
+    keys: &V,
+    signer: &mut S,
+    words: &[u8],
+    out: &mut [u8],
+) -> Result<bool, Exhausted>
+    requires size { length out.old ≡ (S.fixed signer.old).size }
+    requires same { (S.fixed signer.old).holds ≡ V.accepted keys.now }
+    ensures accepted { IfOk result (λ answer. answer ≡ true) }
+    ensures signature { OnOk result (out.new ≡ (S.fixed signer.old).gives (S.spent signer.old) words.now) }
+    ensures exhausted { IsOk result ↔ (0 < S.left_of signer.old) }
+    ensures as_before { OnErr result (signer.new ≡ signer.old) }
+    ensures untouched { OnErr result (out.new ≡ out.old) }
+{
+    let party = signer.party();
+    signer.sign_into(words, out)?;
+    Ok(keys.accepts(party, words, out))
+}

@@ -1,0 +1,9 @@
+//! Signatures: what accepts them and what makes them, and the plain keys of a replay.
+#![tactic(auto)]
+
+pub mod laws;
+pub mod plain;
+pub mod signer;
+#[cfg(test)]
+mod tests;
+pub mod verifier;
