@@ -1,0 +1,4 @@
+pub mod Keys
+pub mod Pens
+pub mod Replay
+pub mod Laws
