@@ -1,0 +1,29 @@
+-- Where the keys of a transaction lie.
+use Rattle.std.specs.Prelude.{ℕ, ◌+◌, ◌%◌, List, [], ◌∷◌, Bool, ◌==◌, ◌||◌, map, sum, if◌then◌else◌}
+use Rattle.std.specs.List.{list_any}
+use Rattle.basil_types.specs.Setting.{Setting}
+use Rattle.basil_types.specs.Transaction.{TransactionValue}
+
+-- the sum of a key's bytes, modulo the number of shards
+abbrev pub shard_of : Setting → List ℕ → ℕ
+shard_of c key = sum key % c.shards
+
+-- whether a read or written key is of this shard
+abbrev pub involves : Setting → TransactionValue → ℕ → Bool
+involves c t shard = list_any (λ r. shard_of c r.key == shard) t.reads || list_any (λ w. shard_of c w.key == shard) t.writes
+
+-- a set of shards, as eight marks
+abbrev pub marks_of : Setting → TransactionValue → List Bool
+marks_of c t = map (involves c t) (0 ∷ 1 ∷ 2 ∷ 3 ∷ 4 ∷ 5 ∷ 6 ∷ 7 ∷ [])
+
+-- the marked numbers from this one on, ascending
+abbrev pub members_from : ℕ → List Bool → List ℕ
+members_from shard [] = []
+members_from shard (mark ∷ marks) = if mark then shard ∷ members_from (shard + 1) marks else members_from (shard + 1) marks
+
+abbrev pub members : List Bool → List ℕ
+members marks = members_from 0 marks
+
+-- the shards of a transaction's keys, ascending
+abbrev pub involved : Setting → TransactionValue → List ℕ
+involved c t = members (marks_of c t)
