@@ -1,0 +1,82 @@
+//! What the bytes of a schedule lead to.
+
+ghost use Rattle.std.specs.Prelude.{◌≡◌, ◌+◌, ◌^◌, ◌<◌, length, IfOk};
+ghost use Rattle.basil_cli.specs.Lines.{lines_of};
+ghost use Rattle.basil_cli.specs.Outcome.{replayed};
+ghost use Rattle.basil_cli.specs.Parts.{outcome_is, IsSafeEnd};
+ghost use Rattle.basil_cli.specs.Replay.{ended_of, ended_lines, ended_with, run_lines, first_replay};
+ghost use Rattle.cluster_world.specs.World.{IsSmall};
+
+use crate::header::{Opening, read_opening};
+use crate::input::next_line;
+use crate::replay::{Failure, run_bytes};
+use crate::report::report;
+use basil_types::bytes::Bytes;
+use basil_types::cluster::Cluster;
+use basil_types::memory::NoMemory;
+use cluster_world::world::World;
+use std::alloc::Global;
+
+/// How the input of a command ends.
+#[derive(Debug, Drop)]
+pub(crate) enum Ending {
+    /// The words are no command.
+    Usage,
+    /// The first line that is refused, and why.
+    Refused { line: u64, reason: u8 },
+    /// The report of the run.
+    Reported(Bytes),
+}
+
+/// What the bytes of a schedule lead to; the run that its lines describe is safe.
+pub(crate) fn ending_of(alloc: Global, bytes: &[u8]) -> Result<Ending, NoMemory>
+    ensures outcome { IfOk result (λ e. outcome_is e ≡ replayed (ended_of bytes.now)) }
+    ensures safe { IfOk result (λ _. IsSafeEnd (ended_of bytes.now)) }
+{
+    let mut rest = bytes;
+    let mut number = 1u64;
+    'lines: while !rest.is_empty() {
+        let (line, more) = next_line(rest);
+        match read_opening(alloc, line, number)? {
+            Opening::Skips => {}
+            Opening::Opens { cluster, clock } => {
+                return run_all(alloc, cluster, clock, more, number + 1);
+            }
+            Opening::Fails { reason } => {
+                return Ok(Ending::Refused {
+                    line: number,
+                    reason,
+                });
+            }
+        }
+        rest = more;
+        number += 1;
+    }
+    Ok(Ending::Refused { line: 1, reason: 1 })
+}
+
+/// What the lines behind a header lead to, from this number on.
+fn run_all(
+    alloc: Global,
+    cluster: Cluster,
+    clock: u64,
+    bytes: &[u8],
+    first: u64,
+) -> Result<Ending, NoMemory>
+    requires small { IsSmall cluster }
+    requires numbers { first + length bytes.now < 2 ^ 64 }
+    ensures outcome { IfOk result (λ e. outcome_is e ≡ replayed (ended_with cluster clock (run_lines cluster (lines_of bytes.now) first (first_replay clock)))) }
+    ensures safe { IfOk result (λ _. IsSafeEnd (ended_with cluster clock (run_lines cluster (lines_of bytes.now) first (first_replay clock)))) }
+{
+    let mut world = World::new(alloc, cluster, clock)?;
+    let mut names = Vec::new(alloc);
+    match run_bytes(alloc, &mut world, &mut names, bytes, first) {
+        Ok(()) => {
+            world.is_safe();
+            let text = report(alloc, &world, &names)?;
+            Ok(Ending::Reported(Bytes::from_vec(text)))
+        }
+        Err(Failure::Refused { line, reason }) => Ok(Ending::Refused { line, reason }),
+        Err(Failure::NoMemory) => Err(NoMemory),
+    }
+}

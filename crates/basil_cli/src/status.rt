@@ -1,0 +1,37 @@
+//! What the program ends with.
+
+ghost use Rattle.std.specs.Prelude.{◌≡◌};
+ghost use Rattle.basil_cli.specs.Answers.{status_number};
+
+/// How a command ended.
+#[derive(Clone, Copy, Debug, PartialEq, Eq)]
+pub enum Status {
+    /// 0: the command's output was written.
+    Done,
+    /// 2: the words are no command; `usage` was written.
+    BadWords,
+    /// 3: the first line of the input that is refused, from 1, and why; `line N reason R` was written.
+    BadInput { line: u64, reason: u8 },
+    /// 4: the source failed; `read fault` was written.
+    ReadFault,
+    /// 5: the sink failed; a prefix of a text was written.
+    WriteFault,
+    /// 9: memory is wanting; nothing was written.
+    NoMemory,
+}
+
+impl Status {
+    /// The exit status.
+    pub fn code(&self) -> u8
+        ensures { result ≡ status_number self.now }
+    {
+        match self {
+            Status::Done => 0,
+            Status::BadWords => 2,
+            Status::BadInput { .. } => 3,
+            Status::ReadFault => 4,
+            Status::WriteFault => 5,
+            Status::NoMemory => 9,
+        }
+    }
+}
