@@ -1,0 +1,13 @@
+//! Tests that cross crates: whole schedules, by the top call over memory.
+#![tactic(auto)]
+
+#[cfg(test)]
+mod lines;
+#[cfg(test)]
+mod refused;
+#[cfg(test)]
+mod replayed;
+#[cfg(test)]
+mod sizes;
+#[cfg(test)]
+mod support;

@@ -1,0 +1,26 @@
+//! Schedules whose first refused line, and its reason, are told.
+
+mod forms;
+mod headers;
+mod later;
+mod sizes;
+
+use crate::support::replay;
+use basil_cli::status::Status;
+use basil_types::memory::NoMemory;
+use std::alloc::Global;
+
+/// A schedule, its first refused line, and why it is refused.
+pub(crate) struct Refused {
+    pub schedule: &'static [u8],
+    pub line: u64,
+    pub reason: u8,
+    pub text: &'static [u8],
+}
+
+/// That a replay ends at the line, for its reason, and writes the text and nothing else.
+pub(crate) fn agrees(alloc: Global, case: &Refused) -> Result<bool, NoMemory> {
+    let given = replay(alloc, case.schedule)?;
+    let (line, reason) = (case.line, case.reason);
+    Ok(given.text.as_slice() == case.text && given.status == Status::BadInput { line, reason })
+}
