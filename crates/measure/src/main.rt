@@ -1,0 +1,34 @@
+//! Does a work so many times, and prints a number that comes of it: what `bench/run` times.
+#![tactic(auto)]
+
+mod lines;
+mod signatures;
+mod work;
+
+use std::process::ExitCode;
+use std::{env, io};
+use work::{Work, checksum};
+
+/// The work and the count that the words name.
+fn asked(rt: &HostRuntime) -> Option<(Work, u32)> {
+    let mut words = env::args(rt).ok()?;
+    let _program = words.next()?;
+    let work = Work::named(words.next()?.as_str())?;
+    let count = words.next()?.as_str().parse::<u32>().ok()?;
+    Some((work, count))
+}
+
+fn print(rt: &HostRuntime) -> io::Result<()> {
+    let sum = match asked(rt) {
+        Some((work, count)) => checksum(rt.alloc(), work, count).unwrap_or(0),
+        None => 0,
+    };
+    println!(rt; "{sum}")
+}
+
+fn main(rt: HostRuntime) -> ExitCode {
+    match print(&rt) {
+        Ok(()) => ExitCode::from(0),
+        Err(_) => ExitCode::from(1),
+    }
+}
