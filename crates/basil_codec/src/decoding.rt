@@ -1,0 +1,7 @@
+//! Owned values of checked frames.
+
+mod certificates;
+mod lists;
+mod messages;
+
+pub use messages::decode;

@@ -1,0 +1,10 @@
+//! Every signature of a frame, with its party and its words.
+
+mod all;
+pub(crate) mod item;
+pub(crate) mod runs;
+pub(crate) mod walk;
+
+pub use all::signatures;
+pub use item::SignedItem;
+pub use walk::Signatures;
