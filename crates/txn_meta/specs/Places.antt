@@ -1,5 +1,5 @@
 -- Where the keys of a transaction lie.
-use Rattle.std.specs.Prelude.{ℕ, ◌+◌, ◌%◌, List, [], ◌∷◌, Bool, ◌==◌, ◌||◌, map, sum, if◌then◌else◌}
+use Rattle.std.specs.Prelude.{ℕ, ◌+◌, ◌*◌, ◌%◌, List, [], ◌∷◌, Bool, ◌==◌, ◌||◌, length, map, slice_index, sum, if◌then◌else◌}
 use Rattle.std.specs.List.{list_any}
 use Rattle.basil_types.specs.Setting.{Setting}
 use Rattle.basil_types.specs.Transaction.{TransactionValue}
@@ -27,3 +27,11 @@ members marks = members_from 0 marks
 -- the shards of a transaction's keys, ascending
 abbrev pub involved : Setting → TransactionValue → List ℕ
 involved c t = members (marks_of c t)
+
+-- the shard that logs the decision: of the involved shards, ascending, the one at the place of the time modulo their number
+abbrev pub log_shard : Setting → TransactionValue → ℕ
+log_shard c t = slice_index (involved c t) (t.time % length (involved c t))
+
+-- the replica of the log shard that leads a view of a transaction of this time
+abbrev pub leader_of : Setting → ℕ → ℕ → ℕ
+leader_of c time view = (time + view) % (5 * c.f + 1)

@@ -1,6 +1,6 @@
 //! The shards of keys and of transactions.
 
-ghost use Rattle.std.specs.Prelude.{◌≡◌, ◌<◌, ◌==◌, slice_index_or, slice_get, false};
+ghost use Rattle.std.specs.Prelude.{◌≡◌, ◌<◌, ◌≤◌, ◌==◌, length, slice_index_or, slice_get, false};
 ghost use Rattle.std.specs.List.{list_any};
 ghost use Rattle.basil_types.specs.Shown.{transaction_of};
 ghost use Rattle.txn_meta.specs.Places.{involves, marks_of, members};
@@ -81,6 +81,20 @@ impl Shards {
             }
         }
         None
+    }
+
+    /// How many shards are in the set, at most 8.
+    pub(crate) fn count(&self) -> u8
+        ensures value { result ≡ length (members self.now) }
+        ensures few { result ≤ 8 }
+    {
+        let mut count = 0u8;
+        for mark in self.marks {
+            if mark {
+                count += 1;
+            }
+        }
+        count
     }
 }
 
