@@ -1,6 +1,6 @@
-pub mod FormLaws
-pub mod FieldLaws
-pub mod GrammarLaws
-pub mod CertificateLaws
-pub mod FrameLaws
-pub mod WriteLaws
+pub mod PartLaws
+pub mod JoinLaws
+pub mod WiderLaws
+pub mod LengthLaws
+pub mod RoomWalks
+pub mod RoomLaws

@@ -7,8 +7,8 @@ use Rattle.basil_codec.specs.declared.owned.certificate.CertificateBody.{Certifi
 use Rattle.basil_codec.specs.declared.owned.certificate.CertificateBody.TheVariants as owned
 use Rattle.basil_codec.specs.declared.owned.message.Message.{Message}
 use Rattle.basil_codec.specs.declared.owned.message.Message.TheVariants as message
-use Rattle.basil_codec.specs.Values.{VoteValue, TallyValue, LogValue, ReplyValue, WordValue, CommitBody, FastCommit, Logged, CommitValue, BodyValue, Commits, FastAbort, ConflictAbort, CertificateValue}
-use Rattle.basil_codec.specs.Values.{CommittedValue, MessageValue, Read, ReadReply, St1, Vote, St2, LogReply, Writeback, Recover, Invoke, Elect, Decide}
+use Rattle.frame_views.specs.Values.{VoteValue, TallyValue, LogValue, ReplyValue, WordValue, CommitBody, FastCommit, Logged, CommitValue, BodyValue, Commits, FastAbort, ConflictAbort, CertificateValue}
+use Rattle.frame_views.specs.Values.{CommittedValue, MessageValue, Read, ReadReply, St1, Vote, St2, LogReply, Writeback, Recover, Invoke, Elect, Decide}
 
 abbrev pub vote_value : parts.VotePart.VotePart → VoteValue
 vote_value v = record { replica = v.replica; signature = v.signature }

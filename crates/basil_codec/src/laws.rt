@@ -1,25 +1,34 @@
-//! Laws of frames and certificates.
+//! Laws of messages and certificates that fit.
 
-ghost use Rattle.std.specs.Prelude.{◌≡◌, ◌++◌, [], List, ℕ, IsTrue};
+ghost use Rattle.std.specs.Prelude.{◌≡◌};
 ghost use Rattle.basil_types.specs.Setting.{Setting, IsSetting};
-ghost use Rattle.basil_codec.specs.Fitting.{FitsCertificate, bounds_of};
-ghost use Rattle.basil_codec.specs.Frames.{IsFrame};
-ghost use Rattle.basil_codec.specs.Spelling.{certificate_bytes};
-ghost use Rattle.basil_codec.specs.Stored.{spells_certificate, certificate_in};
-ghost use Rattle.basil_codec.specs.Values.{MessageValue, CertificateValue};
+ghost use Rattle.frame_views.specs.Fitting.{bounds_of, widest, FitsMessage, FitsCertificate};
+ghost use Rattle.frame_views.specs.Shown.{message_of};
+ghost use Rattle.frame_views.specs.Values.{MessageValue, CertificateValue};
+ghost use Rattle.basil_codec.specs.Owned.{message_value};
 
-/// A frame is the spelling of exactly one message.
-pub fn one_message()
-    ensures { (cluster : Setting) (frame : List ℕ) (m n : MessageValue) → IsFrame cluster frame m → IsFrame cluster frame n → m ≡ n }
+use crate::owned::Message;
+use basil_types::cluster::Cluster;
+use frame_views::frames::MessageView;
+
+/// What fits a cluster may be written: it fits all that one byte can number.
+pub fn may_be_written()
+    ensures message { (cluster : Setting) (m : MessageValue) → IsSetting cluster → FitsMessage (bounds_of cluster) m → FitsMessage widest m }
+    ensures certificate { (cluster : Setting) (c : CertificateValue) → IsSetting cluster → FitsCertificate (bounds_of cluster) c → FitsCertificate widest c }
 {}
 
-/// No frame is a proper prefix of another.
-pub fn no_prefix()
-    ensures { (cluster : Setting) (frame rest : List ℕ) (m n : MessageValue) → IsFrame cluster frame m → IsFrame cluster (frame ++ rest) n → rest ≡ [] }
-{}
+/// The message of a checked frame may be written.
+pub fn checked_may_be_written(cluster: &Cluster, m: &MessageView<'_>)
+    requires { FitsMessage (bounds_of cluster.now) (message_of m.now) }
+    ensures { FitsMessage widest (message_of m.now) }
+{
+    let _in_range = cluster.n();
+}
 
-/// The bytes of a certificate that fits a cluster may be kept, and viewed again as that certificate.
-pub fn kept_certificate()
-    ensures spells { (cluster : Setting) (c : CertificateValue) → IsSetting cluster → FitsCertificate (bounds_of cluster) c → IsTrue (spells_certificate (certificate_bytes c)) }
-    ensures same { (cluster : Setting) (c : CertificateValue) → IsSetting cluster → FitsCertificate (bounds_of cluster) c → certificate_in (certificate_bytes c) ≡ c }
-{}
+/// A message for which `fits` is true may be written.
+pub fn fitting_may_be_written(cluster: &Cluster, m: &Message)
+    requires { FitsMessage (bounds_of cluster.now) (message_value m.now) }
+    ensures { FitsMessage widest (message_value m.now) }
+{
+    let _in_range = cluster.n();
+}

@@ -1,16 +1,11 @@
-//! Frames and certificates as bytes: the grammar, views of borrowed bytes, owned values and every signature.
+//! Owned messages and certificates: made of views of frames, and written as frames.
 #![tactic(auto)]
 
-mod bounds;
-pub mod certificates;
 pub mod decoding;
-pub mod fault;
-mod fields;
-pub mod frames;
-pub mod items;
-mod kind;
+pub mod encoding;
+pub mod fitting;
 pub mod laws;
+pub mod lengths;
 pub mod owned;
-pub mod signed;
 #[cfg(test)]
 mod tests;

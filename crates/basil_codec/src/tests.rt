@@ -1,12 +1,29 @@
+ghost use Rattle.std.specs.Prelude.{◌≡◌};
+ghost use Rattle.frame_views.specs.Fitting.{bounds_of, FitsMessage};
+ghost use Rattle.frame_views.specs.Shown.{message_of};
+
 use super::decoding::decode;
-use super::fault::BadFrame;
-use super::frames::check;
-use super::signed::{Signatures, SignedItem, signatures};
+use super::encoding::{BodyParts, CertificateParts, encode_into, put_certificate, put_message};
+use super::fitting::fits;
+use super::laws::{checked_may_be_written, fitting_may_be_written, may_be_written};
+use super::lengths::{below_the_limit, longest_certificates, longest_transaction};
+use super::owned::{Certificate, CertificateBody, Message, ShardVotes, VotePart};
+use basil_types::bytes::{Bytes, id_of};
 use basil_types::cluster::Cluster;
+use basil_types::list::List;
 use basil_types::party::Party;
+use basil_types::transaction::Transaction;
+use frame_views::certificates::{CertBody, CertificateView};
+use frame_views::fault::BadFrame;
+use frame_views::frames::{MessageView, check};
+use frame_views::signed::{Signatures, SignedItem, signatures};
 use std::alloc::Global;
 use std::process::Abort;
 use std::test::Fail;
+
+/// The writeback of a conflict abort.
+const CONFLICT_ABORT: &str =
+    "0701000000000000001402000101610002783204ce0d8c72ad7b6c80b8656c2d8d0e49e261d3394a4a8e0c27e663d5d995b3e0350000002007e07c08abc4a0603fe71f94be9d11e45736da7b2fb8ba8abbb225f6ddd4723301000000000000001e0101016100000000000000000000000000000000000000000000000000000000000000000000000000000000000000019cb39ac9c7cc56642ea9ceeb9862380d3273ca0ea7f07365ef32b2d151ed9c32010006000020d280728d92fcf4263707240560683ead8a22b5a37033bd62c3a87b8af23877ac010020c0f2858aed2558cff97d2a45210973d86440868dce6e17f635adb3f78ae6de43020020b4b8f2a6412a3d6e6ba809d6b62eefc27d5745badc054c367b2bc4ebeaaca80103002014f6ff0f789ac29cb952178d5ed37e961acd7c12e8818f452e79455500802f7a040020f28bd5829193302705c6835a2ad1d0eca6e72b61a25bbdfbfb186a81fb90b63605002051d569c4c2a59f38867df60c191465265f6015c289fb1105c10c280d9a5202e0";
 
 fn replica(shard: u8, index: u8) -> Party {
     Party::Replica { shard, index }
@@ -42,7 +59,59 @@ fn told_in(alloc: Global, all: Signatures<'_>, signed: &[Signed]) -> Result<usiz
     Ok(place)
 }
 
-/// The frame is read, and its signatures are these, in order.
+/// An owned message fits, and its frame is this one.
+fn is_encoded(
+    rt: &impl Abort,
+    alloc: Global,
+    cluster: &Cluster,
+    owned: &Message,
+    frame: &[u8],
+) -> Result<(), Fail> {
+    assert!(rt; fits(owned, cluster));
+    fitting_may_be_written(cluster, owned);
+    let mut out = Vec::new(alloc);
+    encode_into(owned, &mut out)?;
+    assert!(rt; out.as_slice() == frame);
+    Ok(())
+}
+
+/// The frame of borrowed parts is this one.
+fn is_put(
+    rt: &impl Abort,
+    alloc: Global,
+    cluster: &Cluster,
+    message: &MessageView<'_>,
+    frame: &[u8],
+) -> Result<(), Fail>
+    requires { FitsMessage (bounds_of cluster.now) (message_of message.now) }
+{
+    checked_may_be_written(cluster, message);
+    let mut out = Vec::new(alloc);
+    put_message(message, &mut out)?;
+    assert!(rt; out.as_slice() == frame);
+    Ok(())
+}
+
+/// Bytes that end too early are short at each length, and one byte more is trailing.
+fn ends_exactly(
+    rt: &impl Abort,
+    alloc: Global,
+    cluster: &Cluster,
+    frame: &[u8],
+) -> Result<(), Fail> {
+    for len in 0..frame.len() {
+        assert!(rt; matches!(check(&frame[..len], cluster), Err(BadFrame::Short(_))));
+    }
+    let mut longer = frame.to_vec(alloc)?;
+    longer.push(0)?;
+    assert!(rt;
+        matches!(check(&longer, cluster), Err(BadFrame::Trailing(at)) if at == frame.len())
+    );
+    Ok(())
+}
+
+/// The frame is read, its signatures are these, in order, and it is spelled again: as an owned message, and of its
+/// borrowed parts.
 fn told(
     rt: &impl Abort,
     alloc: Global,
@@ -51,10 +120,16 @@ fn told(
     signed: &[Signed],
 ) -> Result<(), Fail> {
     let bytes = hex::decode(alloc, frame)?;
-    let message = check(&bytes, cluster).map_err(|_| "refused")?;
-    assert_eq!(rt; told_in(alloc, signatures(&message), signed)?, signed.len());
-    assert!(rt; decode(alloc, &message).is_ok());
-    Ok(())
+    ends_exactly(rt, alloc, cluster, &bytes)?;
+    match check(&bytes, cluster) {
+        Ok(message) => {
+            assert_eq!(rt; told_in(alloc, signatures(&message), signed)?, signed.len());
+            let owned = decode(alloc, &message)?;
+            is_encoded(rt, alloc, cluster, &owned, &bytes)?;
+            is_put(rt, alloc, cluster, &message, &bytes)
+        }
+        Err(_) => Err(Fail::from("refused")),
+    }
 }
 
 /// The frame is refused, with this fault.
@@ -366,7 +441,7 @@ fn writeback_conflict_abort_is_told(rt: HostRuntime) -> Result<(), Fail> {
         &rt,
         rt.alloc(),
         &cluster,
-        "0701000000000000001402000101610002783204ce0d8c72ad7b6c80b8656c2d8d0e49e261d3394a4a8e0c27e663d5d995b3e0350000002007e07c08abc4a0603fe71f94be9d11e45736da7b2fb8ba8abbb225f6ddd4723301000000000000001e0101016100000000000000000000000000000000000000000000000000000000000000000000000000000000000000019cb39ac9c7cc56642ea9ceeb9862380d3273ca0ea7f07365ef32b2d151ed9c32010006000020d280728d92fcf4263707240560683ead8a22b5a37033bd62c3a87b8af23877ac010020c0f2858aed2558cff97d2a45210973d86440868dce6e17f635adb3f78ae6de43020020b4b8f2a6412a3d6e6ba809d6b62eefc27d5745badc054c367b2bc4ebeaaca80103002014f6ff0f789ac29cb952178d5ed37e961acd7c12e8818f452e79455500802f7a040020f28bd5829193302705c6835a2ad1d0eca6e72b61a25bbdfbfb186a81fb90b63605002051d569c4c2a59f38867df60c191465265f6015c289fb1105c10c280d9a5202e0",
+        CONFLICT_ABORT,
         &[
             (
                 replica(0, 0),
@@ -656,4 +731,124 @@ fn st1_2_is_told(rt: HostRuntime) -> Result<(), Fail> {
             "23bf9e1a5df172dc31de7a4ec172f7626155088c7cc2380553e721649917051a",
         )],
     )
+}
+
+/// A conflict abort of the parts of a view has the bytes of that view.
+fn conflict_abort_again(
+    rt: &impl Abort,
+    alloc: Global,
+    certificate: &CertificateView<'_>,
+) -> Result<(), Fail> {
+    let bytes = certificate.bytes();
+    match certificate.body() {
+        CertBody::ConflictAbort {
+            shard,
+            replica,
+            signature,
+            other,
+            proof,
+        } => {
+            let body = BodyParts::ConflictAbort {
+                shard,
+                replica,
+                signature,
+                other,
+                proof,
+            };
+            let mut out = Vec::new(alloc);
+            put_certificate(
+                &CertificateParts {
+                    id: certificate.id(),
+                    body,
+                },
+                &mut out,
+            )?;
+            assert!(rt; out.as_slice() == bytes);
+            Ok(())
+        }
+        _ => Err(Fail::from("another kind")),
+    }
+}
+
+#[test]
+fn conflict_abort_is_written(rt: HostRuntime) -> Result<(), Fail> {
+    let cluster = Cluster::new(1, 1, 2, 100)?;
+    let bytes = hex::decode(rt.alloc(), CONFLICT_ABORT)?;
+    match check(&bytes, &cluster) {
+        Ok(MessageView::Writeback(m)) => conflict_abort_again(&rt, rt.alloc(), &m.certificate),
+        _ => Err(Fail::from("refused")),
+    }
+}
+
+/// Votes of all replicas of a shard with f = 6, of 2,508 bytes each.
+fn full_votes(alloc: Global) -> Result<List<VotePart>, Fail> {
+    let mut votes = Vec::new(alloc);
+    for replica in 0..31u8 {
+        let signature = Bytes::from_vec(vec![in alloc; replica; 2508]?);
+        votes.push(VotePart { replica, signature })?;
+    }
+    Ok(List::from_vec(votes))
+}
+
+/// The votes of eight shards.
+fn full_tallies(alloc: Global) -> Result<List<ShardVotes>, Fail> {
+    let mut tallies = Vec::new(alloc);
+    for shard in 0..8u8 {
+        let votes = full_votes(alloc)?;
+        tallies.push(ShardVotes { shard, votes })?;
+    }
+    Ok(List::from_vec(tallies))
+}
+
+fn signature_count(frame: &[u8], cluster: &Cluster) -> Result<usize, Fail> {
+    match check(frame, cluster) {
+        Ok(message) => Ok(count(signatures(&message))),
+        Err(_) => Err(Fail::from("refused")),
+    }
+}
+
+fn count(all: Signatures<'_>) -> usize {
+    let mut count = 0usize;
+    for _item in all {
+        count = count.wrapping_add(1);
+    }
+    count
+}
+
+/// The longest commit certificate has 622,778 bytes, and stands behind a kind and a transaction of 12 bytes.
+#[test]
+fn longest_commit_is_written(rt: HostRuntime) -> Result<(), Fail> {
+    may_be_written();
+    below_the_limit();
+    longest_transaction();
+    longest_certificates();
+    let cluster = Cluster::new(6, 8, 7, 100)?;
+    let transaction = Transaction::build(rt.alloc(), 10, 1, &[], &[])?;
+    let id = id_of(transaction.view().bytes());
+    let tallies = full_tallies(rt.alloc())?;
+    let certificate = Certificate {
+        id,
+        body: CertificateBody::FastCommit { tallies },
+    };
+    let message = Message::Writeback {
+        transaction,
+        certificate,
+    };
+    written(&rt, rt.alloc(), &cluster, &message)
+}
+
+/// The writeback of the longest commit certificate is written, and 248 signatures are read in it.
+fn written(
+    rt: &impl Abort,
+    alloc: Global,
+    cluster: &Cluster,
+    message: &Message,
+) -> Result<(), Fail> {
+    assert!(rt; fits(message, cluster));
+    fitting_may_be_written(cluster, message);
+    let mut out = Vec::new(alloc);
+    encode_into(message, &mut out)?;
+    assert_eq!(rt; out.len(), 622_791);
+    assert_eq!(rt; signature_count(&out, cluster)?, 248);
+    Ok(())
 }

@@ -1,21 +1,21 @@
 //! Owned copies of certificates.
 
 ghost use Rattle.std.specs.Prelude.{◌≡◌, IfOk, true, option_map, List, ℕ};
-ghost use Rattle.basil_codec.specs.Items.{logs_of};
-ghost use Rattle.basil_codec.specs.Fitting.{is_commit};
+ghost use Rattle.frame_views.specs.Items.{logs_of};
+ghost use Rattle.frame_views.specs.Fitting.{is_commit};
 ghost use Rattle.basil_codec.specs.Owned.{certificate_value, commit_value, body_value, committed_value};
-ghost use Rattle.basil_codec.specs.Shown.{certificate_of, body_of, committed_of, HoldsCommit};
-ghost use Rattle.basil_codec.specs.Values as values;
-ghost use Rattle.basil_codec.specs.Values.{as_commit};
+ghost use Rattle.frame_views.specs.Shown.{certificate_of, body_of, committed_of, HoldsCommit};
+ghost use Rattle.frame_views.specs.Values as values;
+ghost use Rattle.frame_views.specs.Values.{as_commit};
 
 use super::lists::{own_logs, own_tallies, own_votes};
-use crate::certificates::{CertBody, CertificateView};
-use crate::frames::CommittedView;
-use crate::items::LogsView;
 use crate::owned::{Certificate, CertificateBody, CommittedPart};
 use basil_types::bytes::Bytes;
 use basil_types::memory::NoMemory;
 use basil_types::party::Decision;
+use frame_views::certificates::{CertBody, CertificateView};
+use frame_views::frames::CommittedView;
+use frame_views::items::LogsView;
 use std::alloc::Global;
 
 fn own_logged(

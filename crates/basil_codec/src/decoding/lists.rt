@@ -1,17 +1,17 @@
 //! Owned copies of lists.
 
 ghost use Rattle.std.specs.Prelude.{◌≡◌, IfOk, map};
-ghost use Rattle.basil_codec.specs.Items.{vote_of, votes_of, tally_of, tallies_of, log_of, logs_of, reply_of, replies_of, elect_of, elects_of};
+ghost use Rattle.frame_views.specs.Items.{vote_of, votes_of, tally_of, tallies_of, log_of, logs_of, reply_of, replies_of, elect_of, elects_of};
 ghost use Rattle.basil_codec.specs.Owned.{vote_value, tally_value, log_value, reply_value, word_value};
 
-use crate::items::{
-    ElectItem, ElectsView, InvokeItem, InvokesView, LogItem, LogsView, ShardItem, TalliesView,
-    VoteItem, VotesView,
-};
 use crate::owned::{ElectPart, InvokePart, LogPart, ShardVotes, VotePart};
 use basil_types::bytes::Bytes;
 use basil_types::list::List;
 use basil_types::memory::NoMemory;
+use frame_views::items::{
+    ElectItem, ElectsView, InvokeItem, InvokesView, LogItem, LogsView, ShardItem, TalliesView,
+    VoteItem, VotesView,
+};
 use std::alloc::Global;
 
 fn own_vote(alloc: Global, item: &VoteItem<'_>) -> Result<VotePart, NoMemory>

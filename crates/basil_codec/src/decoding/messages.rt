@@ -3,19 +3,19 @@
 ghost use Rattle.std.specs.Prelude.{◌≡◌, IfOk, option_map};
 ghost use Rattle.basil_types.specs.Shown.{transaction_of};
 ghost use Rattle.basil_codec.specs.Owned.{message_value};
-ghost use Rattle.basil_codec.specs.Shown.{message_of, read_of, read_reply_of, st1_of, voted_of, st2_of, log_reply_of, writeback_of, recover_of, invoke_of, elect_message_of, decide_of};
-ghost use Rattle.basil_codec.specs.Values as values;
+ghost use Rattle.frame_views.specs.Shown.{message_of, read_of, read_reply_of, st1_of, voted_of, st2_of, log_reply_of, writeback_of, recover_of, invoke_of, elect_message_of, decide_of};
+ghost use Rattle.frame_views.specs.Values as values;
 
 use super::certificates::{own_certificate, own_committed};
 use super::lists::{own_replies, own_tallies, own_words};
-use crate::frames::{
-    DecideView, ElectView, InvokeView, LogReplyView, MessageView, ReadReplyView, ReadView,
-    RecoverView, St1View, St2View, VoteView, WritebackView,
-};
 use crate::owned::Message;
 use basil_types::bytes::Bytes;
 use basil_types::memory::NoMemory;
 use basil_types::transaction::{Transaction, TransactionView};
+use frame_views::frames::{
+    DecideView, ElectView, InvokeView, LogReplyView, MessageView, ReadReplyView, ReadView,
+    RecoverView, St1View, St2View, VoteView, WritebackView,
+};
 use std::alloc::Global;
 
 /// The value that the frame spells, owned.

@@ -1,5 +1,5 @@
 use Rattle.std.proofs.Common.{◌≡◌, ◌++◌, map}
-use Rattle.basil_codec.specs.Items.{logs_of, logs_left}
+use Rattle.frame_views.specs.Items.{logs_of, logs_left}
 use Rattle.basil_codec.specs.Owned.{log_value}
 use Rattle.basil_codec.proofs.decoding.lists.own_logs.Given as goal
 

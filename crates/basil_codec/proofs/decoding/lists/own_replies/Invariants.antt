@@ -1,5 +1,5 @@
 use Rattle.std.proofs.Common.{◌≡◌, ◌++◌, map}
-use Rattle.basil_codec.specs.Items.{replies_of, replies_left}
+use Rattle.frame_views.specs.Items.{replies_of, replies_left}
 use Rattle.basil_codec.specs.Owned.{reply_value}
 use Rattle.basil_codec.proofs.decoding.lists.own_replies.Given as goal
 

@@ -1,5 +1,5 @@
 use Rattle.std.proofs.Common.{◌≡◌, ◌++◌, map}
-use Rattle.basil_codec.specs.Items.{tallies_of, tallies_left}
+use Rattle.frame_views.specs.Items.{tallies_of, tallies_left}
 use Rattle.basil_codec.specs.Owned.{tally_value}
 use Rattle.basil_codec.proofs.decoding.lists.own_tallies.Given as goal
 

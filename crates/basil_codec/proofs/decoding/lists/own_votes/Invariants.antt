@@ -1,5 +1,5 @@
 use Rattle.std.proofs.Common.{◌≡◌, ◌++◌, map}
-use Rattle.basil_codec.specs.Items.{votes_of, votes_left}
+use Rattle.frame_views.specs.Items.{votes_of, votes_left}
 use Rattle.basil_codec.specs.Owned.{vote_value}
 use Rattle.basil_codec.proofs.decoding.lists.own_votes.Given as goal
 

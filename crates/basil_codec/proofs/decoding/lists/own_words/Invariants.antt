@@ -1,5 +1,5 @@
 use Rattle.std.proofs.Common.{◌≡◌, ◌++◌, map}
-use Rattle.basil_codec.specs.Items.{elects_of, elects_left}
+use Rattle.frame_views.specs.Items.{elects_of, elects_left}
 use Rattle.basil_codec.specs.Owned.{word_value}
 use Rattle.basil_codec.proofs.decoding.lists.own_words.Given as goal
 

@@ -1,9 +1,0 @@
-use Rattle.std.proofs.Common.{◌≤◌}
-use Rattle.basil_types.specs.Lists.{items_at}
-use Rattle.basil_types.proofs.ListLaws.{GoesOn}
-use Rattle.basil_codec.specs.Fitting.{after_vote, widest}
-use Rattle.basil_codec.specs.Grammar.{vote_at}
-use Rattle.basil_codec.proofs.items.votes.VotesView.at.Given as goal
-
-abbrev pub invariant-loop-i : goal.invariant-loop-i
-invariant-loop-i l = record { reads : GoesOn (vote_at widest) after_vote l.self.count l.i l.floor l.rest (items_at (vote_at widest) after_vote l.self.count 0 l.self.bytes.now); before : l.i ≤ l.place }

@@ -1,7 +1,0 @@
-use Rattle.basil_types.proofs.ListLaws.{whole-count}
-use Rattle.basil_codec.specs.Fitting.{after_vote, widest}
-use Rattle.basil_codec.specs.Grammar.{vote_at}
-use Rattle.basil_codec.proofs.items.votes.VotesView.len.Goals as goal
-
-pub returns : goal.returns
-returns c = whole-count (vote_at widest) after_vote c.args.self.now.count 0 c.args.self.now.bytes.now c.args.self.now.whole

@@ -1,0 +1,13 @@
+pub mod Values
+pub mod Spelling
+pub mod Forms
+pub mod Fitting
+pub mod Grammar
+pub mod Placed
+pub mod Frames
+pub mod Lists
+pub mod Items
+pub mod Stored
+pub mod Shown
+pub mod Signed
+pub mod Walks
