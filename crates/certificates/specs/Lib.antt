@@ -1,0 +1,10 @@
+pub mod Accepted
+pub mod Voters
+pub mod Tallies
+pub mod Deciding
+pub mod Refusals
+pub mod Shown
+pub mod Numbers
+pub mod Marks
+pub mod Quorums
+pub mod Laws
