@@ -1,0 +1,4 @@
+pub mod Votes
+pub mod Classes
+pub mod Tallies
+pub mod Kept
