@@ -1,6 +1,10 @@
 pub mod Lines
 pub mod Replay
 pub mod Report
+pub mod Commands
 pub mod Outcome
+pub mod Signatures
+pub mod Checking
+pub mod Output
 pub mod Answers
 pub mod Parts

@@ -1,14 +1,19 @@
 -- What the parts of the code answer, beside the definitions.
-use Rattle.std.specs.Prelude.{◌≡◌, ℕ, List, [], ◌∷◌, Bool, false, Option, Some, None, Result, Ok, Err, ⊤}
+use Rattle.std.specs.Prelude.{◌≡◌, ◌<◌, ◌≤◌, ℕ, length, List, [], ◌∷◌, Bool, false, Option, Some, None, Result, Ok, Err, ⊤}
 use Rattle.basil_types.specs.Setting.{Setting}
 use Rattle.cluster_world.specs.Run.{EventValue, happens}
 use Rattle.cluster_world.specs.Safe.{IsSafe}
 use Rattle.cluster_world.specs.State.{State}
 use Rattle.cluster_world.specs.World.{WorldValue, IsSmall}
-use Rattle.basil_cli.specs.Outcome.{Outcome, Usage, Refused, Reported}
+use Rattle.frame_views.specs.Shown.{writeback_of}
+use Rattle.frame_views.specs.Values.{WritebackValue}
+use Rattle.frame_views.specs.declared.frames.views.WritebackView.{WritebackView}
+use Rattle.basil_cli.specs.Outcome.{Outcome, BadLine, Written, Refused, TooLong}
 use Rattle.basil_cli.specs.Replay.{ReplayState, Ended, Refusal, First, Skips, Opens, Fails, called}
 use Rattle.basil_cli.specs.declared.header.Opening.{Opening}
 use Rattle.basil_cli.specs.declared.header.Opening.TheVariants as opening
+use Rattle.basil_cli.specs.declared.input.Whole.{Whole}
+use Rattle.basil_cli.specs.declared.input.Whole.TheVariants as whole
 use Rattle.basil_cli.specs.declared.replay.Stop.{Stop}
 use Rattle.basil_cli.specs.declared.replay.Stop.TheVariants as stop
 use Rattle.basil_cli.specs.declared.replay.Failure.{Failure}
@@ -50,9 +55,10 @@ first_is (opening.Opens cluster clock) = Opens cluster clock
 first_is (opening.Fails reason) = Fails reason
 
 abbrev pub outcome_is : Ending → Outcome
-outcome_is ending.Usage = Usage
-outcome_is (ending.Refused line reason) = Refused line reason
-outcome_is (ending.Reported text) = Reported text
+outcome_is (ending.BadLine line reason) = BadLine line reason
+outcome_is (ending.Written text) = Written text
+outcome_is (ending.Refused reason) = Refused reason
+outcome_is ending.TooLong = TooLong
 
 -- the run that a schedule leads to has no transaction with certificates of both kinds
 abbrev pub IsSafeEnd : Result Ended Refusal → Type 0
@@ -64,3 +70,13 @@ abbrev pub IsSmallOpening : Opening → Type 0
 IsSmallOpening opening.Skips = ⊤
 IsSmallOpening (opening.Opens cluster clock) = IsSmall cluster
 IsSmallOpening (opening.Fails reason) = ⊤
+
+-- an input that was read whole has these bytes; one that is too long has more than 16,777,216
+abbrev pub IsWhole : Whole → List ℕ → Type 0
+IsWhole (whole.Bytes all) bytes = (all ≡ bytes) × (length bytes ≤ 16777216)
+IsWhole whole.TooLong bytes = 16777216 < length bytes
+
+-- a writeback that was read, or the reason why the line is refused
+abbrev pub Framed : Result WritebackView ℕ → Result WritebackValue ℕ → Type 0
+Framed (Ok m) should = should ≡ Ok (writeback_of m)
+Framed (Err reason) should = should ≡ Err reason

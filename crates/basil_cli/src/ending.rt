@@ -1,8 +1,8 @@
-//! What the bytes of a schedule lead to.
+//! What a command leads to, and what the bytes of a schedule do.
 
 ghost use Rattle.std.specs.Prelude.{◌≡◌, ◌+◌, ◌^◌, ◌<◌, length, IfOk};
 ghost use Rattle.basil_cli.specs.Lines.{lines_of};
-ghost use Rattle.basil_cli.specs.Outcome.{replayed};
+ghost use Rattle.basil_cli.specs.Output.{replayed};
 ghost use Rattle.basil_cli.specs.Parts.{outcome_is, IsSafeEnd};
 ghost use Rattle.basil_cli.specs.Replay.{ended_of, ended_lines, ended_with, run_lines, first_replay};
 ghost use Rattle.cluster_world.specs.World.{IsSmall};
@@ -17,15 +17,17 @@ use basil_types::memory::NoMemory;
 use cluster_world::world::World;
 use std::alloc::Global;
 
-/// How the input of a command ends.
+/// What a command leads to.
 #[derive(Debug, Drop)]
 pub(crate) enum Ending {
-    /// The words are no command.
-    Usage,
     /// The first line that is refused, and why.
-    Refused { line: u64, reason: u8 },
-    /// The report of the run.
-    Reported(Bytes),
+    BadLine { line: u64, reason: u8 },
+    /// The command's output.
+    Written(Bytes),
+    /// What the command tests is false of its input.
+    Refused { reason: u8 },
+    /// The input has more bytes than are read whole.
+    TooLong,
 }
 
 /// What the bytes of a schedule lead to; the run that its lines describe is safe.
@@ -43,7 +45,7 @@ pub(crate) fn ending_of(alloc: Global, bytes: &[u8]) -> Result<Ending, NoMemory>
                 return run_all(alloc, cluster, clock, more, number + 1);
             }
             Opening::Fails { reason } => {
-                return Ok(Ending::Refused {
+                return Ok(Ending::BadLine {
                     line: number,
                     reason,
                 });
@@ -52,7 +54,7 @@ pub(crate) fn ending_of(alloc: Global, bytes: &[u8]) -> Result<Ending, NoMemory>
         rest = more;
         number += 1;
     }
-    Ok(Ending::Refused { line: 1, reason: 1 })
+    Ok(Ending::BadLine { line: 1, reason: 1 })
 }
 
 /// What the lines behind a header lead to, from this number on.
@@ -74,9 +76,9 @@ fn run_all(
         Ok(()) => {
             world.is_safe();
             let text = report(alloc, &world, &names)?;
-            Ok(Ending::Reported(Bytes::from_vec(text)))
+            Ok(Ending::Written(Bytes::from_vec(text)))
         }
-        Err(Failure::Refused { line, reason }) => Ok(Ending::Refused { line, reason }),
+        Err(Failure::Refused { line, reason }) => Ok(Ending::BadLine { line, reason }),
         Err(Failure::NoMemory) => Err(NoMemory),
     }
 }

@@ -1,11 +1,17 @@
 //! The bytes of the source, and their lines.
 
-ghost use Rattle.std.specs.Prelude.{◌≡◌, ◌≤◌, ◌<◌, ◌∷◌, [], IfOk, IfSome, IsErrOf, length, position, ◌==◌};
+ghost use Rattle.std.specs.Prelude.{◌≡◌, ◌≤◌, ◌<◌, ◌∷◌, [], IfOk, IfSome, MatchOption, IsErrOf, length, position, ◌==◌};
 ghost use Rattle.basil_types.specs.Causes.{Rose};
 ghost use Rattle.basil_cli.specs.Lines.{lines_of};
+ghost use Rattle.basil_cli.specs.Parts.{IsWhole};
 
-use basil_types::source::Source;
+use basil_types::bytes::Bytes;
+use basil_types::memory::NoMemory;
+use basil_types::source::{Failed, Source};
 use std::alloc::Global;
+
+/// The most bytes of an input that is read whole.
+const LONGEST_INPUT: usize = 16_777_216;
 
 /// Why a source was not read to its end.
 #[derive(Clone, Copy, Debug, PartialEq, Eq)]
@@ -14,6 +20,17 @@ pub(crate) enum InputFail {
     Failed,
     /// Memory is wanting.
     NoMemory,
+}
+
+impl From<NoMemory> for InputFail {
+    ghost use Rattle.std.specs.Prelude.{◌≡◌};
+    ghost use Rattle.basil_cli.specs.declared.input.InputFail.TheVariants.{NoMemory};
+
+    ghost from_gives = { λ _ e. e ≡ NoMemory };
+
+    fn from(_refused: NoMemory) -> InputFail {
+        InputFail::NoMemory
+    }
 }
 
 /// Reads a source to its end.
@@ -33,6 +50,40 @@ pub(crate) fn read_all<S: Source>(alloc: Global, source: &mut S) -> Result<Vec<u
                 }
             }
             Err(_) => return Err(InputFail::Failed),
+        }
+    }
+    Err(InputFail::NoMemory)
+}
+
+/// An input that is read whole.
+#[derive(Debug, Drop)]
+pub(crate) enum Whole {
+    /// All its bytes.
+    Bytes(Bytes),
+    /// It has more than 16,777,216.
+    TooLong,
+}
+
+/// Reads a source to its end, unless it gives more than 16,777,216 bytes.
+pub(crate) fn read_whole<S: Source>(alloc: Global, source: &mut S) -> Result<Whole, InputFail>
+    ensures bytes { IfOk result (λ whole. IfSome (S.left source.old) (λ bytes. IsWhole whole bytes)) }
+    ensures failed { IsErrOf result InputFail.Failed → Rose (S.faults source.old) (S.faults source.new) }
+    ensures later { S.faults source.old ≤ S.faults source.new }
+{
+    let mut all = Vec::new(alloc);
+    let mut buf = [0u8; 4096];
+    'turns: for _ in 0..u64::MAX {
+        match source.read(&mut buf) {
+            Ok(0) => return Ok(Whole::Bytes(Bytes::from_vec(all))),
+            Ok(count) => {
+                if all.extend_from_slice(&buf[..count]).is_err() {
+                    return Err(InputFail::NoMemory);
+                }
+            }
+            Err(Failed) => return Err(InputFail::Failed),
+        }
+        if all.len() > LONGEST_INPUT {
+            return Ok(Whole::TooLong);
         }
     }
     Err(InputFail::NoMemory)
@@ -59,5 +110,16 @@ pub(crate) fn next_line(bytes: &[u8]) -> (&[u8], &[u8])
             (line, rest)
         }
         None => (bytes, &[]),
+    }
+}
+
+/// The first line, and what follows its newline, where there is a line.
+pub(crate) fn first_line(bytes: &[u8]) -> Option<(&[u8], &[u8])>
+    ensures { MatchOption result (lines_of bytes.now ≡ []) (λ t. lines_of bytes.now ≡ t.0.now ∷ lines_of t.1.now) }
+{
+    if bytes.is_empty() {
+        None
+    } else {
+        Some(next_line(bytes))
     }
 }

@@ -1,10 +1,13 @@
 //! The program without its edge: words in, bytes out.
 #![tactic(auto)]
 
+mod check;
+mod command;
 mod ending;
 mod header;
 mod input;
 mod replay;
 mod report;
 pub mod run;
+mod signatures;
 pub mod status;

@@ -1,15 +1,21 @@
 //! The top call: all that the program does.
 
-ghost use Rattle.std.specs.Prelude.{◌≡◌, ◌⊎◌, false, IfSome, IfOk, map, string_bytes, List, ℕ};
-ghost use Rattle.basil_types.specs.Causes.{Rose, TookAll, TookPrefix};
-ghost use Rattle.basil_cli.specs.Answers.{Answers, IsDoneOrWanting};
-ghost use Rattle.basil_cli.specs.Outcome;
-ghost use Rattle.basil_cli.specs.Outcome.{outcome_of, text_of, Refused, Reported};
+ghost use Rattle.std.specs.Prelude.{◌≡◌, ◌⊎◌, false, Some, None, [], IfSome, IfOk, map, string_bytes};
+ghost use Rattle.std.specs.Result.{IsErrOf};
+ghost use Rattle.basil_types.specs.Causes.{Rose};
+ghost use Rattle.basil_cli.specs.Answers.{Answers, IsTold, status_of};
+ghost use Rattle.basil_cli.specs.Commands as commands;
+ghost use Rattle.basil_cli.specs.Commands.{command_of, words_read, reads, HasLeaf};
+ghost use Rattle.basil_cli.specs.Outcome.{text_of, Usage, BadLine, Refused};
+ghost use Rattle.basil_cli.specs.Output.{outcome_of, output_of};
 ghost use Rattle.basil_cli.specs.Parts.{outcome_is, IsSafeEnd};
 ghost use Rattle.basil_cli.specs.Replay.{ended_of};
 
+use crate::check::check;
+use crate::command::{Command, read_command};
 use crate::ending::{Ending, ending_of};
-use crate::input::{InputFail, read_all};
+use crate::input::{InputFail, Whole, read_all, read_whole};
+use crate::signatures::{keys, sign, verify};
 use crate::status::Status;
 use basil_types::clock::Clock;
 use basil_types::links::Links;
@@ -18,21 +24,19 @@ use basil_types::sink::Sink;
 use basil_types::source::Source;
 use std::alloc::Global;
 
-/// Whether the words are `replay` alone.
-fn is_replay(words: &[String]) -> bool
-    ensures { result ≡ Outcome.is_replay (map string_bytes words.now) }
-{
-    match words {
-        [word] => word.as_str() == "replay",
-        _ => false,
-    }
-}
-
 /// `line N reason R`
-fn refusal_text(alloc: Global, line: u64, reason: u8) -> Result<Vec<u8>, NoMemory>
-    ensures { IfOk result (λ text. text.items ≡ text_of (Refused line reason)) }
+fn bad_line_text(alloc: Global, line: u64, reason: u8) -> Result<Vec<u8>, NoMemory>
+    ensures { IfOk result (λ text. text.items ≡ text_of (BadLine line reason)) }
 {
     let text = format!(in alloc; "line {line} reason {reason}\n")?;
+    Ok(Vec::from_slice(alloc, text.as_bytes())?)
+}
+
+/// `refused R`
+fn refused_text(alloc: Global, reason: u8) -> Result<Vec<u8>, NoMemory>
+    ensures { IfOk result (λ text. text.items ≡ text_of (Refused reason)) }
+{
+    let text = format!(in alloc; "refused {reason}\n")?;
     Ok(Vec::from_slice(alloc, text.as_bytes())?)
 }
 
@@ -41,15 +45,33 @@ fn text_of_ending(alloc: Global, ending: &Ending) -> Result<Vec<u8>, NoMemory>
     ensures { IfOk result (λ text. text.items ≡ text_of (outcome_is ending.now)) }
 {
     match ending {
-        Ending::Usage => Ok(Vec::from_slice(alloc, b"usage\n")?),
-        Ending::Refused { line, reason } => refusal_text(alloc, *line, *reason),
-        Ending::Reported(text) => Ok(Vec::from_slice(alloc, text.as_slice())?),
+        Ending::BadLine { line, reason } => bad_line_text(alloc, *line, *reason),
+        Ending::Written(text) => Ok(Vec::from_slice(alloc, text.as_slice())?),
+        Ending::Refused { reason } => refused_text(alloc, *reason),
+        Ending::TooLong => Ok(Vec::from_slice(alloc, b"too long 16777216\n")?),
+    }
+}
+
+/// The status of an ending.
+fn status_of_ending(ending: &Ending) -> Status
+    ensures { result ≡ status_of (outcome_is ending.now) }
+{
+    match ending {
+        Ending::BadLine { line, reason } => Status::BadInput {
+            line: *line,
+            reason: *reason,
+        },
+        Ending::Written(_) => Status::Done,
+        Ending::Refused { reason } => Status::Refused { reason: *reason },
+        Ending::TooLong => Status::TooLong,
     }
 }
 
 /// Writes the text of an ending, and tells its status.
 fn write_ending<K: Sink>(alloc: Global, ending: &Ending, sink: &mut K) -> Status
     ensures answers { Answers result (outcome_is ending.now) (K.taken sink.old) (K.taken sink.new) }
+    ensures told { (Rose (K.faults sink.old) (K.faults sink.new) → ⊥) → IsTold result (outcome_is ending.now) }
+    ensures words { result ≡ Status.BadWords → ⊥ }
     ensures cause { result ≡ Status.WriteFault → Rose (K.faults sink.old) (K.faults sink.new) }
     ensures no_read { result ≡ Status.ReadFault → ⊥ }
 {
@@ -57,21 +79,108 @@ fn write_ending<K: Sink>(alloc: Global, ending: &Ending, sink: &mut K) -> Status
         return Status::NoMemory;
     };
     match sink.write(&text) {
-        Ok(()) => match ending {
-            Ending::Usage => Status::BadWords,
-            Ending::Refused { line, reason } => Status::BadInput {
-                line: *line,
-                reason: *reason,
-            },
-            Ending::Reported(_) => Status::Done,
-        },
+        Ok(()) => status_of_ending(ending),
         Err(_) => Status::WriteFault,
+    }
+}
+
+/// Writes that the words are no command.
+fn write_usage<K: Sink>(sink: &mut K) -> Status
+    ensures answers { Answers result Usage (K.taken sink.old) (K.taken sink.new) }
+    ensures told { (Rose (K.faults sink.old) (K.faults sink.new) → ⊥) → result ≡ Status.BadWords }
+    ensures cause { result ≡ Status.WriteFault → Rose (K.faults sink.old) (K.faults sink.new) }
+    ensures either { (result ≡ Status.BadWords) ⊎ (result ≡ Status.WriteFault) }
+{
+    match sink.write(b"usage\n") {
+        Ok(()) => Status::BadWords,
+        Err(_) => Status::WriteFault,
+    }
+}
+
+/// What a schedule leads to; the run that its lines describe is safe.
+fn replay<S: Source>(alloc: Global, source: &mut S) -> Result<Ending, InputFail>
+    ensures outcome { IfOk result (λ e. IfSome (S.left source.old) (λ bytes. outcome_is e ≡ output_of Command.Replay bytes)) }
+    ensures safe { IfOk result (λ _. IfSome (S.left source.old) (λ bytes. IsSafeEnd (ended_of bytes))) }
+    ensures failed { IsErrOf result InputFail.Failed → Rose (S.faults source.old) (S.faults source.new) }
+{
+    let bytes = read_all(alloc, source)?;
+    match ending_of(alloc, &bytes) {
+        Ok(ending) => Ok(ending),
+        Err(NoMemory) => Err(InputFail::NoMemory),
+    }
+}
+
+/// What the command leads to.
+fn ending_for<S: Source>(
+    alloc: Global,
+    command: &Command,
+    source: &mut S,
+) -> Result<Ending, InputFail>
+    requires { HasLeaf command.now }
+    ensures outcome { IfOk result (λ e. IfSome (S.left source.old) (λ bytes. outcome_is e ≡ output_of command.now bytes)) }
+    ensures alone { reads command.now ≡ false → IfOk result (λ e. outcome_is e ≡ output_of command.now []) }
+    ensures unread { reads command.now ≡ false → source.new ≡ source.old }
+    ensures safe { command.now ≡ Command.Replay → IfOk result (λ _. IfSome (S.left source.old) (λ bytes. IsSafeEnd (ended_of bytes))) }
+    ensures failed { IsErrOf result InputFail.Failed → Rose (S.faults source.old) (S.faults source.new) }
+{
+    match command {
+        Command::Replay => replay(alloc, source),
+        Command::Keys { material } => Ok(keys(alloc, material)?),
+        Command::Sign { material, leaf } => match read_whole(alloc, source)? {
+            Whole::Bytes(message) => Ok(sign(alloc, material, *leaf, message.as_slice())?),
+            Whole::TooLong => Ok(Ending::TooLong),
+        },
+        Command::Verify { public, signature } => match read_whole(alloc, source)? {
+            Whole::Bytes(message) => Ok(verify(
+                alloc,
+                public.as_slice(),
+                signature.as_slice(),
+                message.as_slice(),
+            )?),
+            Whole::TooLong => Ok(Ending::TooLong),
+        },
+        Command::Check => match read_whole(alloc, source)? {
+            Whole::Bytes(bytes) => Ok(check(alloc, bytes.as_slice())?),
+            Whole::TooLong => Ok(Ending::TooLong),
+        },
+    }
+}
+
+/// Does what the command asks, and writes what comes of it.
+fn run_command<S: Source, K: Sink>(
+    alloc: Global,
+    command: &Command,
+    source: &mut S,
+    sink: &mut K,
+) -> Status
+    requires { HasLeaf command.now }
+    ensures answers { IfSome (S.left source.old) (λ bytes. Answers result (output_of command.now bytes) (K.taken sink.old) (K.taken sink.new)) }
+    ensures alone { reads command.now ≡ false → Answers result (output_of command.now []) (K.taken sink.old) (K.taken sink.new) }
+    ensures unread { reads command.now ≡ false → source.new ≡ source.old }
+    ensures complete { (Rose (S.faults source.old) (S.faults source.new) → ⊥) → (Rose (K.faults sink.old) (K.faults sink.new) → ⊥) → IfSome (S.left source.old) (λ bytes. IsTold result (output_of command.now bytes)) }
+    ensures safe { IfSome (S.left source.old) (λ bytes. command.now ≡ Command.Replay → result ≡ Status.Done → IsSafeEnd (ended_of bytes)) }
+    ensures words { result ≡ Status.BadWords → ⊥ }
+    ensures read { result ≡ Status.ReadFault → Rose (S.faults source.old) (S.faults source.new) }
+    ensures write { result ≡ Status.WriteFault → Rose (K.faults sink.old) (K.faults sink.new) }
+{
+    match ending_for(alloc, command, source) {
+        Ok(ending) => write_ending(alloc, &ending, sink),
+        Err(InputFail::Failed) => match sink.write(b"read fault\n") {
+            Ok(()) => Status::ReadFault,
+            Err(_) => Status::WriteFault,
+        },
+        Err(InputFail::NoMemory) => Status::NoMemory,
     }
 }
 
 /// All that the program does, with the words behind its own name. Every text goes to the sink.
 ///
-/// `replay` reads a schedule from the source and writes the report of the run that its lines describe.
+/// - `replay` reads a schedule from the source and writes the report of the run that its lines describe.
+/// - `keys SET SEED IDENT` writes the LMS public key (RFC 8554) of that parameter set, SEED and identifier, in hex.
+/// - `sign SET SEED IDENT Q` reads a message and writes its signature with leaf Q of that key, in hex.
+/// - `verify PUBLIC SIGNATURE` reads a message and writes `accepted` where the signature is valid, else `refused R`.
+/// - `check` reads a header and a writeback's frame in hex and writes `commit` or `abort` where the certificate proves it, else
+///   `refused R`.
 pub fn run<S: Source, K: Sink, L: Links, C: Clock>(
     alloc: Global,
     words: &[String],
@@ -83,28 +192,23 @@ pub fn run<S: Source, K: Sink, L: Links, C: Clock>(
     // Where the source tells its bytes, the status and what was written are those of the words and the bytes.
     ensures answers { IfSome (S.left source.old) (λ bytes. Answers result (outcome_of (map string_bytes words.now) bytes) (K.taken sink.old) (K.taken sink.new)) }
     // Where a report was written, no transaction of the run has both a commit and an abort certificate.
-    ensures safe { IfSome (S.left source.old) (λ bytes. result ≡ Status.Done → IsSafeEnd (ended_of bytes)) }
-    // A valid schedule, where no count rose, gives the whole report or want of memory.
-    ensures complete { IfSome (S.left source.old) (λ bytes. (text : List ℕ) → outcome_of (map string_bytes words.now) bytes ≡ Reported text → (Rose (S.faults source.old) (S.faults source.new) → ⊥) → (Rose (K.faults sink.old) (K.faults sink.new) → ⊥) → IsDoneOrWanting result) }
+    ensures safe { IfSome (S.left source.old) (λ bytes. command_of (map string_bytes words.now) ≡ Some Command.Replay → result ≡ Status.Done → IsSafeEnd (ended_of bytes)) }
+    // Where no count rose, the status is that of the words and the bytes, or memory is wanting: a valid schedule gives
+    // its whole report, and every other command its output or its refusal.
+    ensures complete { (Rose (S.faults source.old) (S.faults source.new) → ⊥) → (Rose (K.faults sink.old) (K.faults sink.new) → ⊥) → IfSome (S.left source.old) (λ bytes. IsTold result (outcome_of (map string_bytes words.now) bytes)) }
+    // Words that aren't a command with an input decide alone, and nothing is read.
+    ensures alone { words_read (command_of (map string_bytes words.now)) ≡ false → Answers result (outcome_of (map string_bytes words.now) []) (K.taken sink.old) (K.taken sink.new) }
+    ensures unread { words_read (command_of (map string_bytes words.now)) ≡ false → source.new ≡ source.old }
     // The words alone decide on this answer.
-    ensures words { result ≡ Status.BadWords → Outcome.is_replay (map string_bytes words.now) ≡ false }
-    ensures other_words { Outcome.is_replay (map string_bytes words.now) ≡ false → (result ≡ Status.BadWords) ⊎ ((result ≡ Status.WriteFault) ⊎ (result ≡ Status.NoMemory)) }
+    ensures words { result ≡ Status.BadWords → command_of (map string_bytes words.now) ≡ None }
+    ensures other_words { command_of (map string_bytes words.now) ≡ None → (result ≡ Status.BadWords) ⊎ ((result ≡ Status.WriteFault) ⊎ (result ≡ Status.NoMemory)) }
     // A fault has its cause.
     ensures read { result ≡ Status.ReadFault → Rose (S.faults source.old) (S.faults source.new) }
     ensures write { result ≡ Status.WriteFault → Rose (K.faults sink.old) (K.faults sink.new) }
 {
-    if !is_replay(words) {
-        return write_ending(alloc, &Ending::Usage, sink);
-    }
-    match read_all(alloc, source) {
-        Ok(bytes) => match ending_of(alloc, &bytes) {
-            Ok(ending) => write_ending(alloc, &ending, sink),
-            Err(NoMemory) => Status::NoMemory,
-        },
-        Err(InputFail::Failed) => match sink.write(b"read fault\n") {
-            Ok(()) => Status::ReadFault,
-            Err(_) => Status::WriteFault,
-        },
-        Err(InputFail::NoMemory) => Status::NoMemory,
+    match read_command(alloc, words) {
+        Ok(Some(command)) => run_command(alloc, &command, source, sink),
+        Ok(None) => write_usage(sink),
+        Err(NoMemory) => Status::NoMemory,
     }
 }

@@ -16,8 +16,12 @@ pub enum Status {
     ReadFault,
     /// 5: the sink failed; a prefix of a text was written.
     WriteFault,
+    /// 8: what the command tests is false of its input, and why; `refused R` was written.
+    Refused { reason: u8 },
     /// 9: memory is wanting; nothing was written.
     NoMemory,
+    /// 12: an input that is read whole has more than 16,777,216 bytes; `too long 16777216` was written.
+    TooLong,
 }
 
 impl Status {
@@ -31,7 +35,9 @@ impl Status {
             Status::BadInput { .. } => 3,
             Status::ReadFault => 4,
             Status::WriteFault => 5,
+            Status::Refused { .. } => 8,
             Status::NoMemory => 9,
+            Status::TooLong => 12,
         }
     }
 }

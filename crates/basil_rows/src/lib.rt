@@ -2,11 +2,15 @@
 #![tactic(auto)]
 
 #[cfg(test)]
+mod checked;
+#[cfg(test)]
 mod lines;
 #[cfg(test)]
 mod refused;
 #[cfg(test)]
 mod replayed;
+#[cfg(test)]
+mod signatures;
 #[cfg(test)]
 mod sizes;
 #[cfg(test)]

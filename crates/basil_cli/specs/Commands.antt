@@ -1,0 +1,116 @@
+-- The commands, as words spell them.
+use Rattle.std.specs.Prelude.{ℕ, ◌<◌, ◌==◌, nat_lt, List, [], ◌∷◌, length, Bool, true, false, codes, Option, Some, None, option_map, Result, Ok, Err, ⊤, if◌then◌else◌}
+use Rattle.std.specs.Str.{bytes_eq}
+use Rattle.lms_sign.specs.Sets.{leaves_of}
+use Rattle.lms_sign.specs.declared.sets.LmsSet.{LmsSet}
+use Rattle.lms_sign.specs.declared.sets.LmsSet.TheVariants.{W4H5, W4H10, W8H5, W8H10}
+use Rattle.schedule_text.specs.Fields.{hex, number}
+use Rattle.schedule_text.specs.Words.{Word}
+use Rattle.schedule_text.specs.declared.complaint.Complaint.{Complaint}
+use Rattle.basil_cli.specs.declared.command.Command.{Command}
+use Rattle.basil_cli.specs.declared.command.Command.TheVariants.{Replay, Keys, Sign, Verify, Check}
+use Rattle.basil_cli.specs.declared.command.KeyMaterial.{KeyMaterial}
+
+-- what a word says, whatever is wrong with another
+abbrev pub said : {A : Type 0} → Result A Complaint → Option A
+said (Ok a) = Some a
+said (Err c) = None
+
+abbrev pub set_of : Word → Option LmsSet
+set_of word =
+    if bytes_eq word (codes "w4h5") then Some W4H5
+    else if bytes_eq word (codes "w4h10") then Some W4H10
+    else if bytes_eq word (codes "w8h5") then Some W8H5
+    else if bytes_eq word (codes "w8h10") then Some W8H10
+    else None
+
+abbrev pub exactly : ℕ → Option (List ℕ) → Option (List ℕ)
+exactly count None = None
+exactly count (Some bytes) = if length bytes == count then Some bytes else None
+
+-- so many bytes in lower-case hex
+abbrev pub hex_of : ℕ → Word → Option (List ℕ)
+hex_of count word = exactly count (said (hex word))
+
+-- SET SEED IDENT: a set, 32 bytes and 16 bytes
+abbrev pub material_with : Option LmsSet → Option (List ℕ) → Option (List ℕ) → Option KeyMaterial
+material_with None seed ident = None
+material_with (Some set) None ident = None
+material_with (Some set) (Some seed) None = None
+material_with (Some set) (Some seed) (Some ident) = Some (record { set = set; seed = seed; ident = ident })
+
+abbrev pub material_of : Word → Word → Word → Option KeyMaterial
+material_of set seed ident = material_with (set_of set) (hex_of 32 seed) (hex_of 16 ident)
+
+abbrev pub below : ℕ → Option ℕ → Option ℕ
+below bound None = None
+below bound (Some n) = if nat_lt n bound then Some n else None
+
+-- Q: the number of a leaf of the set's tree
+abbrev pub leaf_of : LmsSet → Word → Option ℕ
+leaf_of set word = below (leaves_of set) (said (number word))
+
+abbrev pub sign_by : Option KeyMaterial → Word → Option Command
+sign_by None leaf = None
+sign_by (Some m) leaf = option_map (Sign m) (leaf_of m.set leaf)
+
+abbrev pub verify_with : Option (List ℕ) → Option (List ℕ) → Option Command
+verify_with None signature = None
+verify_with (Some public) None = None
+verify_with (Some public) (Some signature) = Some (Verify public signature)
+
+-- `replay`
+abbrev pub replay_of : List Word → Option Command
+replay_of [] = Some Replay
+replay_of (word ∷ words) = None
+
+-- `keys SET SEED IDENT`
+abbrev pub keys_of : List Word → Option Command
+keys_of (set ∷ seed ∷ ident ∷ []) = option_map Keys (material_of set seed ident)
+keys_of _ = None
+
+-- `sign SET SEED IDENT Q`
+abbrev pub sign_of : List Word → Option Command
+sign_of (set ∷ seed ∷ ident ∷ leaf ∷ []) = sign_by (material_of set seed ident) leaf
+sign_of _ = None
+
+-- `verify PUBLIC SIGNATURE`: both in hex
+abbrev pub verify_of : List Word → Option Command
+verify_of (public ∷ signature ∷ []) = verify_with (said (hex public)) (said (hex signature))
+verify_of _ = None
+
+-- `check`
+abbrev pub check_of : List Word → Option Command
+check_of [] = Some Check
+check_of (word ∷ words) = None
+
+abbrev pub command_of : List Word → Option Command
+command_of [] = None
+command_of (name ∷ words) =
+    if bytes_eq name (codes "replay") then replay_of words
+    else if bytes_eq name (codes "keys") then keys_of words
+    else if bytes_eq name (codes "sign") then sign_of words
+    else if bytes_eq name (codes "verify") then verify_of words
+    else if bytes_eq name (codes "check") then check_of words
+    else None
+
+-- whether a command has an input
+abbrev pub reads : Command → Bool
+reads Replay = true
+reads (Keys m) = false
+reads (Sign m leaf) = true
+reads (Verify public signature) = true
+reads Check = true
+
+-- whether words are a command that has an input
+abbrev pub words_read : Option Command → Bool
+words_read None = false
+words_read (Some command) = reads command
+
+-- a command that signs names a leaf of its tree
+abbrev pub HasLeaf : Command → Type 0
+HasLeaf Replay = ⊤
+HasLeaf (Keys m) = ⊤
+HasLeaf (Sign m leaf) = leaf < leaves_of m.set
+HasLeaf (Verify public signature) = ⊤
+HasLeaf Check = ⊤

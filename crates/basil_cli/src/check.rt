@@ -1,0 +1,205 @@
+//! Whether a writeback's certificate proves its decision.
+
+ghost use Rattle.std.specs.Prelude.{◌≡◌, IfOk, None, Ok, length};
+ghost use Rattle.basil_types.specs.Shown.{transaction_of};
+ghost use Rattle.frame_views.specs.Fitting.{FitsCertificate, FitsWriteback, bounds_of};
+ghost use Rattle.frame_views.specs.Shown.{certificate_of, writeback_of};
+ghost use Rattle.txn_meta.specs.Form.{form_fault};
+ghost use Rattle.basil_cli.specs.Checking as checking;
+ghost use Rattle.basil_cli.specs.Checking.{accepted_by, decision_text, proved_by, judged, judged_alone, framed, writeback_on, checked_under, headed, checked};
+ghost use Rattle.basil_cli.specs.Lines.{lines_of};
+ghost use Rattle.basil_cli.specs.Outcome.{Written};
+ghost use Rattle.basil_cli.specs.Parts.{outcome_is, Framed};
+
+use crate::ending::Ending;
+use crate::input::first_line;
+use basil_types::bytes::Bytes;
+use basil_types::cluster::Cluster;
+use basil_types::memory::NoMemory;
+use basil_types::party::Decision;
+use basil_types::transaction::TransactionView;
+use certificates::{check_abort, check_commit};
+use frame_views::certificates::CertificateView;
+use frame_views::frames::{MessageView, WritebackView};
+use keyring::plain::PlainKeys;
+use keyring::verifier::Verifier;
+use keyring_lms::LmsKeys;
+use lms_sign::LmsSet;
+use schedule_text::fields::frames::read_hex;
+use schedule_text::line::{KeysKind, Line, LineFault};
+use schedule_text::reading::read_line;
+use std::alloc::Global;
+use txn_meta::form::check_form;
+
+/// The keys of a replay.
+#[derive(Clone, Copy, Debug)]
+pub(crate) enum Ring {
+    /// Plain ones.
+    Plain,
+    /// Those of LMS, with this parameter set.
+    Lms { set: LmsSet },
+}
+
+/// The keys that a header asks for; none where they aren't built yet.
+fn ring_of(keys: KeysKind) -> Option<Ring>
+    ensures { result ≡ checking.ring_of keys }
+{
+    match keys {
+        KeysKind::Plain => Some(Ring::Plain),
+        KeysKind::W4H5 => Some(Ring::Lms { set: LmsSet::W4H5 }),
+        KeysKind::W4H10 => Some(Ring::Lms { set: LmsSet::W4H10 }),
+        KeysKind::W8H5 => Some(Ring::Lms { set: LmsSet::W8H5 }),
+        KeysKind::W8H10 => Some(Ring::Lms { set: LmsSet::W8H10 }),
+        KeysKind::Batch => None,
+    }
+}
+
+/// `commit` or `abort`
+fn proved_text(alloc: Global, decision: Decision) -> Result<Ending, NoMemory>
+    ensures { IfOk result (λ e. outcome_is e ≡ Written (decision_text decision)) }
+{
+    match decision {
+        Decision::Commit => Ok(Ending::Written(Bytes::copy_of(alloc, b"commit\n")?)),
+        Decision::Abort => Ok(Ending::Written(Bytes::copy_of(alloc, b"abort\n")?)),
+    }
+}
+
+/// Whether a certificate proves the decision that it is for, by these keys.
+#[tactic(auto, unfolding(crate::specs::Checking::proved_by))]
+fn judge_by<V: Verifier>(
+    alloc: Global,
+    keys: &V,
+    cluster: &Cluster,
+    t: TransactionView<'_>,
+    c: &CertificateView<'_>,
+) -> Result<Ending, NoMemory>
+    requires form { form_fault (transaction_of t) ≡ None }
+    requires fits { FitsCertificate (bounds_of cluster.now) (certificate_of c.now) }
+    ensures { IfOk result (λ e. outcome_is e ≡ proved_by (V.accepted keys.now) cluster.now (transaction_of t.entry) (certificate_of c.now)) }
+{
+    let decision = certificates::decision_of(&c.body());
+    let answer = match decision {
+        Decision::Commit => check_commit(keys, cluster, t, c),
+        Decision::Abort => check_abort(keys, cluster, t, c),
+    };
+    match answer {
+        Ok(()) => proved_text(alloc, decision),
+        Err(refusal) => Ok(Ending::Refused {
+            reason: refusal.number(),
+        }),
+    }
+}
+
+/// The same by the keys of a replay.
+fn judge_with(
+    alloc: Global,
+    ring: Ring,
+    cluster: &Cluster,
+    t: TransactionView<'_>,
+    c: &CertificateView<'_>,
+) -> Result<Ending, NoMemory>
+    requires form { form_fault (transaction_of t) ≡ None }
+    requires fits { FitsCertificate (bounds_of cluster.now) (certificate_of c.now) }
+    ensures { IfOk result (λ e. outcome_is e ≡ proved_by (accepted_by cluster.now ring) cluster.now (transaction_of t.entry) (certificate_of c.now)) }
+{
+    match ring {
+        Ring::Plain => judge_by(alloc, &PlainKeys::new(cluster), cluster, t, c),
+        Ring::Lms { set } => judge_by(alloc, &LmsKeys::replay(alloc, cluster, set)?, cluster, t, c),
+    }
+}
+
+/// The same after the form of the transaction.
+#[tactic(auto, unfolding(crate::specs::Checking::judged))]
+fn judge(
+    alloc: Global,
+    ring: Ring,
+    cluster: &Cluster,
+    m: &WritebackView<'_>,
+) -> Result<Ending, NoMemory>
+    requires { FitsWriteback (bounds_of cluster.now) (writeback_of m.now) }
+    ensures { IfOk result (λ e. outcome_is e ≡ judged (accepted_by cluster.now ring) cluster.now (writeback_of m.now)) }
+{
+    match check_form(m.transaction) {
+        Ok(()) => judge_with(alloc, ring, cluster, m.transaction, &m.certificate),
+        Err(_) => Ok(Ending::Refused { reason: 7 }),
+    }
+}
+
+/// The writeback that a frame says, or the reason why the line is refused.
+#[tactic(auto, unfolding(crate::specs::Checking::framed))]
+fn read_writeback<'a>(bytes: &'a [u8], cluster: &Cluster) -> Result<WritebackView<'a>, u8>
+    ensures value { Framed result (framed cluster.now bytes.now) }
+    ensures fits { IfOk result (λ m. FitsWriteback (bounds_of cluster.now) (writeback_of m)) }
+{
+    match frame_views::frames::check(bytes, cluster) {
+        Ok(MessageView::Writeback(m)) => Ok(m),
+        Ok(_) => Err(2),
+        Err(_) => Err(8),
+    }
+}
+
+/// What the second line and those behind it lead to.
+fn check_lines(
+    alloc: Global,
+    ring: Ring,
+    cluster: &Cluster,
+    line: &[u8],
+    more: &[u8],
+) -> Result<Ending, NoMemory>
+    ensures { IfOk result (λ e. outcome_is e ≡ judged_alone ring cluster.now (writeback_on cluster.now line.now) (lines_of more.now)) }
+{
+    let Ok(bytes) = read_hex(alloc, line)? else {
+        return Ok(Ending::BadLine { line: 2, reason: 8 });
+    };
+    match read_writeback(bytes.as_slice(), cluster) {
+        Ok(m) => {
+            if first_line(more).is_some() {
+                return Ok(Ending::BadLine { line: 3, reason: 2 });
+            }
+            judge(alloc, ring, cluster, &m)
+        }
+        Err(reason) => Ok(Ending::BadLine { line: 2, reason }),
+    }
+}
+
+/// What the lines behind a header lead to.
+fn check_under(
+    alloc: Global,
+    cluster: &Cluster,
+    keys: KeysKind,
+    bytes: &[u8],
+) -> Result<Ending, NoMemory>
+    ensures { IfOk result (λ e. outcome_is e ≡ checked_under cluster.now (checking.ring_of keys) (lines_of bytes.now)) }
+{
+    let Some(ring) = ring_of(keys) else {
+        return Ok(Ending::BadLine { line: 1, reason: 1 });
+    };
+    let Some((line, more)) = first_line(bytes) else {
+        return Ok(Ending::BadLine { line: 2, reason: 8 });
+    };
+    check_lines(alloc, ring, cluster, line, more)
+}
+
+/// What a first line and those behind it lead to.
+fn check_headed(alloc: Global, line: &Line, more: &[u8]) -> Result<Ending, NoMemory>
+    ensures { IfOk result (λ e. outcome_is e ≡ headed (Ok line.now) (lines_of more.now)) }
+{
+    match line {
+        Line::Header { cluster, keys, .. } => check_under(alloc, cluster, *keys, more),
+        _ => Ok(Ending::BadLine { line: 1, reason: 1 }),
+    }
+}
+
+/// What the bytes of an input to `check` lead to.
+pub(crate) fn check(alloc: Global, bytes: &[u8]) -> Result<Ending, NoMemory>
+    ensures { IfOk result (λ e. outcome_is e ≡ checked bytes.now) }
+{
+    let Some((first, more)) = first_line(bytes) else {
+        return Ok(Ending::BadLine { line: 1, reason: 1 });
+    };
+    match read_line(alloc, first, 1) {
+        Ok(line) => check_headed(alloc, &line, more),
+        Err(LineFault::BadLine { .. }) => Ok(Ending::BadLine { line: 1, reason: 1 }),
+        Err(LineFault::NoMemory) => Err(NoMemory),
+    }
+}

@@ -1,0 +1,217 @@
+//! The commands, read from words.
+
+ghost use Rattle.std.specs.Prelude.{◌≡◌, ◌<◌, ◌≤◌, IfOk, IfSome, map, string_bytes};
+ghost use Rattle.schedule_text.specs.Fields.{hex};
+ghost use Rattle.lms_sign.specs.Sets.{leaves_of};
+ghost use Rattle.basil_cli.specs.Commands as commands;
+ghost use Rattle.basil_cli.specs.Commands.{said, hex_of, material_of, leaf_of, command_of, replay_of, keys_of, sign_of, verify_of, check_of, HasLeaf};
+
+use basil_types::bytes::Bytes;
+use basil_types::memory::NoMemory;
+use lms_sign::LmsSet;
+use schedule_text::fields::frames;
+use schedule_text::fields::numbers::read_number;
+use std::alloc::Global;
+
+/// What an LMS key is made of: a parameter set, and the SEED and the identifier I of RFC 8554.
+#[derive(Clone, Copy, Debug)]
+pub(crate) struct KeyMaterial {
+    pub set: LmsSet,
+    pub seed: [u8; 32],
+    pub ident: [u8; 16],
+}
+
+/// What the program is asked to do.
+#[derive(Debug, Drop)]
+pub(crate) enum Command {
+    /// The report of a schedule.
+    Replay,
+    /// The public key of a key.
+    Keys { material: KeyMaterial },
+    /// The signature of the input with a leaf, from 0.
+    Sign { material: KeyMaterial, leaf: u32 },
+    /// Whether a signature of the input is valid under a public key.
+    Verify { public: Bytes, signature: Bytes },
+    /// Whether the certificate of a writeback proves its decision.
+    Check,
+}
+
+/// The parameter set that a word names.
+fn read_set(word: &str) -> Option<LmsSet>
+    ensures { result ≡ commands.set_of word.now }
+{
+    match word {
+        "w4h5" => Some(LmsSet::W4H5),
+        "w4h10" => Some(LmsSet::W4H10),
+        "w8h5" => Some(LmsSet::W8H5),
+        "w8h10" => Some(LmsSet::W8H10),
+        _ => None,
+    }
+}
+
+/// The bytes that a word spells in lower-case hex: one at least.
+fn read_hex(alloc: Global, word: &str) -> Result<Option<Bytes>, NoMemory>
+    ensures { IfOk result (λ bytes. bytes ≡ said (hex word.now)) }
+{
+    match frames::read_hex(alloc, word.as_bytes())? {
+        Ok(bytes) => Ok(Some(bytes)),
+        Err(_) => Ok(None),
+    }
+}
+
+/// Thirty-two bytes in hex.
+fn read_seed(alloc: Global, word: &str) -> Result<Option<[u8; 32]>, NoMemory>
+    ensures { IfOk result (λ seed. seed ≡ hex_of 32 word.now) }
+{
+    let Some(bytes) = read_hex(alloc, word)? else {
+        return Ok(None);
+    };
+    if bytes.as_slice().len() != 32 {
+        return Ok(None);
+    }
+    let mut seed = [0u8; 32];
+    seed.copy_from_slice(bytes.as_slice());
+    Ok(Some(seed))
+}
+
+/// Sixteen bytes in hex.
+fn read_ident(alloc: Global, word: &str) -> Result<Option<[u8; 16]>, NoMemory>
+    ensures { IfOk result (λ ident. ident ≡ hex_of 16 word.now) }
+{
+    let Some(bytes) = read_hex(alloc, word)? else {
+        return Ok(None);
+    };
+    if bytes.as_slice().len() != 16 {
+        return Ok(None);
+    }
+    let mut ident = [0u8; 16];
+    ident.copy_from_slice(bytes.as_slice());
+    Ok(Some(ident))
+}
+
+/// `SET SEED IDENT`
+fn read_material(
+    alloc: Global,
+    set: &str,
+    seed: &str,
+    ident: &str,
+) -> Result<Option<KeyMaterial>, NoMemory>
+    ensures { IfOk result (λ material. material ≡ material_of set.now seed.now ident.now) }
+{
+    let Some(set) = read_set(set) else {
+        return Ok(None);
+    };
+    let Some(seed) = read_seed(alloc, seed)? else {
+        return Ok(None);
+    };
+    let Some(ident) = read_ident(alloc, ident)? else {
+        return Ok(None);
+    };
+    Ok(Some(KeyMaterial { set, seed, ident }))
+}
+
+/// The number of leaves of a set's tree.
+fn leaves(set: LmsSet) -> u64
+    ensures value { result ≡ leaves_of set }
+    ensures few { result ≤ 1024 }
+{
+    match set {
+        LmsSet::W4H5 | LmsSet::W8H5 => 32,
+        LmsSet::W4H10 | LmsSet::W8H10 => 1024,
+    }
+}
+
+/// The number of a leaf of a set's tree.
+fn read_leaf(set: LmsSet, word: &str) -> Option<u32>
+    ensures value { result ≡ leaf_of set word.now }
+    ensures below { IfSome result (λ leaf. leaf < leaves_of set) }
+{
+    match read_number(word.as_bytes()) {
+        Ok(leaf) if leaf < leaves(set) => Some(leaf as u32),
+        _ => None,
+    }
+}
+
+/// `replay`
+fn read_replay(words: &[String]) -> Option<Command>
+    ensures { result ≡ replay_of (map string_bytes words.now) }
+{
+    match words {
+        [] => Some(Command::Replay),
+        _ => None,
+    }
+}
+
+/// `keys SET SEED IDENT`
+fn read_keys(alloc: Global, words: &[String]) -> Result<Option<Command>, NoMemory>
+    ensures { IfOk result (λ command. command ≡ keys_of (map string_bytes words.now)) }
+{
+    let [set, seed, ident] = words else {
+        return Ok(None);
+    };
+    match read_material(alloc, set.as_str(), seed.as_str(), ident.as_str())? {
+        Some(material) => Ok(Some(Command::Keys { material })),
+        None => Ok(None),
+    }
+}
+
+/// `sign SET SEED IDENT Q`
+fn read_sign(alloc: Global, words: &[String]) -> Result<Option<Command>, NoMemory>
+    ensures value { IfOk result (λ command. command ≡ sign_of (map string_bytes words.now)) }
+    ensures leaf { IfOk result (λ command. IfSome command HasLeaf) }
+{
+    let [set, seed, ident, leaf] = words else {
+        return Ok(None);
+    };
+    let Some(material) = read_material(alloc, set.as_str(), seed.as_str(), ident.as_str())? else {
+        return Ok(None);
+    };
+    match read_leaf(material.set, leaf.as_str()) {
+        Some(leaf) => Ok(Some(Command::Sign { material, leaf })),
+        None => Ok(None),
+    }
+}
+
+/// `verify PUBLIC SIGNATURE`
+fn read_verify(alloc: Global, words: &[String]) -> Result<Option<Command>, NoMemory>
+    ensures { IfOk result (λ command. command ≡ verify_of (map string_bytes words.now)) }
+{
+    let [public, signature] = words else {
+        return Ok(None);
+    };
+    let Some(public) = read_hex(alloc, public.as_str())? else {
+        return Ok(None);
+    };
+    let Some(signature) = read_hex(alloc, signature.as_str())? else {
+        return Ok(None);
+    };
+    Ok(Some(Command::Verify { public, signature }))
+}
+
+/// `check`
+fn read_check(words: &[String]) -> Option<Command>
+    ensures { result ≡ check_of (map string_bytes words.now) }
+{
+    match words {
+        [] => Some(Command::Check),
+        _ => None,
+    }
+}
+
+/// The command that the words spell; none where they are no command.
+pub(crate) fn read_command(alloc: Global, words: &[String]) -> Result<Option<Command>, NoMemory>
+    ensures value { IfOk result (λ command. command ≡ command_of (map string_bytes words.now)) }
+    ensures leaf { IfOk result (λ command. IfSome command HasLeaf) }
+{
+    let [name, words @ ..] = words else {
+        return Ok(None);
+    };
+    match name.as_str() {
+        "replay" => Ok(read_replay(words)),
+        "keys" => read_keys(alloc, words),
+        "sign" => read_sign(alloc, words),
+        "verify" => read_verify(alloc, words),
+        "check" => Ok(read_check(words)),
+        _ => Ok(None),
+    }
+}
