@@ -1,7 +1,10 @@
 //! Does a work so many times, and prints a number that comes of it: what `bench/run` times.
 #![tactic(auto)]
 
+mod decisions;
+mod frames;
 mod lines;
+mod made;
 mod signatures;
 mod work;
 

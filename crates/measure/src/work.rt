@@ -1,6 +1,9 @@
 //! The works, by name.
 
+use crate::decisions::{Proving, make_rings, prove};
+use crate::frames::{Reading, Size, read_often};
 use crate::lines::{long_line, short_lines};
+use crate::made::Votes;
 use crate::signatures::{make_keys, sign, verify_often};
 use basil_types::memory::NoMemory;
 use lms_sign::LmsSet;
@@ -19,6 +22,12 @@ pub enum Work {
     Sign(LmsSet),
     /// Makes a key and a signature, and verifies it so many times.
     Verify(LmsSet),
+    /// Makes a frame, and reads it so many times.
+    Read(Reading, Size),
+    /// Makes a certificate of 21 replicas of so many shards, and proves it so many times.
+    Prove(Proving, Votes, u8),
+    /// Makes the keys of a replay of the largest cluster so many times.
+    Rings(LmsSet),
 }
 
 /// The works, and their names.
@@ -37,6 +46,42 @@ const WORKS: &[(&str, Work)] = &[
     ("verify-w4h10", Work::Verify(LmsSet::W4H10)),
     ("verify-w8h5", Work::Verify(LmsSet::W8H5)),
     ("verify-w8h10", Work::Verify(LmsSet::W8H10)),
+    ("check-small", Work::Read(Reading::Check, Size::Small)),
+    ("check-half", Work::Read(Reading::Check, Size::Half)),
+    ("check-whole", Work::Read(Reading::Check, Size::Whole)),
+    (
+        "signatures-small",
+        Work::Read(Reading::Signatures, Size::Small),
+    ),
+    (
+        "signatures-half",
+        Work::Read(Reading::Signatures, Size::Half),
+    ),
+    (
+        "signatures-whole",
+        Work::Read(Reading::Signatures, Size::Whole),
+    ),
+    ("walk-small", Work::Read(Reading::Walk, Size::Small)),
+    ("walk-half", Work::Read(Reading::Walk, Size::Half)),
+    ("walk-whole", Work::Read(Reading::Walk, Size::Whole)),
+    (
+        "prove-plain-half",
+        Work::Prove(Proving::Certificate, Votes::Plain, 4),
+    ),
+    (
+        "prove-plain",
+        Work::Prove(Proving::Certificate, Votes::Plain, 8),
+    ),
+    (
+        "prove-w4h5",
+        Work::Prove(Proving::Certificate, Votes::Lms(LmsSet::W4H5), 8),
+    ),
+    (
+        "accept-w4h5",
+        Work::Prove(Proving::Signatures, Votes::Lms(LmsSet::W4H5), 8),
+    ),
+    ("rings-w4h5", Work::Rings(LmsSet::W4H5)),
+    ("rings-w8h5", Work::Rings(LmsSet::W8H5)),
 ];
 
 impl Work {
@@ -59,5 +104,8 @@ pub fn checksum(alloc: Global, work: Work, count: u32) -> Result<u64, NoMemory> 
         Work::Keys(set) => make_keys(alloc, set, count),
         Work::Sign(set) => sign(alloc, set, count),
         Work::Verify(set) => verify_often(alloc, set, count),
+        Work::Read(reading, size) => read_often(alloc, reading, size, count),
+        Work::Prove(proving, votes, shards) => prove(alloc, proving, votes, shards, count),
+        Work::Rings(set) => make_rings(alloc, set, count),
     }
 }
