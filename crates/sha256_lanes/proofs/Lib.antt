@@ -1,0 +1,3 @@
+mod ChoiceLaws
+mod LaneLaws
+mod BlockLaws
