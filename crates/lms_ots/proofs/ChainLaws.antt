@@ -1,9 +1,12 @@
 -- Facts about chains and the strings that they make.
-use Rattle.std.proofs.Common.{◌≡◌, ℕ, zero, suc, ◌+◌, ◌-◌, ◌*◌, ◌≤◌, ◌<◌, List, ◌++◌, length, take, drop, refl, subst, add-one, arith, inl, inr}
+use Rattle.std.proofs.Common.{◌≡◌, ℕ, zero, suc, ◌+◌, ◌-◌, ◌*◌, ◌≤◌, ◌<◌, List, [], ◌∷◌, ◌++◌, length, take, drop, refl, ap, subst, add-one, arith, inl, inr}
 use Rattle.std.proofs.lemmas.List.{length-append, drop_at, take_all, take-append-le, drop-append-le, length-drop}
 use Rattle.std.proofs.lemmas.Bool.{cases_lt}
 use Rattle.sha2.proofs.Facts256.{length-sha256}
-use Rattle.lms_ots.specs.Chains.{Leaf, start_of, step_of, steps, chain, joined}
+use Rattle.sha2.specs.Sha256.{sha256}
+use Rattle.lms_ots.specs.declared.sets.OtsSet.{OtsSet}
+use Rattle.lms_ots.specs.Sets.{chains_of}
+use Rattle.lms_ots.specs.Chains.{Leaf, head, start_of, step_of, steps, chain, joined, key_of_ends}
 
 pub joined_more : (y : ℕ → List ℕ) (n : ℕ) → joined y (n + 1) ≡ joined y n ++ y n
 unfolding joined
@@ -16,6 +19,11 @@ joined-same y z zero h = refl
 joined-same y z (suc n) h =
     let first : joined y n ≡ joined z n = joined-same y z n (λ i lt. h i (omega arith)) in
     rw (first, h n (omega arith)) refl
+
+-- the same ends make the same key
+pub key-same : (set : OtsSet) (leaf : Leaf) (y z : ℕ → List ℕ) → ((i : ℕ) → i < chains_of set → y i ≡ z i) → key_of_ends set leaf y ≡ key_of_ends set leaf z
+unfolding key_of_ends
+key-same set leaf y z h = ap (λ (t : List ℕ). sha256 (head leaf ++ 0x80 ∷ 0x80 ∷ [] ++ t)) (joined-same y z (chains_of set) h)
 
 pub length-joined : (y : ℕ → List ℕ) → ((i : ℕ) → length (y i) ≡ 32) → (n : ℕ) → length (joined y n) ≡ 32 * n
 unfolding joined
@@ -48,7 +56,7 @@ unfolding steps step_of
 length-steps leaf i from zero x h = h
 length-steps leaf i from (suc n) x h = length-sha256 _
 
-steps-then : (leaf : Leaf) (i from m n : ℕ) (x : List ℕ) → steps leaf i from (m + n) x ≡ steps leaf i (from + m) n (steps leaf i from m x)
+pub steps-then : (leaf : Leaf) (i from m n : ℕ) (x : List ℕ) → steps leaf i from (m + n) x ≡ steps leaf i (from + m) n (steps leaf i from m x)
 unfolding steps
 steps-then leaf i from m zero x = let e : m + 0 ≡ m = omega arith in rw e refl
 steps-then leaf i from m (suc n) x =

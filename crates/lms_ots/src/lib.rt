@@ -2,16 +2,21 @@
 //!
 //! A leaf of a tree is named by the tree's identifier I and its number q. Its key is made from a secret
 //! SEED, signs one message and is then spent. A signature leads to the public key of the leaf that made it.
+//! The chains of a leaf go side by side, eight at a time, each in a lane of the vector registers.
 #![tactic(auto)]
 
 mod chains;
 mod digits;
+mod lanes;
 mod sets;
 mod signatures;
+mod tables;
 
 pub use sets::OtsSet;
 pub use signatures::{OtsRefusal, ots_candidate, ots_public, ots_sign};
 
+#[cfg(test)]
+mod plain;
 #[cfg(test)]
 mod tests;
 #[cfg(test)]

@@ -2,11 +2,13 @@
 ghost use Rattle.std.specs.Prelude.{◌≡◌, ◌≢◌, ◌≤◌, ◌+◌, ◌*◌, ◌++◌, ◌↔◌, length, take, IfOk, IsOk};
 ghost use Rattle.lms_ots.specs.Sets.{signature_length, type_of};
 ghost use Rattle.lms_ots.specs.Chains.{leaf_of, public_of, key_of_ends};
+ghost use Rattle.lms_ots.specs.Lanes.{end_in};
 ghost use Rattle.lms_ots.specs.Signatures.{message_digest, signature_of, type_in, part_in, end_from, candidate_of};
 
-use crate::chains::{run_chain, start};
-use crate::digits::{digit_at, with_checksum};
+use crate::digits::with_checksum;
+use crate::lanes::run_all;
 use crate::sets::OtsSet;
+use crate::tables::{candidate_lanes, key_lanes, signing_lanes};
 use sha2::{Digest, Sha256};
 
 /// Why bytes are no one-time signature of a set.
@@ -22,15 +24,8 @@ pub enum OtsRefusal {
 pub fn ots_public(set: OtsSet, ident: &[u8; 16], q: u32, seed: &[u8; 32]) -> [u8; 32]
     ensures { result ≡ public_of set (leaf_of ident.now q) seed.now }
 {
-    let mut hasher = Sha256::new();
-    hasher.update(ident);
-    hasher.update(q.to_be_bytes());
-    hasher.update([0x80, 0x80]);
-    for i in 0..set.chains() {
-        let y = run_chain(ident, q, i, 0, set.last(), start(ident, q, seed, i));
-        hasher.update(y);
-    }
-    hasher.finalize()
+    let lanes = key_lanes(set, ident, q, seed);
+    key_of_chains(set, ident, q, &run_all(ident, q, &lanes))
 }
 
 /// Writes the signature of a message by leaf `q` under the randomizer `c` into `out`, of
@@ -49,12 +44,12 @@ pub fn ots_sign(
     ensures leads_to_the_key { candidate_of set (leaf_of ident.now q) message.now out.new ≡ public_of set (leaf_of ident.now q) seed.now }
 {
     let string = with_checksum(set, &digest_of(ident, q, c, message));
+    let lanes = signing_lanes(set, ident, q, seed, &string);
+    let ends = run_all(ident, q, &lanes);
     put(out, 0, &set.type_number().to_be_bytes());
     put(out, 4, c);
     for i in 0..set.chains() {
-        let a = digit_at(set, &string, i);
-        let y = run_chain(ident, q, i, 0, a, start(ident, q, seed, i));
-        put(out, 36 + 32 * i as usize, &y);
+        put(out, 36 + 32 * i as usize, &ends[i as usize]);
     }
 }
 
@@ -86,7 +81,7 @@ pub fn ots_candidate(
 
 /// The digest Q of a message under a randomizer.
 #[tactic(auto, unfolding(crate::specs::Signatures::message_digest))]
-fn digest_of(ident: &[u8; 16], q: u32, c: &[u8], message: &[u8]) -> [u8; 32]
+pub(crate) fn digest_of(ident: &[u8; 16], q: u32, c: &[u8], message: &[u8]) -> [u8; 32]
     ensures { result ≡ message_digest (leaf_of ident.now q) c.now message.now }
 {
     let mut hasher = Sha256::new();
@@ -95,6 +90,20 @@ fn digest_of(ident: &[u8; 16], q: u32, c: &[u8], message: &[u8]) -> [u8; 32]
     hasher.update([0x81, 0x81]);
     hasher.update(c);
     hasher.update(message);
+    hasher.finalize()
+}
+
+/// K of the ends of the chains.
+fn key_of_chains(set: OtsSet, ident: &[u8; 16], q: u32, ends: &[[u8; 32]; 72]) -> [u8; 32]
+    ensures { result ≡ key_of_ends set (leaf_of ident.now q) (end_in ends.now) }
+{
+    let mut hasher = Sha256::new();
+    hasher.update(ident);
+    hasher.update(q.to_be_bytes());
+    hasher.update([0x80, 0x80]);
+    for i in 0..set.chains() {
+        hasher.update(ends[i as usize]);
+    }
     hasher.finalize()
 }
 
@@ -109,20 +118,12 @@ fn key_of_parts(
     requires { length signature.now ≡ signature_length set }
     ensures { result ≡ key_of_ends set (leaf_of ident.now q) (end_from set (leaf_of ident.now q) string.now signature.now) }
 {
-    let mut hasher = Sha256::new();
-    hasher.update(ident);
-    hasher.update(q.to_be_bytes());
-    hasher.update([0x80, 0x80]);
-    for i in 0..set.chains() {
-        let a = digit_at(set, string, i);
-        let y = run_chain(ident, q, i, a, set.last(), part_of(signature, i));
-        hasher.update(y);
-    }
-    hasher.finalize()
+    let lanes = candidate_lanes(set, string, signature);
+    key_of_chains(set, ident, q, &run_all(ident, q, &lanes))
 }
 
 /// The part of a signature for chain `i`.
-fn part_of(signature: &[u8], i: u16) -> [u8; 32]
+pub(crate) fn part_of(signature: &[u8], i: u16) -> [u8; 32]
     requires { 36 + 32 * i + 32 ≤ length signature.now }
     ensures { result ≡ part_in signature.now i }
 {

@@ -1,6 +1,6 @@
 use crate::digits::digit_at;
 use crate::vectors::{CHOSEN_C, STREAM_C};
-use crate::{OtsRefusal, OtsSet, ots_candidate, ots_public, ots_sign};
+use crate::{OtsRefusal, OtsSet, ots_candidate, ots_public, ots_sign, plain};
 use hex::FromHex;
 use std::test::Fail;
 
@@ -44,4 +44,60 @@ fn one_time_signatures_of_another_program(rt: HostRuntime) -> Result<(), Fail> {
         Err(OtsRefusal::SetType)
     );
     Ok(())
+}
+
+#[test]
+fn lanes_and_one_chain_at_a_time_w4(rt: HostRuntime) {
+    let ident = [0x42u8; 16];
+    let seed = [0x17u8; 32];
+    let mut made = [0u8; 2180];
+    ots_sign(
+        OtsSet::W4,
+        &ident,
+        3,
+        &seed,
+        &[0xc3; 32],
+        b"lanes",
+        &mut made,
+    );
+    assert_eq!(rt;
+        plain::has_parts(OtsSet::W4, &ident, 3, &seed, b"lanes", &made),
+        true
+    );
+    assert_eq!(rt;
+        ots_public(OtsSet::W4, &ident, 3, &seed),
+        plain::public(OtsSet::W4, &ident, 3, &seed)
+    );
+    assert_eq!(rt;
+        ots_candidate(OtsSet::W4, &ident, 3, b"another", &made),
+        Ok(plain::candidate(OtsSet::W4, &ident, 3, b"another", &made))
+    );
+}
+
+#[test]
+fn lanes_and_one_chain_at_a_time_w8(rt: HostRuntime) {
+    let ident = [0x24u8; 16];
+    let seed = [0x71u8; 32];
+    let mut made = [0u8; 1124];
+    ots_sign(
+        OtsSet::W8,
+        &ident,
+        5,
+        &seed,
+        &[0x3c; 32],
+        b"lanes",
+        &mut made,
+    );
+    assert_eq!(rt;
+        plain::has_parts(OtsSet::W8, &ident, 5, &seed, b"lanes", &made),
+        true
+    );
+    assert_eq!(rt;
+        ots_public(OtsSet::W8, &ident, 5, &seed),
+        plain::public(OtsSet::W8, &ident, 5, &seed)
+    );
+    assert_eq!(rt;
+        ots_candidate(OtsSet::W8, &ident, 5, b"another", &made),
+        Ok(plain::candidate(OtsSet::W8, &ident, 5, b"another", &made))
+    );
 }

@@ -1,31 +1,15 @@
-use Rattle.std.proofs.Common.{◌≡◌, ℕ, List, ◌++◌, ◌∷◌, [], ap, sym, subst, ◌∙◌, append_assoc, arith, rules}
-use Rattle.std.proofs.lemmas.List.{append-nil}
-use Rattle.sha2.specs.Hashers.{Holds256}
-use Rattle.sha2.specs.Sha256.{sha256}
-use Rattle.lms_ots.specs.Sets.{chains_of}
-use Rattle.lms_ots.specs.Chains.{head, leaf_of, joined, key_of_ends}
+use Rattle.std.proofs.Common.{◌∙◌}
+use Rattle.lms_ots.specs.Chains.{leaf_of}
 use Rattle.lms_ots.specs.Signatures.{end_from}
-use Rattle.lms_ots.proofs.ChainLaws.{joined_more}
+use Rattle.lms_ots.specs.Lanes.{end_in}
+use Rattle.lms_ots.proofs.ChainLaws.{key-same}
+use Rattle.lms_ots.proofs.LaneLaws.{chains-low}
 use Rattle.lms_ots.proofs.signatures.key_of_parts.Goals as goal
 
-pub loop-i-init : goal.loop-i-init
-unfolding joined
-loop-i-init c = subst (λ m. Holds256 c.update-3.new.self m) (sym (append-nil _)) (search rules)
-
-pub loop-i-preserved : goal.loop-i-preserved
-loop-i-preserved c =
-    let leaf = leaf_of c.args.ident.now c.args.q in
-    let y = end_from c.args.set leaf c.args.string.now c.args.signature.now in
-    let given = c.update-in-loop-i.ensures _ c.loop-i.invariant in
-    let same : c.run_chain-y.result ≡ y c.loop-i.i = search rules in
-    subst (λ m. Holds256 c.update-in-loop-i.new.self m)
-    (append_assoc (head leaf ++ 0x80 ∷ 0x80 ∷ []) (joined y c.loop-i.i) c.run_chain-y.result ∙ ap (λ (t : List ℕ). (head leaf ++ 0x80 ∷ 0x80 ∷ []) ++ t) (ap (λ (z : List ℕ). joined y c.loop-i.i ++ z) same ∙ sym (joined_more y c.loop-i.i)))
-    given
-
 pub returns : goal.returns
-unfolding key_of_ends
 returns c =
+    let set = c.args.set in
     let leaf = leaf_of c.args.ident.now c.args.q in
-    let done : c.loop-i.i ≡ chains_of c.args.set = omega arith in
-    c.finalize.ensures _ c.loop-i.invariant
-    ∙ ap (λ k. sha256 (head leaf ++ 0x80 ∷ 0x80 ∷ [] ++ joined (end_from c.args.set leaf c.args.string.now c.args.signature.now) k)) done
+    c.key_of_chains.ensures
+    ∙ key-same set leaf (end_in c.run_all.result) (end_from set leaf c.args.string.now c.args.signature.now)
+    (λ i lt. c.run_all.ensures i (chains-low set i lt) ∙ c.candidate_lanes-lanes.ensures.ends leaf i lt)

@@ -1,7 +1,0 @@
-use Rattle.std.proofs.Common.{◌++◌, ◌∷◌, []}
-use Rattle.sha2.specs.Hashers.{Holds256}
-use Rattle.lms_ots.specs.Chains.{head, leaf_of, joined, end_of}
-use Rattle.lms_ots.proofs.signatures.ots_public.Given as goal
-
-abbrev pub invariant-loop-i : goal.invariant-loop-i
-invariant-loop-i l = Holds256 l.hasher (head (leaf_of l.ident l.q) ++ 0x80 ∷ 0x80 ∷ [] ++ joined (end_of l.set (leaf_of l.ident l.q) l.seed) l.i)

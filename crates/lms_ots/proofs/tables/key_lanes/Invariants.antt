@@ -1,0 +1,12 @@
+use Rattle.std.proofs.Common.{◌≡◌, ℕ, ◌<◌, length}
+use Rattle.lms_ots.specs.Sets.{chains_of}
+use Rattle.lms_ots.specs.Chains.{leaf_of, end_of}
+use Rattle.lms_ots.specs.Lanes.{lane_of, end_of_lane}
+use Rattle.lms_ots.proofs.tables.key_lanes.Given as goal
+
+abbrev pub invariant-lanes : goal.invariant-lanes
+invariant-lanes l = record {
+  size : length l.lanes ≡ 72;
+  numbered : (k : ℕ) → k < l.i → (lane_of l.lanes k).chain ≡ k;
+  ends : (k : ℕ) → k < l.i → k < chains_of l.set → end_of_lane (leaf_of l.ident l.q) (lane_of l.lanes k) ≡ end_of l.set (leaf_of l.ident l.q) l.seed k;
+}
