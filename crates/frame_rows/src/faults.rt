@@ -1,0 +1,203 @@
+//! The faults of a first stage of 53 bytes: the transaction of time 10 and client 1 that writes `x1` to `a`, and its
+//! client's plain signature.
+
+use basil_types::cluster::Cluster;
+use frame_views::fault::BadFrame;
+use frame_views::frames::check;
+use std::alloc::Global;
+use std::process::Abort;
+use std::test::Fail;
+
+/// The frame, by another program.
+const FRAME: &str =
+    "0301000000000000000a0100010161000278310020b7ce6222f675a2b67a124d4894840b2e26b2b6bee0809dd2c429ea5e33f23d6b";
+
+/// Lengths from the first to the last, and the field in which a frame of such a length ends.
+struct Cut {
+    first: usize,
+    last: usize,
+    field: usize,
+}
+
+const CUTS: &[Cut] = &[
+    Cut {
+        first: 0,
+        last: 0,
+        field: 0,
+    },
+    Cut {
+        first: 1,
+        last: 1,
+        field: 1,
+    },
+    Cut {
+        first: 2,
+        last: 9,
+        field: 2,
+    },
+    Cut {
+        first: 10,
+        last: 10,
+        field: 10,
+    },
+    Cut {
+        first: 11,
+        last: 11,
+        field: 11,
+    },
+    Cut {
+        first: 12,
+        last: 12,
+        field: 12,
+    },
+    Cut {
+        first: 13,
+        last: 13,
+        field: 13,
+    },
+    Cut {
+        first: 14,
+        last: 14,
+        field: 14,
+    },
+    Cut {
+        first: 15,
+        last: 16,
+        field: 15,
+    },
+    Cut {
+        first: 17,
+        last: 18,
+        field: 17,
+    },
+    Cut {
+        first: 19,
+        last: 20,
+        field: 19,
+    },
+    Cut {
+        first: 21,
+        last: 52,
+        field: 21,
+    },
+];
+
+/// Bytes in hex that stand at a place, and the fault that is met first.
+struct Change {
+    place: usize,
+    digits: &'static str,
+    fault: BadFrame,
+}
+
+const CHANGES: &[Change] = &[
+    Change {
+        place: 0,
+        digits: "00",
+        fault: BadFrame::Kind,
+    },
+    Change {
+        place: 0,
+        digits: "0c",
+        fault: BadFrame::Kind,
+    },
+    Change {
+        place: 1,
+        digits: "03",
+        fault: BadFrame::Range(1),
+    },
+    Change {
+        place: 10,
+        digits: "00",
+        fault: BadFrame::Range(10),
+    },
+    Change {
+        place: 10,
+        digits: "11",
+        fault: BadFrame::Range(10),
+    },
+    Change {
+        place: 11,
+        digits: "21",
+        fault: BadFrame::Range(11),
+    },
+    Change {
+        place: 12,
+        digits: "00",
+        fault: BadFrame::Short(15),
+    },
+    Change {
+        place: 13,
+        digits: "00",
+        fault: BadFrame::Range(13),
+    },
+    Change {
+        place: 13,
+        digits: "41",
+        fault: BadFrame::Range(13),
+    },
+    Change {
+        place: 15,
+        digits: "0101",
+        fault: BadFrame::Range(15),
+    },
+    Change {
+        place: 19,
+        digits: "0000",
+        fault: BadFrame::Range(19),
+    },
+];
+
+/// The frame with other bytes at a place.
+fn changed(alloc: Global, place: usize, digits: &str) -> Result<Vec<u8>, Fail> {
+    let start = place.checked_mul(2).ok_or("too far")?;
+    let behind = start.checked_add(digits.len()).ok_or("too far")?;
+    let before = FRAME.get(..start).ok_or("too far")?;
+    let after = FRAME.get(behind..).ok_or("too far")?;
+    let text = format!(in alloc; "{before}{digits}{after}")?;
+    Ok(hex::decode(alloc, text.as_str())?)
+}
+
+/// Each of these lengths ends in the field.
+fn is_cut(rt: &impl Abort, frame: &[u8], cluster: &Cluster, cut: &Cut) -> Result<(), Fail> {
+    for len in cut.first..=cut.last {
+        let bytes = frame.get(..len).ok_or("too long")?;
+        assert!(rt; matches!(check(bytes, cluster), Err(BadFrame::Short(at)) if at == cut.field));
+    }
+    Ok(())
+}
+
+#[test]
+fn each_shorter_frame_ends_in_its_field(rt: HostRuntime) -> Result<(), Fail> {
+    let cluster = Cluster::new(0, 1, 1, 100)?;
+    let frame = hex::decode(rt.alloc(), FRAME)?;
+    assert_eq!(&rt; frame.len(), 53);
+    assert!(&rt; check(&frame, &cluster).is_ok());
+    for cut in CUTS {
+        is_cut(&rt, &frame, &cluster, cut)?;
+    }
+    Ok(())
+}
+
+#[test]
+fn each_change_has_its_fault(rt: HostRuntime) -> Result<(), Fail> {
+    let cluster = Cluster::new(0, 1, 1, 100)?;
+    for change in CHANGES {
+        let bytes = changed(rt.alloc(), change.place, change.digits)?;
+        match check(&bytes, &cluster) {
+            Ok(_) => assert!(&rt; false),
+            Err(fault) => assert_eq!(&rt; fault, change.fault),
+        }
+    }
+    Ok(())
+}
+
+#[test]
+fn one_byte_more_is_trailing_and_another_signature_stands(rt: HostRuntime) -> Result<(), Fail> {
+    let cluster = Cluster::new(0, 1, 1, 100)?;
+    let mut longer = hex::decode(rt.alloc(), FRAME)?;
+    longer.push(0)?;
+    assert!(&rt; matches!(check(&longer, &cluster), Err(BadFrame::Trailing(53))));
+    let other = changed(rt.alloc(), 52, "ff")?;
+    assert!(&rt; check(&other, &cluster).is_ok());
+    Ok(())
+}
