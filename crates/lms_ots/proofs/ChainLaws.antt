@@ -6,7 +6,8 @@ use Rattle.sha2.proofs.Facts256.{length-sha256}
 use Rattle.sha2.specs.Sha256.{sha256}
 use Rattle.lms_ots.specs.declared.sets.OtsSet.{OtsSet}
 use Rattle.lms_ots.specs.Sets.{chains_of}
-use Rattle.lms_ots.specs.Chains.{Leaf, head, start_of, step_of, steps, chain, joined, key_of_ends}
+use Rattle.sha256_lanes.specs.Chains.{step_of, steps}
+use Rattle.lms_ots.specs.Chains.{Leaf, head, start_of, chain, joined, key_of_ends}
 
 pub joined_more : (y : ℕ → List ℕ) (n : ℕ) → joined y (n + 1) ≡ joined y n ++ y n
 unfolding joined
@@ -51,18 +52,18 @@ pub length-start : (leaf : Leaf) (seed : List ℕ) (i : ℕ) → length (start_o
 unfolding start_of
 length-start leaf seed i = length-sha256 _
 
-pub length-steps : (leaf : Leaf) (i from n : ℕ) (x : List ℕ) → length x ≡ 32 → length (steps leaf i from n x) ≡ 32
+pub length-steps : (head : List ℕ) (i from n : ℕ) (x : List ℕ) → length x ≡ 32 → length (steps head i from n x) ≡ 32
 unfolding steps step_of
-length-steps leaf i from zero x h = h
-length-steps leaf i from (suc n) x h = length-sha256 _
+length-steps head i from zero x h = h
+length-steps head i from (suc n) x h = length-sha256 _
 
-pub steps-then : (leaf : Leaf) (i from m n : ℕ) (x : List ℕ) → steps leaf i from (m + n) x ≡ steps leaf i (from + m) n (steps leaf i from m x)
+steps-then : (head : List ℕ) (i from m n : ℕ) (x : List ℕ) → steps head i from (m + n) x ≡ steps head i (from + m) n (steps head i from m x)
 unfolding steps
-steps-then leaf i from m zero x = let e : m + 0 ≡ m = omega arith in rw e refl
-steps-then leaf i from m (suc n) x =
+steps-then head i from m zero x = let e : m + 0 ≡ m = omega arith in rw e refl
+steps-then head i from m (suc n) x =
     let e : m + suc n ≡ suc (m + n) = omega arith in
     let k : from + (m + n) ≡ (from + m) + n = omega arith in
-    rw (e, k, steps-then leaf i from m n x) refl
+    rw (e, k, steps-then head i from m n x) refl
 
 -- a chain goes on where another ends
 pub chain-then : (leaf : Leaf) (i a to : ℕ) (x : List ℕ) → a ≤ to → chain leaf i a to (chain leaf i 0 a x) ≡ chain leaf i 0 to x
@@ -70,6 +71,7 @@ chain-then leaf i a to x le =
     let front : a - 0 ≡ a = omega arith in
     let whole : to - 0 ≡ a + (to - a) = omega arith in
     let at : 0 + a ≡ a = omega arith in
-    let goes : steps leaf i 0 (a + (to - a)) x ≡ steps leaf i a (to - a) (steps leaf i 0 a x) =
-    subst (λ (k : ℕ). steps leaf i 0 (a + (to - a)) x ≡ steps leaf i k (to - a) (steps leaf i 0 a x)) at (steps-then leaf i 0 a (to - a) x) in
+    let h : List ℕ = head leaf in
+    let goes : steps h i 0 (a + (to - a)) x ≡ steps h i a (to - a) (steps h i 0 a x) =
+    subst (λ (k : ℕ). steps h i 0 (a + (to - a)) x ≡ steps h i k (to - a) (steps h i 0 a x)) at (steps-then h i 0 a (to - a) x) in
     rw (front, whole, goes) refl

@@ -1,57 +1,17 @@
 -- Facts about chains that go side by side.
-use Rattle.std.proofs.Common.{◌≡◌, ℕ, zero, suc, ◌+◌, ◌-◌, ◌*◌, ◌/◌, ◌%◌, ◌<◌, List, [], length, slice_index_or, slice_set, refl, subst, ap, ◌∙◌, sym, arith, inl, inr}
+use Rattle.std.proofs.Common.{◌≡◌, ℕ, ◌+◌, ◌<◌, List, [], length, slice_index_or, slice_set, subst, ap, ◌∙◌, sym, arith, inl, inr}
 use Rattle.std.proofs.lemmas.Bool.{cases_lt, cases_eq}
 use Rattle.std.proofs.lemmas.List.{get_or-set_same, get_or-set_other, get_or_default}
 use Rattle.std.proofs.lemmas.List.Elements.{Contains-get_or}
 use Rattle.std.proofs.lemmas.List.Sorted.{All-permutation, Contains-permutation, length_permutation}
 use Rattle.std.specs.List.{All}
 use Rattle.std.specs.List.Sorted.{IsPermutation}
-use Rattle.sha2.specs.Sha256.{sha256}
-use Rattle.lms_ots.specs.declared.lanes.Lane.{Lane}
+use Rattle.sha256_lanes.specs.declared.lanes.Lane.{Lane}
+use Rattle.sha256_lanes.specs.Chains.{idle, lane_of}
 use Rattle.lms_ots.specs.declared.sets.OtsSet.{OtsSet}
 use Rattle.lms_ots.specs.declared.sets.OtsSet.TheVariants.{W4, W8}
 use Rattle.lms_ots.specs.Sets.{chains_of}
-use Rattle.lms_ots.specs.Chains.{Leaf, step_of, steps, chain}
-use Rattle.lms_ots.specs.Lanes.{idle, lane_of, steps_left, end_of_lane, message_of, IsNumbered}
-use Rattle.lms_ots.proofs.ChainLaws.{steps-then}
-
-below_four : (P : ℕ → Type 0) → P 0 → P 1 → P 2 → P 3 → (j : ℕ) → j < 4 → P j
-below_four P p0 p1 p2 p3 zero h = p0
-below_four P p0 p1 p2 p3 (suc zero) h = p1
-below_four P p0 p1 p2 p3 (suc (suc zero)) h = p2
-below_four P p0 p1 p2 p3 (suc (suc (suc zero))) h = p3
-below_four P p0 p1 p2 p3 (suc (suc (suc (suc n)))) h = absurd (omega arith)
-
--- what holds of each of the eight lanes
-pub below_eight : (P : ℕ → Type 0) → P 0 → P 1 → P 2 → P 3 → P 4 → P 5 → P 6 → P 7 → (k : ℕ) → k < 8 → P k
-below_eight P a0 a1 a2 a3 b0 b1 b2 b3 k h =
-    let place : 4 * (k / 4) + k % 4 ≡ k = omega arith in
-    let rows : (row : ℕ) → row < 2 → (col : ℕ) → col < 4 → P (4 * row + col) = λ row low. elim (cases_lt row 1) [
-      | inl lt ↦ let e : 0 ≡ row = omega arith in subst (λ (r : ℕ). (col : ℕ) → col < 4 → P (4 * r + col)) e (below_four _ a0 a1 a2 a3)
-      | inr ge ↦ let e : 1 ≡ row = omega arith in subst (λ (r : ℕ). (col : ℕ) → col < 4 → P (4 * r + col)) e (below_four _ b0 b1 b2 b3)
-    ] in
-    subst P place (rows (k / 4) (omega arith) (k % 4) (omega arith))
-
--- a chain's first step, and what follows
-pub first_step : (leaf : Leaf) (i from to : ℕ) (x : List ℕ) → from < to → chain leaf i (from + 1) to (step_of leaf i from x) ≡ chain leaf i from to x
-unfolding steps
-first_step leaf i from to x lt =
-    let whole : to - from ≡ 1 + (to - (from + 1)) = omega arith in
-    let here : from + 0 ≡ from = omega arith in
-    let one : steps leaf i from 1 x ≡ step_of leaf i from x = ap (λ (p : ℕ). step_of leaf i p x) here in
-    rw whole (sym (steps-then leaf i from 1 (to - (from + 1)) x ∙ ap (steps leaf i (from + 1) (to - (from + 1))) one))
-
--- a lane that goes on keeps its end
-pub end-goes_on : (leaf : Leaf) (lane : Lane) (next : List ℕ) → next ≡ sha256 (message_of leaf lane) → lane.place < lane.last
-    → chain leaf lane.chain (lane.place + 1) lane.last next ≡ end_of_lane leaf lane
-unfolding step_of
-end-goes_on leaf lane next hashed lt =
-    ap (chain leaf lane.chain (lane.place + 1) lane.last) hashed ∙ first_step leaf lane.chain lane.place lane.last lane.value lt
-
--- where no step is left, the value is the end
-pub end-reached : (leaf : Leaf) (lane : Lane) → steps_left lane ≡ 0 → lane.value ≡ end_of_lane leaf lane
-unfolding steps
-end-reached leaf lane none = rw none refl
+use Rattle.lms_ots.specs.Lanes.{IsNumbered}
 
 -- one more lane's end, written at the number of its chain
 pub set-keeps : (ends : List (List ℕ)) (order : List Lane) (E : ℕ → List ℕ) (n : ℕ) (v : List ℕ) → length ends ≡ 72

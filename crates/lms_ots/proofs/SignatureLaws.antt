@@ -25,7 +25,7 @@ part-is set leaf seed c string len i lt =
     let long : length front ≡ 36 = omega (arith, len) in
     let past = drop-append-add front (joined y (chains_of set)) (32 * i) in
     let P : ℕ → Type 0 = λ k. take 32 (drop (k + 32 * i) (front ++ joined y (chains_of set))) ≡ y i in
-    subst P long (ap (take 32) past ∙ joined-part y (λ j. length-steps leaf j 0 _ (start_of leaf seed j) (length-start leaf seed j)) (chains_of set) i lt)
+    subst P long (ap (take 32) past ∙ joined-part y (λ j. length-steps (head leaf) j 0 _ (start_of leaf seed j) (length-start leaf seed j)) (chains_of set) i lt)
 
 each_end : (set : OtsSet) (leaf : Leaf) (seed c string : List ℕ) → length c ≡ 32 → (i : ℕ) → i < chains_of set
     → end_from set leaf string (to_be_bytes w32 (type_of set) ++ c ++ joined (signed_part set leaf seed string) (chains_of set)) i ≡ end_of set leaf seed i
@@ -47,5 +47,5 @@ leads_to_the_key set leaf seed c message len =
 pub length-signature : (set : OtsSet) (leaf : Leaf) (seed c message : List ℕ) → length c ≡ 32 → length (signature_of set leaf seed c message) ≡ signature_length set
 length-signature set leaf seed c message len =
     let y = signed_part set leaf seed (signed_string set (message_digest leaf c message)) in
-    let parts = length-joined y (λ j. length-steps leaf j 0 _ (start_of leaf seed j) (length-start leaf seed j)) (chains_of set) in
+    let parts = length-joined y (λ j. length-steps (head leaf) j 0 _ (start_of leaf seed j) (length-start leaf seed j)) (chains_of set) in
     omega (arith, len, parts, length-append c (joined y (chains_of set)))

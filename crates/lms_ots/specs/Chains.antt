@@ -1,7 +1,9 @@
 -- The hash chains of a leaf and the key that they end in (RFC 8554, section 4.3).
-use Rattle.std.specs.Prelude.{ℕ, zero, suc, ◌+◌, ◌-◌, List, [], ◌∷◌, ◌++◌}
-use Rattle.std.specs.Int.{w16, w32, to_be_bytes}
+use Rattle.std.specs.Prelude.{ℕ, zero, suc, List, [], ◌∷◌, ◌++◌}
+use Rattle.std.specs.Int.{w16, to_be_bytes}
 use Rattle.sha2.specs.Sha256.{sha256}
+use Rattle.sha256_lanes.specs.Chains as chains
+use Rattle.sha256_lanes.specs.Chains.{head_of}
 use Rattle.lms_ots.specs.declared.sets.OtsSet.{OtsSet}
 use Rattle.lms_ots.specs.Sets.{chains_of, last_of}
 
@@ -15,24 +17,15 @@ leaf_of ident q = record { ident = ident; q = q }
 
 -- I ‖ u32 q, with which each hash of a leaf begins
 abbrev pub head : Leaf → List ℕ
-head leaf = leaf.ident ++ to_be_bytes w32 leaf.q
+head leaf = head_of leaf.ident leaf.q
 
 -- the secret start of chain i, made from SEED (appendix A)
 unfoldable pub start_of : Leaf → List ℕ → ℕ → List ℕ
 start_of leaf seed i = sha256 (head leaf ++ to_be_bytes w16 i ++ 0xff ∷ [] ++ seed)
 
--- the step of chain i at place j
-unfoldable pub step_of : Leaf → ℕ → ℕ → List ℕ → List ℕ
-step_of leaf i j tmp = sha256 (head leaf ++ to_be_bytes w16 i ++ j ∷ [] ++ tmp)
-
--- the first n steps of chain i from a place on
-unfoldable pub steps : Leaf → ℕ → ℕ → ℕ → List ℕ → List ℕ
-steps leaf i from zero tmp = tmp
-steps leaf i from (suc n) tmp = step_of leaf i (from + n) (steps leaf i from n tmp)
-
 -- chain i from one place to another
 abbrev pub chain : Leaf → ℕ → ℕ → ℕ → List ℕ → List ℕ
-chain leaf i from to tmp = steps leaf i from (to - from) tmp
+chain leaf i from to tmp = chains.chain (head leaf) i from to tmp
 
 -- y[0] ‖ .. ‖ y[n - 1]
 unfoldable pub joined : (ℕ → List ℕ) → ℕ → List ℕ

@@ -1,16 +1,9 @@
 -- Chains that go side by side, each in a lane of its own.
-use Rattle.std.specs.Prelude.{◌≡◌, ℕ, ◌+◌, ◌-◌, ◌<◌, List, [], ◌∷◌, ◌++◌, slice_index_or}
-use Rattle.std.specs.Int.{w16, to_be_bytes}
-use Rattle.lms_ots.specs.declared.lanes.Lane.{Lane}
-use Rattle.lms_ots.specs.Chains.{Leaf, head, chain}
-
--- a lane whose chain has ended
-abbrev pub idle : Lane
-idle = record { chain = 0; place = 0; last = 0; value = [] }
-
--- lane k
-abbrev pub lane_of : List Lane → ℕ → Lane
-lane_of lanes k = slice_index_or lanes k idle
+use Rattle.std.specs.Prelude.{◌≡◌, ℕ, ◌+◌, ◌-◌, ◌<◌, List, [], slice_index_or}
+use Rattle.sha256_lanes.specs.declared.lanes.Lane.{Lane}
+use Rattle.sha256_lanes.specs.Chains as chains
+use Rattle.sha256_lanes.specs.Chains.{lane_of}
+use Rattle.lms_ots.specs.Chains.{Leaf, head}
 
 -- the steps that a lane has still to go
 abbrev pub steps_left : Lane → ℕ
@@ -18,11 +11,7 @@ steps_left lane = lane.last - lane.place
 
 -- the value in which a lane's chain ends
 abbrev pub end_of_lane : Leaf → Lane → List ℕ
-end_of_lane leaf lane = chain leaf lane.chain lane.place lane.last lane.value
-
--- what a lane hashes in its next step
-abbrev pub message_of : Leaf → Lane → List ℕ
-message_of leaf lane = head leaf ++ to_be_bytes w16 lane.chain ++ lane.place ∷ [] ++ lane.value
+end_of_lane leaf lane = chains.end_of_lane (head leaf) lane
 
 -- lane i runs chain i
 abbrev pub IsNumbered : List Lane → Type 0

@@ -1,90 +1,22 @@
 //! Hash chains side by side, eight at a time.
 ghost use Rattle.std.specs.Prelude.{◌≡◌, ◌≢◌, ℕ, ◌+◌, ◌-◌, ◌%◌, ◌<◌, ◌≤◌, [], slice_index_or};
-ghost use Rattle.sha2.specs.Sha256.{sha256};
-ghost use Rattle.lms_ots.specs.Chains.{Leaf, leaf_of};
-ghost use Rattle.lms_ots.specs.Lanes.{lane_of, steps_left, end_of_lane, message_of, IsNumbered, HoldsEnds};
+ghost use Rattle.sha256_lanes.specs.Chains.{lane_of};
+ghost use Rattle.lms_ots.specs.Chains.{leaf_of};
+ghost use Rattle.lms_ots.specs.Lanes.{steps_left, end_of_lane, IsNumbered, HoldsEnds};
 
-use crate::signatures::put;
-use sha256_lanes::digests;
+use sha256_lanes::{Lane, run_chains};
 
-/// A chain on its way: its number, the place that it has come to, its last place, and its value here.
-#[derive(Clone, Copy)]
-pub(crate) struct Lane {
-    pub(crate) chain: u16,
-    pub(crate) place: u8,
-    pub(crate) last: u8,
-    pub(crate) value: [u8; 32],
-}
-
-/// A lane that has no step to go.
-pub(crate) fn ended(chain: u16) -> Lane
-    ensures { result.chain ≡ chain }
+/// A lane that has no step to go, and is at this place.
+pub(crate) fn ended(chain: u16, place: u8) -> Lane
+    ensures chain { result.chain ≡ chain }
+    ensures ended { steps_left result ≡ 0 }
 {
     Lane {
         chain,
-        place: 0,
-        last: 0,
+        place,
+        last: place,
         value: [0u8; 32],
     }
-}
-
-/// What a lane hashes in its next step.
-fn message(ident: &[u8; 16], q: u32, lane: &Lane) -> [u8; 55]
-    ensures { result ≡ message_of (leaf_of ident.now q) lane.now }
-{
-    let mut message = [0u8; 55];
-    put(&mut message, 0, ident);
-    put(&mut message, 16, &q.to_be_bytes());
-    put(&mut message, 20, &lane.chain.to_be_bytes());
-    put(&mut message, 22, &[lane.place]);
-    put(&mut message, 23, &lane.value);
-    message
-}
-
-/// The lane after its next step, whose value is given. Where the chain has ended, the lane keeps its value.
-fn stepped(lane: &Lane, next: [u8; 32]) -> Lane
-    ensures ends { (leaf : Leaf) → next ≡ sha256 (message_of leaf lane.now)
-        → end_of_lane leaf result ≡ end_of_lane leaf lane.now }
-    ensures nearer { steps_left result ≡ steps_left lane.now - 1 }
-{
-    if lane.place < lane.last {
-        Lane {
-            chain: lane.chain,
-            place: lane.place + 1,
-            last: lane.last,
-            value: next,
-        }
-    } else {
-        *lane
-    }
-}
-
-/// One step in each lane whose chain hasn't ended.
-fn step_each(ident: &[u8; 16], q: u32, lanes: &[Lane; 8]) -> [Lane; 8]
-    ensures ends { (k : ℕ) → k < 8
-        → end_of_lane (leaf_of ident.now q) (lane_of result k) ≡ end_of_lane (leaf_of ident.now q) (lane_of lanes.now k) }
-    ensures nearer { (k : ℕ) → k < 8 → steps_left (lane_of result k) ≡ steps_left (lane_of lanes.now k) - 1 }
-{
-    let next = digests(&[
-        message(ident, q, &lanes[0]),
-        message(ident, q, &lanes[1]),
-        message(ident, q, &lanes[2]),
-        message(ident, q, &lanes[3]),
-        message(ident, q, &lanes[4]),
-        message(ident, q, &lanes[5]),
-        message(ident, q, &lanes[6]),
-        message(ident, q, &lanes[7]),
-    ]);
-    [
-        stepped(&lanes[0], next[0]),
-        stepped(&lanes[1], next[1]),
-        stepped(&lanes[2], next[2]),
-        stepped(&lanes[3], next[3]),
-        stepped(&lanes[4], next[4]),
-        stepped(&lanes[5], next[5]),
-        stepped(&lanes[6], next[6]),
-        stepped(&lanes[7], next[7]),
-    ]
 }
 
 /// The steps that a lane has still to go.
@@ -92,40 +24,6 @@ fn left(lane: &Lane) -> u8
     ensures { result ≡ steps_left lane.now }
 {
     lane.last.saturating_sub(lane.place)
-}
-
-/// The steps of the lane that has most of them to go.
-fn most_left(lanes: &[Lane; 8]) -> u8
-    ensures { (k : ℕ) → k < 8 → steps_left (lane_of lanes.now k) ≤ result }
-{
-    let mut most = 0u8;
-    'lanes: for k in 0..8 {
-        most = most.max(left(&lanes[k]));
-    }
-    most
-}
-
-/// The ends of eight chains.
-pub(crate) fn run_each(ident: &[u8; 16], q: u32, lanes: [Lane; 8]) -> [[u8; 32]; 8]
-    ensures { (k : ℕ) → k < 8
-        → slice_index_or result k [] ≡ end_of_lane (leaf_of ident.now q) (lane_of lanes k) }
-{
-    let steps = most_left(&lanes);
-    let mut now = lanes;
-    'steps: for _n in 0..steps {
-        let next = step_each(ident, q, &now);
-        now = next;
-    }
-    [
-        now[0].value,
-        now[1].value,
-        now[2].value,
-        now[3].value,
-        now[4].value,
-        now[5].value,
-        now[6].value,
-        now[7].value,
-    ]
 }
 
 /// The lanes, those with most steps to go first, so that lanes which run together end together.
@@ -155,7 +53,7 @@ fn run_from(ident: &[u8; 16], q: u32, lanes: &[Lane; 72], first: usize) -> [[u8;
         lanes[first + 6],
         lanes[first + 7],
     ];
-    run_each(ident, q, eight)
+    run_chains(ident, q, &eight)
 }
 
 /// The ends of the eight lanes among which lane `n` is: those at hand, or new ones at the first of eight.

@@ -20,7 +20,14 @@ fn step(ident: &[u8; 16], q: u32, i: u16, j: u8, tmp: &[u8; 32]) -> [u8; 32] {
 }
 
 /// Chain `i` from the place `from`, where it has the value `begin`, to the place `to`.
-fn run_chain(ident: &[u8; 16], q: u32, i: u16, from: u8, to: u8, begin: [u8; 32]) -> [u8; 32] {
+pub(crate) fn run_chain(
+    ident: &[u8; 16],
+    q: u32,
+    i: u16,
+    from: u8,
+    to: u8,
+    begin: [u8; 32],
+) -> [u8; 32] {
     let mut tmp = begin;
     for j in from..to {
         let next = step(ident, q, i, j, &tmp);

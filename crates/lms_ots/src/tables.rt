@@ -7,9 +7,10 @@ ghost use Rattle.lms_ots.specs.Lanes.{end_of_lane, IsNumbered, LeadTo};
 
 use crate::chains::start;
 use crate::digits::digit_at;
-use crate::lanes::{Lane, ended};
+use crate::lanes::ended;
 use crate::sets::OtsSet;
 use crate::signatures::part_of;
+use sha256_lanes::Lane;
 
 /// Chain `i` of a key, from its start to its last place.
 fn key_lane(set: OtsSet, ident: &[u8; 16], q: u32, seed: &[u8; 32], i: u16) -> Lane
@@ -17,7 +18,7 @@ fn key_lane(set: OtsSet, ident: &[u8; 16], q: u32, seed: &[u8; 32], i: u16) -> L
     ensures end { i < chains_of set → end_of_lane (leaf_of ident.now q) result ≡ end_of set (leaf_of ident.now q) seed.now i }
 {
     if i >= set.chains() {
-        return ended(i);
+        return ended(i, 0);
     }
     Lane {
         chain: i,
@@ -32,7 +33,7 @@ pub(crate) fn key_lanes(set: OtsSet, ident: &[u8; 16], q: u32, seed: &[u8; 32]) 
     ensures numbered { IsNumbered result }
     ensures ends { LeadTo (end_of set (leaf_of ident.now q) seed.now) (leaf_of ident.now q) result (chains_of set) }
 {
-    let mut lanes = [ended(0); 72];
+    let mut lanes = [ended(0, 0); 72];
     'lanes: for i in 0..72 {
         lanes[i as usize] = key_lane(set, ident, q, seed, i);
     }
@@ -52,7 +53,7 @@ fn signing_lane(
     ensures end { i < chains_of set → end_of_lane (leaf_of ident.now q) result ≡ signed_part set (leaf_of ident.now q) seed.now string.now i }
 {
     if i >= set.chains() {
-        return ended(i);
+        return ended(i, 0);
     }
     Lane {
         chain: i,
@@ -73,7 +74,7 @@ pub(crate) fn signing_lanes(
     ensures numbered { IsNumbered result }
     ensures ends { LeadTo (signed_part set (leaf_of ident.now q) seed.now string.now) (leaf_of ident.now q) result (chains_of set) }
 {
-    let mut lanes = [ended(0); 72];
+    let mut lanes = [ended(0, 0); 72];
     'lanes: for i in 0..72 {
         lanes[i as usize] = signing_lane(set, ident, q, seed, string, i);
     }
@@ -87,7 +88,7 @@ fn candidate_lane(set: OtsSet, string: &[u8; 34], signature: &[u8], i: u16) -> L
     ensures end { (leaf : Leaf) → i < chains_of set → end_of_lane leaf result ≡ end_from set leaf string.now signature.now i }
 {
     if i >= set.chains() {
-        return ended(i);
+        return ended(i, set.last());
     }
     Lane {
         chain: i,
@@ -103,7 +104,7 @@ pub(crate) fn candidate_lanes(set: OtsSet, string: &[u8; 34], signature: &[u8]) 
     ensures numbered { IsNumbered result }
     ensures ends { (leaf : Leaf) → LeadTo (end_from set leaf string.now signature.now) leaf result (chains_of set) }
 {
-    let mut lanes = [ended(0); 72];
+    let mut lanes = [ended(0, 0); 72];
     'lanes: for i in 0..72 {
         lanes[i as usize] = candidate_lane(set, string, signature, i);
     }

@@ -1,7 +1,9 @@
 use crate::digits::digit_at;
+use crate::lanes::ended;
 use crate::vectors::{CHOSEN_C, STREAM_C};
 use crate::{OtsRefusal, OtsSet, ots_candidate, ots_public, ots_sign, plain};
 use hex::FromHex;
+use sha256_lanes::{Lane, run_chains};
 use std::test::Fail;
 
 /// The example of RFC 8554, section 3.1.3, and its neighbours.
@@ -100,4 +102,56 @@ fn lanes_and_one_chain_at_a_time_w8(rt: HostRuntime) {
         ots_candidate(OtsSet::W8, &ident, 5, b"another", &made),
         Ok(plain::candidate(OtsSet::W8, &ident, 5, b"another", &made))
     );
+}
+
+/// Eight lanes of which no two have a byte of their values in common, with ways of 0 to 7 places.
+fn different_lanes() -> [Lane; 8] {
+    let mut lanes = [ended(0, 0); 8];
+    for k in 0..8u8 {
+        let mut value = [0u8; 32];
+        for i in 0..32u8 {
+            value[i as usize] = 8 * i + k;
+        }
+        lanes[k as usize] = Lane {
+            chain: 1000 * u16::from(k),
+            place: 3 + k,
+            last: 3 + 2 * k,
+            value,
+        };
+    }
+    lanes
+}
+
+#[test]
+fn lanes_of_different_ways(rt: HostRuntime) {
+    let ident = [0x42u8; 16];
+    let lanes = different_lanes();
+    let ends = run_chains(&ident, 0x0102_0304, &lanes);
+    for k in 0..8 {
+        let lane = lanes[k];
+        let plain = plain::run_chain(
+            &ident,
+            0x0102_0304,
+            lane.chain,
+            lane.place,
+            lane.last,
+            lane.value,
+        );
+        assert_eq!(rt; ends[k], plain, "lane {k}");
+    }
+}
+
+/// The digest of 55 zero bytes, from NIST's further examples of SHA-256 and from `sha256sum`: one step from zeros.
+#[test]
+fn known_digest_in_one_lane(rt: HostRuntime) -> Result<(), Fail> {
+    let known = <[u8; 32] as FromHex>::from_hex(
+        "02779466cdec163811d078815c633f21901413081449002f24aa3e80f0b88ef7",
+    )?;
+    let mut lanes = different_lanes();
+    lanes[5] = Lane {
+        last: 1,
+        ..ended(0, 0)
+    };
+    assert_eq!(rt; run_chains(&[0; 16], 0, &lanes)[5], known);
+    Ok(())
 }

@@ -1,9 +1,10 @@
--- A message of 55 bytes, its padding and its one block.
-use Rattle.std.proofs.Common.{◌≡◌, ℕ, ◌+◌, ◌≤◌, ◌/◌, List, [], ◌∷◌, ◌++◌, length, take, slice_index, arith, refl, ap, length-append}
-use Rattle.std.specs.Int.{w32, from_be_bytes}
-use Rattle.std.proofs.lemmas.List.{take_all, get_or_append_left, get_or-append_right}
-use Rattle.sha2.specs.Sha256.{sha256, compress, hash_after, digest_bytes, initial_hash_256, padded_message, padding, word_at}
-use Rattle.sha256_lanes.specs.Messages.{padding_55}
+-- A message of 55 bytes is one block, and the words of a step's block.
+use Rattle.std.proofs.Common.{◌≡◌, ℕ, ◌<◌, ◌+◌, ◌*◌, ◌/◌, ◌%◌, ◌^◌, List, [], ◌∷◌, ◌++◌, length, take, slice_index, bit_or, arith, ap, ◌∙◌, length-append}
+use Rattle.std.specs.Int.{w16, w32, to_be_bytes, from_be_bytes}
+use Rattle.std.proofs.lemmas.Nat.{or_shifted}
+use Rattle.std.proofs.lemmas.List.{take_all}
+use Rattle.sha2.specs.Sha256.{sha256, compress, hash_after, digest_bytes, initial_hash_256, padded_message, padding}
+use Rattle.sha256_lanes.specs.Lanes.{padding_55}
 
 padded_55 : (m : List ℕ) → length m ≡ 55 → padded_message m ≡ m ++ padding_55
 padded_55 m len = ap (λ (n : ℕ). m ++ padding n) len
@@ -17,42 +18,28 @@ one_block m len =
     let whole : take 64 p ≡ p = take_all 64 p (omega (arith, long)) in
     rw (padded_55 m len, one) (ap (λ (b : List ℕ). digest_bytes (compress initial_hash_256 b) 8) whole)
 
--- a word that lies in the message
-pub word_at-message : (m : List ℕ) (at : ℕ) → at + 4 ≤ length m → word_at (m ++ padding_55) at ≡ word_at m at
-word_at-message m at room =
-    rw (
-      get_or_append_left m padding_55 0 at (omega arith),
-      get_or_append_left m padding_55 0 (at + 1) (omega arith),
-      get_or_append_left m padding_55 0 (at + 2) (omega arith),
-      get_or_append_left m padding_55 0 (at + 3) (omega arith),
-    ) refl
+-- a word a byte further on
+pub shifted_word : (x y : ℕ) → x < 2 ^ 32 → y < 2 ^ 32
+    → bit_or (x * 2 ^ 8 % 2 ^ 32) (y / 2 ^ 24)
+    ≡ from_be_bytes w32 (slice_index (to_be_bytes w32 x) 1 ∷ slice_index (to_be_bytes w32 x) 2 ∷ slice_index (to_be_bytes w32 x) 3 ∷ slice_index (to_be_bytes w32 y) 0 ∷ [])
+shifted_word x y hx hy =
+    let up : x * 2 ^ 8 % 2 ^ 32 ≡ x % 2 ^ 24 * 2 ^ 8 = omega arith in
+    rw up (or_shifted (x % 2 ^ 24) 8 (y / 2 ^ 24) (omega arith) ∙ omega arith)
 
--- the word of the last three bytes
-pub word_at-end : (m : List ℕ) → length m ≡ 55
-    → word_at (m ++ padding_55) 52 ≡ from_be_bytes w32 (slice_index m 52 ∷ slice_index m 53 ∷ slice_index m 54 ∷ 0x80 ∷ [])
-word_at-end m len =
-    rw (
-      get_or_append_left m padding_55 0 52 (omega arith),
-      get_or_append_left m padding_55 0 53 (omega arith),
-      get_or_append_left m padding_55 0 54 (omega arith),
-      get_or-append_right m padding_55 55 55 0 len (omega arith),
-    ) refl
+-- the last word of the message
+pub last_word : (x : ℕ) → x < 2 ^ 32
+    → bit_or (x * 2 ^ 8 % 2 ^ 32) 0x80
+    ≡ from_be_bytes w32 (slice_index (to_be_bytes w32 x) 1 ∷ slice_index (to_be_bytes w32 x) 2 ∷ slice_index (to_be_bytes w32 x) 3 ∷ 0x80 ∷ [])
+last_word x hx =
+    let up : x * 2 ^ 8 % 2 ^ 32 ≡ x % 2 ^ 24 * 2 ^ 8 = omega arith in
+    rw up (or_shifted (x % 2 ^ 24) 8 0x80 (omega arith) ∙ omega arith)
 
--- the two words of the padding alone
-pub word_at-high_length : (m : List ℕ) → length m ≡ 55 → word_at (m ++ padding_55) 56 ≡ 0
-word_at-high_length m len =
-    rw (
-      get_or-append_right m padding_55 55 56 0 len (omega arith),
-      get_or-append_right m padding_55 55 57 0 len (omega arith),
-      get_or-append_right m padding_55 55 58 0 len (omega arith),
-      get_or-append_right m padding_55 55 59 0 len (omega arith),
-    ) refl
-
-pub word_at-low_length : (m : List ℕ) → length m ≡ 55 → word_at (m ++ padding_55) 60 ≡ 440
-word_at-low_length m len =
-    rw (
-      get_or-append_right m padding_55 55 60 0 len (omega arith),
-      get_or-append_right m padding_55 55 61 0 len (omega arith),
-      get_or-append_right m padding_55 55 62 0 len (omega arith),
-      get_or-append_right m padding_55 55 63 0 len (omega arith),
-    ) refl
+-- the word of the chain's number i, the place j and the first byte of the value
+pub place_word : (i j y : ℕ) → i < 2 ^ 16 → j < 2 ^ 8 → y < 2 ^ 32
+    → bit_or (bit_or (i * 2 ^ 16 % 2 ^ 32) (j * 2 ^ 8 % 2 ^ 32)) (y / 2 ^ 24)
+    ≡ from_be_bytes w32 (slice_index (to_be_bytes w16 i) 0 ∷ slice_index (to_be_bytes w16 i) 1 ∷ j ∷ slice_index (to_be_bytes w32 y) 0 ∷ [])
+place_word i j y hi hj hy =
+    let first : i * 2 ^ 16 % 2 ^ 32 ≡ i * 2 ^ 16 = omega arith in
+    let second : j * 2 ^ 8 % 2 ^ 32 ≡ j * 2 ^ 8 = omega arith in
+    let both : bit_or (i * 2 ^ 16) (j * 2 ^ 8) ≡ (i * 2 ^ 8 + j) * 2 ^ 8 = or_shifted i 16 (j * 2 ^ 8) (omega arith) ∙ omega arith in
+    rw (first, second, both) (or_shifted (i * 2 ^ 8 + j) 8 (y / 2 ^ 24) (omega arith) ∙ omega arith)

@@ -1,5 +1,5 @@
 -- Reading and writing one word in all lanes.
-use Rattle.std.proofs.Common.{◌≡◌, ℕ, zero, suc, ◌<◌, ◌+◌, ◌*◌, ◌/◌, ◌%◌, List, [], ◌∷◌, length, slice_index, slice_set, arith, refl, subst, inl, inr}
+use Rattle.std.proofs.Common.{Bool, true, false, if◌then◌else◌, ◌≡◌, ℕ, zero, suc, ◌<◌, ◌+◌, ◌*◌, ◌/◌, ◌%◌, List, [], ◌∷◌, length, slice_index, slice_set, arith, refl, subst, inl, inr}
 use Rattle.std.proofs.lemmas.Bool.{cases_lt}
 use Rattle.sha256_lanes.specs.Lanes.{lane_at, block_of, state_of}
 
@@ -54,3 +54,17 @@ below_eight P a0 a1 a2 a3 b0 b1 b2 b3 k h =
 -- word i of the eight of lane k
 pub slice_index-state : (x : List (List ℕ)) (k i : ℕ) → i < 8 → slice_index (state_of k x) i ≡ lane_at x i k
 slice_index-state x k = below_eight _ refl refl refl refl refl refl refl refl
+
+-- a choice that is made alike for the eight words of lane k
+abbrev choice : Bool → Bool → ℕ → ℕ → ℕ
+choice before inside old next = if before then old else (if inside then next else old)
+
+pub chosen-state : (before inside : Bool) (old next : List (List ℕ)) (k : ℕ)
+    → (choice before inside (lane_at old 0 k) (lane_at next 0 k) ∷ choice before inside (lane_at old 1 k) (lane_at next 1 k)
+    ∷ choice before inside (lane_at old 2 k) (lane_at next 2 k) ∷ choice before inside (lane_at old 3 k) (lane_at next 3 k)
+    ∷ choice before inside (lane_at old 4 k) (lane_at next 4 k) ∷ choice before inside (lane_at old 5 k) (lane_at next 5 k)
+    ∷ choice before inside (lane_at old 6 k) (lane_at next 6 k) ∷ choice before inside (lane_at old 7 k) (lane_at next 7 k) ∷ [])
+    ≡ (if before then state_of k old else (if inside then state_of k next else state_of k old))
+chosen-state true inside old next k = refl
+chosen-state false true old next k = refl
+chosen-state false false old next k = refl

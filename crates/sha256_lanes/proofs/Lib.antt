@@ -1,3 +1,6 @@
 mod ChoiceLaws
 mod LaneLaws
 mod BlockLaws
+mod WordLaws
+mod ChainLaws
+mod RotationLaws

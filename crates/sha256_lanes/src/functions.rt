@@ -23,46 +23,38 @@ pub(crate) fn maj(x: Words, y: Words, z: Words) -> Words
     xor(y, and(xor(x, y), xor(y, z)))
 }
 
-/// The upper case sigma 0 (equation 4.4).
+/// The upper case sigma 0 (equation 4.4): the rotations by 2, 13 and 22, each inside of the one before.
 #[inline(always)]
 pub(crate) fn big_sigma0(x: Words) -> Words
     ensures { (k : ℕ) → k < 8 → slice_index result k ≡ big_sigma0 (slice_index x k) }
 {
-    xor(
-        xor(rotate_right(x, 2), rotate_right(x, 13)),
-        rotate_right(x, 22),
-    )
+    let far = xor(x, rotate_right(x, 9));
+    rotate_right(xor(x, rotate_right(far, 11)), 2)
 }
 
-/// The upper case sigma 1 (equation 4.5).
+/// The upper case sigma 1 (equation 4.5): the rotations by 6, 11 and 25, each inside of the one before.
 #[inline(always)]
 pub(crate) fn big_sigma1(x: Words) -> Words
     ensures { (k : ℕ) → k < 8 → slice_index result k ≡ big_sigma1 (slice_index x k) }
 {
-    xor(
-        xor(rotate_right(x, 6), rotate_right(x, 11)),
-        rotate_right(x, 25),
-    )
+    let far = xor(x, rotate_right(x, 14));
+    rotate_right(xor(x, rotate_right(far, 5)), 6)
 }
 
-/// The lower case sigma 0 (equation 4.6).
+/// The lower case sigma 0 (equation 4.6): the rotation by 18 inside of that by 7.
 #[inline(always)]
 pub(crate) fn small_sigma0(x: Words) -> Words
     ensures { (k : ℕ) → k < 8 → slice_index result k ≡ small_sigma0 (slice_index x k) }
 {
-    xor(
-        xor(rotate_right(x, 7), rotate_right(x, 18)),
-        shift_right(x, 3),
-    )
+    let both = rotate_right(xor(x, rotate_right(x, 11)), 7);
+    xor(both, shift_right(x, 3))
 }
 
-/// The lower case sigma 1 (equation 4.7).
+/// The lower case sigma 1 (equation 4.7): the rotation by 19 inside of that by 17.
 #[inline(always)]
 pub(crate) fn small_sigma1(x: Words) -> Words
     ensures { (k : ℕ) → k < 8 → slice_index result k ≡ small_sigma1 (slice_index x k) }
 {
-    xor(
-        xor(rotate_right(x, 17), rotate_right(x, 19)),
-        shift_right(x, 10),
-    )
+    let both = rotate_right(xor(x, rotate_right(x, 2)), 17);
+    xor(both, shift_right(x, 10))
 }

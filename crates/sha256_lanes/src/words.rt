@@ -1,5 +1,5 @@
 //! Operations on one word in each lane (section 3.2).
-ghost use Rattle.std.specs.Prelude.{◌≡◌, ℕ, ◌-◌, ◌<◌, ◌*◌, ◌/◌, ◌%◌, ◌^◌, slice_index, bit_and, bit_or, bit_xor};
+ghost use Rattle.std.specs.Prelude.{◌≡◌, ℕ, ◌-◌, ◌<◌, ◌*◌, ◌/◌, ◌%◌, ◌^◌, slice_index, bit_and, bit_or, bit_xor, if◌then◌else◌, nat_lt};
 ghost use Rattle.std.specs.Int.{w32, rotate_right};
 ghost use Rattle.sha2.specs.Sha256.{add32};
 
@@ -74,4 +74,13 @@ pub(crate) fn rotate_right(x: Words, by: u32) -> Words
     ensures { (k : ℕ) → k < 8 → slice_index result k ≡ rotate_right w32 (slice_index x k) by }
 {
     or(shift_right(x, by), shift_left(x, 32 - by))
+}
+
+/// The words of `x` in the lanes where `a` is below `b`, and those of `y` in the others.
+#[inline(always)]
+pub(crate) fn where_below(a: Words, b: Words, x: Words, y: Words) -> Words
+    ensures { (k : ℕ) → k < 8 → slice_index result k
+        ≡ (if nat_lt (slice_index a k) (slice_index b k) then slice_index x k else slice_index y k) }
+{
+    a.simd_lt(b).select(x, y)
 }

@@ -1,6 +1,7 @@
 use Rattle.std.proofs.Common.{◌≡◌, ◌∙◌, ◌+◌, ◌-◌, ◌%◌, ◌<◌, [], List, ℕ, ap, sym, subst, arith, rules, slice_index_or}
 use Rattle.lms_ots.specs.Chains.{leaf_of}
-use Rattle.lms_ots.specs.Lanes.{lane_of, end_of_lane}
+use Rattle.sha256_lanes.specs.Chains.{lane_of}
+use Rattle.lms_ots.specs.Lanes.{end_of_lane}
 use Rattle.lms_ots.proofs.LaneLaws.{set-keeps}
 use Rattle.lms_ots.proofs.lanes.run_all.Goals as goal
 

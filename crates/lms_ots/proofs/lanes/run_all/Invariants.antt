@@ -1,6 +1,7 @@
 use Rattle.std.proofs.Common.{◌≡◌, ◌≢◌, ℕ, ◌-◌, ◌%◌, ◌<◌, [], slice_index_or, length}
 use Rattle.lms_ots.specs.Chains.{leaf_of}
-use Rattle.lms_ots.specs.Lanes.{lane_of, end_of_lane, HoldsEnds}
+use Rattle.sha256_lanes.specs.Chains.{lane_of}
+use Rattle.lms_ots.specs.Lanes.{end_of_lane, HoldsEnds}
 use Rattle.lms_ots.proofs.lanes.run_all.Given as goal
 
 abbrev pub invariant-lanes : goal.invariant-lanes

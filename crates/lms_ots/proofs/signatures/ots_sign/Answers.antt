@@ -3,7 +3,7 @@ use Rattle.std.proofs.lemmas.List.{append-nil, take_all}
 use Rattle.std.specs.Int.{w32, to_be_bytes}
 use Rattle.lms_ots.specs.declared.sets.OtsSet.{OtsSet}
 use Rattle.lms_ots.specs.Sets.{type_of, chains_of}
-use Rattle.lms_ots.specs.Chains.{Leaf, leaf_of, start_of, joined}
+use Rattle.lms_ots.specs.Chains.{Leaf, leaf_of, head, start_of, joined}
 use Rattle.lms_ots.specs.Lanes.{end_in}
 use Rattle.lms_ots.specs.Signatures.{signed_part, candidate_of}
 use Rattle.lms_ots.proofs.ChainLaws.{joined_more, joined-same, length-steps, length-start}
@@ -33,7 +33,7 @@ loop-i-preserved c =
     let front = to_be_bytes w32 (type_of set) ++ c.args.c.now in
     let low : i < chains_of set = omega arith in
     let signed = c.run_all-ends.ensures i (chains-low set i low) ∙ c.signing_lanes-lanes.ensures.ends i low in
-    let size : length (y i) ≡ 32 = ap (λ (t : List ℕ). length t) signed ∙ length-steps leaf i 0 _ (start_of leaf c.args.seed.now i) (length-start leaf c.args.seed.now i) in
+    let size : length (y i) ≡ 32 = ap (λ (t : List ℕ). length t) signed ∙ length-steps (head leaf) i 0 _ (start_of leaf c.args.seed.now i) (length-start leaf c.args.seed.now i) in
     let long : 36 + 32 * i + length (y i) ≡ 36 + 32 * (i + 1) = omega (arith, size) in
     let two : take (36 + 32 * (i + 1)) c.put-in-loop-i.new.out ≡ take (36 + 32 * i) c.loop-i.out ++ y i = subst (λ (k : ℕ). take k c.put-in-loop-i.new.out ≡ take (36 + 32 * i) c.loop-i.out ++ y i) long put in
     record {

@@ -2,7 +2,8 @@ use Rattle.std.proofs.Common.{◌≡◌, ℕ, ◌<◌, length}
 use Rattle.lms_ots.specs.Sets.{chains_of}
 use Rattle.lms_ots.specs.Chains.{Leaf}
 use Rattle.lms_ots.specs.Signatures.{end_from}
-use Rattle.lms_ots.specs.Lanes.{lane_of, end_of_lane}
+use Rattle.sha256_lanes.specs.Chains.{lane_of}
+use Rattle.lms_ots.specs.Lanes.{end_of_lane}
 use Rattle.lms_ots.proofs.tables.candidate_lanes.Given as goal
 
 abbrev pub invariant-lanes : goal.invariant-lanes

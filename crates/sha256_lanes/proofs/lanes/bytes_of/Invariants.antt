@@ -1,0 +1,7 @@
+use Rattle.std.proofs.Common.{◌≡◌, ◌*◌, length, take}
+use Rattle.sha2.specs.Sha256.{digest_bytes}
+use Rattle.sha256_lanes.specs.Lanes.{state_of}
+use Rattle.sha256_lanes.proofs.lanes.bytes_of.Given as goal
+
+abbrev pub invariant-words : goal.invariant-words
+invariant-words l = (length l.bytes ≡ 32) × (take (4 * l.i) l.bytes ≡ digest_bytes (state_of l.lane l.values) l.i)
