@@ -6,6 +6,7 @@ mod network;
 mod operations;
 mod others;
 mod protocol;
+mod spellings;
 mod transactions;
 
 use schedule_text::line::{Line, LineFault};

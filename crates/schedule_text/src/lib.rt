@@ -7,7 +7,5 @@ mod kinds;
 pub mod laws;
 pub mod line;
 pub mod reading;
-#[cfg(test)]
-mod tests;
 mod words;
 pub mod writing;

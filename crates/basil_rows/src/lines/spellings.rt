@@ -1,8 +1,8 @@
-//! Lines, with the reasons of those that are refused.
+//! Lines of each kind, the long ones and the numbers behind the last.
 
-use crate::line::{Line, LineFault};
-use crate::reading::read_line;
-use crate::writing::write_line;
+use schedule_text::line::{Line, LineFault};
+use schedule_text::reading::read_line;
+use schedule_text::writing::write_line;
 
 /// Lines that are read, each the one spelling of its value.
 const TAKEN: [&str; 34] = [
