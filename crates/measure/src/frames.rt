@@ -23,16 +23,29 @@ pub enum Size {
     Whole,
 }
 
-/// What is done with a frame.
+/// What is done with a frame once it is checked.
 #[derive(Clone, Copy, Debug, PartialEq, Eq)]
 pub enum Reading {
-    /// It is checked.
+    /// Nothing more.
     Check,
-    /// It is checked once, and then every signature is asked for.
+    /// Every signature is asked for.
     Signatures,
-    /// It is checked once, and then its lists are walked.
+    /// Its lists are walked.
     Walk,
 }
+
+/// Where a frame lies when it is read.
+#[derive(Clone, Copy, Debug, PartialEq, Eq)]
+pub enum Place {
+    /// One frame is read again and again, so that it lies in the processor's caches.
+    Caches,
+    /// Copies of some 64 million bytes are read in turn, so that each comes from memory, as one does that
+    /// has just been received.
+    Memory,
+}
+
+/// The bytes of the copies that are read in turn.
+const COPIED: usize = 64_000_000;
 
 /// The cluster of the largest shards, with so many of them.
 fn cluster_of(shards: u8) -> Option<Cluster> {
@@ -46,17 +59,6 @@ fn frame_of(alloc: Global, cluster: &Cluster, size: Size) -> Result<Vec<u8>, NoM
     }
 }
 
-/// How often the frame is in the grammar.
-fn check_often(frame: &[u8], cluster: &Cluster, count: u32) -> u64 {
-    let mut sum = 0u64;
-    for _ in 0..count {
-        if check(frame, cluster).is_ok() {
-            sum = sum.saturating_add(1);
-        }
-    }
-    sum
-}
-
 /// The bytes of all signatures of a message.
 fn signature_bytes(m: &MessageView<'_>) -> u64
     requires { IsSpoken (message_of m.now) }
@@ -64,17 +66,6 @@ fn signature_bytes(m: &MessageView<'_>) -> u64
     let mut sum = 0u64;
     for item in signatures(m) {
         sum = sum.saturating_add(item.signature.len() as u64);
-    }
-    sum
-}
-
-fn sign_often(frame: &[u8], cluster: &Cluster, count: u32) -> u64 {
-    let Ok(m) = check(frame, cluster) else {
-        return 0;
-    };
-    let mut sum = 0u64;
-    for _ in 0..count {
-        sum = sum.saturating_add(signature_bytes(&m));
     }
     sum
 }
@@ -107,22 +98,48 @@ fn walk(m: &MessageView<'_>) -> u64 {
     }
 }
 
-fn walk_often(frame: &[u8], cluster: &Cluster, count: u32) -> u64 {
+/// What comes of one reading of a frame.
+fn read(frame: &[u8], cluster: &Cluster, reading: Reading) -> u64 {
     let Ok(m) = check(frame, cluster) else {
         return 0;
     };
+    match reading {
+        Reading::Check => 1,
+        Reading::Signatures => signature_bytes(&m),
+        Reading::Walk => walk(&m),
+    }
+}
+
+/// As many copies of the frame as a place wants.
+fn copies_of(alloc: Global, frame: &[u8], place: Place) -> Result<Vec<Vec<u8>>, NoMemory> {
+    let copies = match place {
+        Place::Caches => 1,
+        Place::Memory => COPIED / frame.len().max(1),
+    };
+    let mut frames = Vec::new(alloc);
+    for _ in 0..copies {
+        frames.push(Vec::from_slice(alloc, frame)?)?;
+    }
+    Ok(frames)
+}
+
+/// Reads so many frames, in turn, and adds up what comes of it.
+fn read_in_turn(frames: &[Vec<u8>], cluster: &Cluster, reading: Reading, count: u32) -> u64 {
     let mut sum = 0u64;
-    for _ in 0..count {
-        sum = sum.saturating_add(walk(&m));
+    for i in 0..count {
+        if let Some(frame) = frames.get(i as usize % frames.len().max(1)) {
+            sum = sum.saturating_add(read(frame, cluster, reading));
+        }
     }
     sum
 }
 
-/// Reads a frame of this size so many times, and adds up what comes of it.
+/// Reads frames of this size so many times, and adds up what comes of it.
 pub fn read_often(
     alloc: Global,
     reading: Reading,
     size: Size,
+    place: Place,
     count: u32,
 ) -> Result<u64, NoMemory> {
     let shards = match size {
@@ -134,9 +151,6 @@ pub fn read_often(
         return Ok(0);
     };
     let frame = frame_of(alloc, &cluster, size)?;
-    Ok(match reading {
-        Reading::Check => check_often(&frame, &cluster, count),
-        Reading::Signatures => sign_often(&frame, &cluster, count),
-        Reading::Walk => walk_often(&frame, &cluster, count),
-    })
+    let frames = copies_of(alloc, &frame, place)?;
+    Ok(read_in_turn(&frames, &cluster, reading, count))
 }

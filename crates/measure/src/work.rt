@@ -1,7 +1,7 @@
 //! The works, by name.
 
 use crate::decisions::{Proving, make_rings, prove};
-use crate::frames::{Reading, Size, read_often};
+use crate::frames::{Place, Reading, Size, read_often};
 use crate::lines::{long_line, short_lines};
 use crate::made::Votes;
 use crate::signatures::{make_keys, sign, verify_often};
@@ -22,8 +22,8 @@ pub enum Work {
     Sign(LmsSet),
     /// Makes a key and a signature, and verifies it so many times.
     Verify(LmsSet),
-    /// Makes a frame, and reads it so many times.
-    Read(Reading, Size),
+    /// Makes frames of a size, and reads so many.
+    Read(Reading, Size, Place),
     /// Makes a certificate of 21 replicas of so many shards, and proves it so many times.
     Prove(Proving, Votes, u8),
     /// Makes the keys of a replay of the largest cluster so many times.
@@ -46,24 +46,66 @@ const WORKS: &[(&str, Work)] = &[
     ("verify-w4h10", Work::Verify(LmsSet::W4H10)),
     ("verify-w8h5", Work::Verify(LmsSet::W8H5)),
     ("verify-w8h10", Work::Verify(LmsSet::W8H10)),
-    ("check-small", Work::Read(Reading::Check, Size::Small)),
-    ("check-half", Work::Read(Reading::Check, Size::Half)),
-    ("check-whole", Work::Read(Reading::Check, Size::Whole)),
+    (
+        "check-small",
+        Work::Read(Reading::Check, Size::Small, Place::Caches),
+    ),
+    (
+        "check-half",
+        Work::Read(Reading::Check, Size::Half, Place::Caches),
+    ),
+    (
+        "check-whole",
+        Work::Read(Reading::Check, Size::Whole, Place::Caches),
+    ),
+    (
+        "check-half-received",
+        Work::Read(Reading::Check, Size::Half, Place::Memory),
+    ),
+    (
+        "check-whole-received",
+        Work::Read(Reading::Check, Size::Whole, Place::Memory),
+    ),
     (
         "signatures-small",
-        Work::Read(Reading::Signatures, Size::Small),
+        Work::Read(Reading::Signatures, Size::Small, Place::Caches),
     ),
     (
         "signatures-half",
-        Work::Read(Reading::Signatures, Size::Half),
+        Work::Read(Reading::Signatures, Size::Half, Place::Caches),
     ),
     (
         "signatures-whole",
-        Work::Read(Reading::Signatures, Size::Whole),
+        Work::Read(Reading::Signatures, Size::Whole, Place::Caches),
     ),
-    ("walk-small", Work::Read(Reading::Walk, Size::Small)),
-    ("walk-half", Work::Read(Reading::Walk, Size::Half)),
-    ("walk-whole", Work::Read(Reading::Walk, Size::Whole)),
+    (
+        "signatures-half-received",
+        Work::Read(Reading::Signatures, Size::Half, Place::Memory),
+    ),
+    (
+        "signatures-whole-received",
+        Work::Read(Reading::Signatures, Size::Whole, Place::Memory),
+    ),
+    (
+        "walk-small",
+        Work::Read(Reading::Walk, Size::Small, Place::Caches),
+    ),
+    (
+        "walk-half",
+        Work::Read(Reading::Walk, Size::Half, Place::Caches),
+    ),
+    (
+        "walk-whole",
+        Work::Read(Reading::Walk, Size::Whole, Place::Caches),
+    ),
+    (
+        "walk-half-received",
+        Work::Read(Reading::Walk, Size::Half, Place::Memory),
+    ),
+    (
+        "walk-whole-received",
+        Work::Read(Reading::Walk, Size::Whole, Place::Memory),
+    ),
     (
         "prove-plain-half",
         Work::Prove(Proving::Certificate, Votes::Plain, 4),
@@ -104,7 +146,7 @@ pub fn checksum(alloc: Global, work: Work, count: u32) -> Result<u64, NoMemory> 
         Work::Keys(set) => make_keys(alloc, set, count),
         Work::Sign(set) => sign(alloc, set, count),
         Work::Verify(set) => verify_often(alloc, set, count),
-        Work::Read(reading, size) => read_often(alloc, reading, size, count),
+        Work::Read(reading, size, place) => read_often(alloc, reading, size, place, count),
         Work::Prove(proving, votes, shards) => prove(alloc, proving, votes, shards, count),
         Work::Rings(set) => make_rings(alloc, set, count),
     }
