@@ -1,8 +1,8 @@
 -- Bytes that are appended one piece after the other.
-use Rattle.std.proofs.Common.{◌≡◌, ℕ, List, [], ◌∷◌, ◌++◌, Result, OnOk, refl, ap, subst, ◌∙◌, append_assoc}
+use Rattle.std.proofs.Common.{◌≡◌, ℕ, List, ◌∷◌, ◌++◌, refl, ap, ◌∙◌, append_assoc}
 use Rattle.frame_views.specs.Fitting.{widest, FitsCommit}
-use Rattle.frame_views.specs.Spelling.{certificate_bytes, commit_bytes, spelling}
-use Rattle.frame_views.specs.Values.{CommitBody, TallyValue, ConflictValue, BodyValue, Commits, FastAbort, ConflictAbort, CertificateValue, as_commit, commit_with, MessageValue}
+use Rattle.frame_views.specs.Spelling.{certificate_bytes, commit_bytes}
+use Rattle.frame_views.specs.Values.{BodyValue, Commits, FastAbort, ConflictAbort, CertificateValue, as_commit, commit_with}
 
 pub joined : (before first second now later : List ℕ) → now ≡ before ++ first → later ≡ now ++ second → later ≡ before ++ (first ++ second)
 joined before first second now later e next = next ∙ ap (λ (z : List ℕ). z ++ second) e ∙ append_assoc before first second
@@ -32,7 +32,3 @@ conflict-joined-of before id signature transaction proof signature' transaction'
     ∙ ap (λ (z : List ℕ). before ++ 4 ∷ (id ++ shard ∷ replica ∷ (z ++ (transaction ++ proof)))) s
     ∙ ap (λ (z : List ℕ). before ++ 4 ∷ (id ++ shard ∷ replica ∷ (signature' ++ (z ++ proof)))) t
     ∙ ap (λ (z : List ℕ). before ++ 4 ∷ (id ++ shard ∷ replica ∷ (signature' ++ (transaction' ++ z)))) p
-
--- the frame of a message is that of an equal one
-pub told : {E : Type 0} (answer : Result (Unit {0}) E) (before later : List ℕ) (m n : MessageValue) → m ≡ n → OnOk answer (later ≡ before ++ spelling m) → OnOk answer (later ≡ before ++ spelling n)
-told answer before later m n e = subst (λ (v : MessageValue). OnOk answer (later ≡ before ++ spelling v)) e

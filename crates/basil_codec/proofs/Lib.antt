@@ -1,6 +1,2 @@
 pub mod PartLaws
 pub mod JoinLaws
-pub mod WiderLaws
-pub mod LengthLaws
-pub mod RoomWalks
-pub mod RoomLaws

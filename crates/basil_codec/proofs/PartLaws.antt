@@ -1,12 +1,11 @@
 -- What a list of parts that fits gives each of its parts.
-use Rattle.std.proofs.Common.{◌≡◌, ℕ, ◌<◌, ◌≤◌, List, [], ◌∷◌, All, map, length, sym, subst, arith}
+use Rattle.std.proofs.Common.{ℕ, List, [], ◌∷◌, All, map, arith}
 use Rattle.std.specs.List.{AllByRecursion}
-use Rattle.std.proofs.lemmas.List.{length-map}
 use Rattle.std.proofs.lemmas.List.Elements.{All-from_recursion}
 use Rattle.basil_types.specs.Lists.{AreItems}
 use Rattle.frame_views.specs.declared.bounds.Bounds.{Bounds}
-use Rattle.frame_views.specs.Values.{LogValue, BodyValue, CertificateValue}
-use Rattle.frame_views.specs.Fitting.{widest, AreCounted, FitsLog, FitsCertificate, after_log}
+use Rattle.frame_views.specs.Values.{LogValue}
+use Rattle.frame_views.specs.Fitting.{AreCounted, FitsLog, after_log}
 use Rattle.basil_codec.specs.Written.{FitsItem}
 
 module _ {P V : Type 0} (Fit : ℕ → V → Type 0) (next : V → ℕ) (of : P → V) where
@@ -17,9 +16,6 @@ module _ {P V : Type 0} (Fit : ℕ → V → Type 0) (next : V → ℕ) (of : P 
   pub each_fits : (ps : List P) → AreCounted Fit next (map of ps) → All (λ p. FitsItem Fit (of p)) ps
   each_fits ps fits = All-from_recursion (λ p. FitsItem Fit (of p)) ps (parts-fit 0 ps fits.each)
 
-  pub few_parts : (ps : List P) → AreCounted Fit next (map of ps) → length ps < 256
-  few_parts ps fits = omega (arith, fits.count, length-map ps of)
-
 -- a log reply of a view is one of any view
 logs-fit : (b : Bounds) (decided floor : ℕ) (logs : List LogValue) → AreItems (FitsLog b decided) after_log floor logs → AreItems (FitsLog b 0) after_log floor logs
 logs-fit b decided floor [] fits = tt
@@ -29,8 +25,3 @@ logs-fit b decided floor (l ∷ logs) fits =
 
 pub any_view : (b : Bounds) (decided : ℕ) (logs : List LogValue) → AreCounted (FitsLog b decided) after_log logs → AreCounted (FitsLog b 0) after_log logs
 any_view b decided logs fits = record { count = fits.count; each = logs-fit b decided 0 logs fits.each }
-
--- a certificate of the fields of one that fits
-pub of_fields : (c : CertificateValue) (id : List ℕ) (body : BodyValue) → id ≡ c.id → body ≡ c.body → FitsCertificate widest c → FitsCertificate widest (record { id = id; body = body })
-of_fields c id body i b fits =
-    subst (λ (x : List ℕ). FitsCertificate widest (record { id = x; body = body })) (sym i) (subst (λ (y : BodyValue). FitsCertificate widest (record { id = c.id; body = y })) (sym b) fits)

@@ -1,11 +1,15 @@
-//! Owned messages and certificates: made of views of frames, and written as frames.
+//! Frames and certificates written: of borrowed parts, and of owned values.
 #![tactic(auto)]
 
-pub mod decoding;
-pub mod encoding;
-pub mod fitting;
-pub mod laws;
-pub mod lengths;
-pub mod owned;
-#[cfg(test)]
-mod tests;
+mod certificates;
+mod fields;
+mod frames;
+mod lists;
+mod messages;
+
+pub use certificates::put_certificate;
+pub use frames::{
+    put_decide, put_elect, put_invoke, put_log_reply, put_message, put_read, put_read_reply,
+    put_recover, put_st1, put_st2, put_vote, put_writeback,
+};
+pub use messages::{encode_into, put_decide_parts, put_invoke_parts, put_st2_parts};

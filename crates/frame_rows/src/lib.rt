@@ -1,5 +1,19 @@
-//! Tests of frames: the first fault of each change of one frame.
+//! Tests that cross crates: frames of an independent program, what is refused, and the longest frames.
 #![tactic(auto)]
 
 #[cfg(test)]
+mod clients;
+#[cfg(test)]
 mod faults;
+#[cfg(test)]
+mod longest;
+#[cfg(test)]
+mod refusals;
+#[cfg(test)]
+mod replicas;
+#[cfg(test)]
+mod telling;
+#[cfg(test)]
+mod writebacks;
+#[cfg(test)]
+mod writers;

@@ -1,6 +1,0 @@
-use Rattle.std.proofs.Common.{◌≡◌}
-use Rattle.basil_codec.proofs.LengthLaws.{frame_length}
-use Rattle.basil_codec.proofs.lengths.below_the_limit.Goals as goal
-
-pub returns : goal.returns
-returns c = λ cluster m is fits short. frame_length cluster is m fits short

@@ -1,0 +1,2 @@
+pub mod RoomWalks
+pub mod RoomLaws

@@ -1,0 +1,92 @@
+//! The longest frames.
+
+use basil_codec::encode_into;
+use basil_types::bytes::{Bytes, id_of};
+use basil_types::cluster::Cluster;
+use basil_types::list::List;
+use basil_types::transaction::Transaction;
+use frame_fitting::fits;
+use frame_fitting::laws::fitting_may_be_written;
+use frame_laws::lengths::{below_the_limit, longest_certificates, longest_transaction};
+use frame_laws::wider::may_be_written;
+use frame_values::owned::{
+    Certificate, CertificateBody, Message, ShardVotes, VotePart, WritebackMessage,
+};
+use frame_views::frames::check;
+use frame_views::signed::{Signatures, signatures};
+use std::alloc::Global;
+use std::process::Abort;
+use std::test::Fail;
+
+/// Votes of all replicas of a shard with f = 6, of 2,508 bytes each.
+fn full_votes(alloc: Global) -> Result<List<VotePart>, Fail> {
+    let mut votes = Vec::new(alloc);
+    for replica in 0..31u8 {
+        let signature = Bytes::from_vec(vec![in alloc; replica; 2508]?);
+        votes.push(VotePart { replica, signature })?;
+    }
+    Ok(List::from_vec(votes))
+}
+
+/// The votes of eight shards.
+fn full_tallies(alloc: Global) -> Result<List<ShardVotes>, Fail> {
+    let mut tallies = Vec::new(alloc);
+    for shard in 0..8u8 {
+        let votes = full_votes(alloc)?;
+        tallies.push(ShardVotes { shard, votes })?;
+    }
+    Ok(List::from_vec(tallies))
+}
+
+fn signature_count(frame: &[u8], cluster: &Cluster) -> Result<usize, Fail> {
+    match check(frame, cluster) {
+        Ok(message) => Ok(count(signatures(&message))),
+        Err(_) => Err(Fail::from("refused")),
+    }
+}
+
+fn count(all: Signatures<'_>) -> usize {
+    let mut count = 0usize;
+    for _item in all {
+        count = count.wrapping_add(1);
+    }
+    count
+}
+
+/// The longest commit certificate has 622,778 bytes, and stands behind a kind and a transaction of 12 bytes.
+#[test]
+fn longest_commit_is_written(rt: HostRuntime) -> Result<(), Fail> {
+    may_be_written();
+    below_the_limit();
+    longest_transaction();
+    longest_certificates();
+    let cluster = Cluster::new(6, 8, 7, 100)?;
+    let transaction = Transaction::build(rt.alloc(), 10, 1, &[], &[])?;
+    let id = id_of(transaction.view().bytes());
+    let tallies = full_tallies(rt.alloc())?;
+    let certificate = Certificate {
+        id,
+        body: CertificateBody::FastCommit { tallies },
+    };
+    let message = Message::Writeback(WritebackMessage {
+        transaction,
+        certificate,
+    });
+    written(&rt, rt.alloc(), &cluster, &message)
+}
+
+/// The writeback of the longest commit certificate is written, and 248 signatures are read in it.
+fn written(
+    rt: &impl Abort,
+    alloc: Global,
+    cluster: &Cluster,
+    message: &Message,
+) -> Result<(), Fail> {
+    assert!(rt; fits(message, cluster));
+    fitting_may_be_written(cluster, message);
+    let mut out = Vec::new(alloc);
+    encode_into(message, &mut out)?;
+    assert_eq!(rt; out.len(), 622_791);
+    assert_eq!(rt; signature_count(&out, cluster)?, 248);
+    Ok(())
+}
