@@ -22,6 +22,30 @@ pub(crate) fn signature(bytes: &[u8]) -> Result<(&[u8], &[u8]), Fault>
     }
 }
 
+/// A signature of a list, where most are as long as one another. Where this one is as long as `usual`, what stands behind it
+/// is known before its length has come from memory, and a processor that guesses so reads on meanwhile. `usual` decides
+/// nothing else.
+#[tactic(auto, unfolding(crate::specs::Grammar::signature_at))]
+pub(crate) fn signature_like(usual: usize, bytes: &[u8]) -> Result<(&[u8], &[u8]), Fault>
+    ensures { Gives (λ x. (x.0.now, x.1.now)) result (signature_at bytes.now) }
+{
+    let (count, rest) = u16_at(bytes)?;
+    if 1 <= count && count <= 8192 && count as usize == usual {
+        run(usual, rest)
+    } else {
+        other_signature(bytes)
+    }
+}
+
+/// A signature of any length. It stays a call, or a compiler would join both ways into the one that waits.
+#[cold]
+#[inline(never)]
+fn other_signature(bytes: &[u8]) -> Result<(&[u8], &[u8]), Fault>
+    ensures { Gives (λ x. (x.0.now, x.1.now)) result (signature_at bytes.now) }
+{
+    signature(bytes)
+}
+
 /// A decision: 0 to commit, 1 to abort.
 #[tactic(auto, unfolding(crate::specs::Grammar::decision_at))]
 pub(crate) fn decision(bytes: &[u8]) -> Result<(Decision, &[u8]), Fault>

@@ -39,9 +39,9 @@ pub enum Reading {
 pub enum Place {
     /// One frame is read again and again, so that it lies in the processor's caches.
     Caches,
-    /// Copies of some 64 million bytes are read in turn, so that each comes from memory, as one does that
-    /// has just been received.
-    Memory,
+    /// Copies of some 64 million bytes are read in turn, so that each lies beyond the near caches, as one does
+    /// that has just been received.
+    Received,
 }
 
 /// The bytes of the copies that are read in turn.
@@ -114,7 +114,7 @@ fn read(frame: &[u8], cluster: &Cluster, reading: Reading) -> u64 {
 fn copies_of(alloc: Global, frame: &[u8], place: Place) -> Result<Vec<Vec<u8>>, NoMemory> {
     let copies = match place {
         Place::Caches => 1,
-        Place::Memory => COPIED / frame.len().max(1),
+        Place::Received => COPIED / frame.len().max(1),
     };
     let mut frames = Vec::new(alloc);
     for _ in 0..copies {

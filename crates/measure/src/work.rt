@@ -60,11 +60,11 @@ const WORKS: &[(&str, Work)] = &[
     ),
     (
         "check-half-received",
-        Work::Read(Reading::Check, Size::Half, Place::Memory),
+        Work::Read(Reading::Check, Size::Half, Place::Received),
     ),
     (
         "check-whole-received",
-        Work::Read(Reading::Check, Size::Whole, Place::Memory),
+        Work::Read(Reading::Check, Size::Whole, Place::Received),
     ),
     (
         "signatures-small",
@@ -80,11 +80,11 @@ const WORKS: &[(&str, Work)] = &[
     ),
     (
         "signatures-half-received",
-        Work::Read(Reading::Signatures, Size::Half, Place::Memory),
+        Work::Read(Reading::Signatures, Size::Half, Place::Received),
     ),
     (
         "signatures-whole-received",
-        Work::Read(Reading::Signatures, Size::Whole, Place::Memory),
+        Work::Read(Reading::Signatures, Size::Whole, Place::Received),
     ),
     (
         "walk-small",
@@ -100,11 +100,11 @@ const WORKS: &[(&str, Work)] = &[
     ),
     (
         "walk-half-received",
-        Work::Read(Reading::Walk, Size::Half, Place::Memory),
+        Work::Read(Reading::Walk, Size::Half, Place::Received),
     ),
     (
         "walk-whole-received",
-        Work::Read(Reading::Walk, Size::Whole, Place::Memory),
+        Work::Read(Reading::Walk, Size::Whole, Place::Received),
     ),
     (
         "prove-plain-half",

@@ -7,7 +7,7 @@ ghost use Rattle.frame_views.specs.Grammar.{log_at};
 ghost use Rattle.frame_views.specs.Lists.{spells_logs, logs_in};
 
 use crate::bounds::{Bounds, WIDEST};
-use crate::fields::{next_number, number_from, signature};
+use crate::fields::{next_number, number_from, signature_like};
 use basil_types::reading::{Fault, byte};
 
 /// A log reply of a certificate: the replica, its current view and its signature.
@@ -33,6 +33,8 @@ pub struct LogsView<'a> {
 pub struct LogsIter<'a> {
     left: u8,
     floor: u16,
+    /// The length of the signature before.
+    usual: usize,
     rest: &'a [u8],
     ghost whole: { IsTrue (is_whole (items_at (log_at widest 0) after_log left floor rest.now)) },
 }
@@ -49,13 +51,14 @@ impl<'a> LogItem<'a> {
         bounds: Bounds,
         decided: u64,
         floor: u16,
+        usual: usize,
         bytes: &'a [u8],
     ) -> Result<(LogItem<'a>, &'a [u8]), Fault>
         ensures { Gives (λ x. (log_of x.0, x.1.now)) result (log_at bounds decided floor bytes.now) }
     {
         let (replica, rest) = next_number(bounds.replicas, floor, bytes)?;
         let (current, rest) = number_from(decided, rest)?;
-        let (signature, rest) = signature(rest)?;
+        let (signature, rest) = signature_like(usual, rest)?;
         Ok((
             LogItem {
                 replica,
@@ -108,9 +111,11 @@ impl<'a> LogsView<'a> {
     {
         let mut rest = bytes;
         let mut floor = 0u16;
+        let mut usual = 0usize;
         for _ in 0..count {
-            let (item, after) = LogItem::read(bounds, decided, floor, rest)?;
+            let (item, after) = LogItem::read(bounds, decided, floor, usual, rest)?;
             floor = item.replica as u16 + 1;
+            usual = item.signature.len();
             rest = after;
         }
         Ok((
@@ -131,14 +136,16 @@ impl<'a> LogsView<'a> {
         ensures { option_map log_of result ≡ slice_get (logs_of self.now) place }
     {
         let mut floor = 0u16;
+        let mut usual = 0usize;
         let mut rest = self.bytes;
         for i in 0..self.count {
-            match LogItem::read(WIDEST, 0, floor, rest) {
+            match LogItem::read(WIDEST, 0, floor, usual, rest) {
                 Ok((item, after)) => {
                     if i as usize == place {
                         return Some(item);
                     }
                     floor = item.replica as u16 + 1;
+                    usual = item.signature.len();
                     rest = after;
                 }
                 Err(_) => return None,
@@ -154,6 +161,7 @@ impl<'a> LogsView<'a> {
         LogsIter {
             left: self.count,
             floor: 0,
+            usual: 0,
             rest: self.bytes,
         }
     }
@@ -173,10 +181,11 @@ impl<'a> Iterator for LogsIter<'a> {
         if self.left == 0 {
             return None;
         }
-        match LogItem::read(WIDEST, 0, self.floor, self.rest) {
+        match LogItem::read(WIDEST, 0, self.floor, self.usual, self.rest) {
             Ok((item, after)) => {
                 self.left -= 1;
                 self.floor = item.replica as u16 + 1;
+                self.usual = item.signature.len();
                 self.rest = after;
                 Some(item)
             }

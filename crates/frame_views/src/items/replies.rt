@@ -7,7 +7,7 @@ ghost use Rattle.frame_views.specs.Grammar.{reply_at};
 ghost use Rattle.frame_views.specs.Lists.{spells_replies, replies_in};
 
 use crate::bounds::{Bounds, WIDEST};
-use crate::fields::{decision, next_number, number_from, signature};
+use crate::fields::{decision, next_number, number_from, signature_like};
 use basil_types::party::Decision;
 use basil_types::reading::{Fault, byte, in_range, u64_at};
 
@@ -37,6 +37,8 @@ pub struct InvokesView<'a> {
 pub struct InvokesIter<'a> {
     left: u8,
     floor: u16,
+    /// The length of the signature before.
+    usual: usize,
     rest: &'a [u8],
     ghost whole: { IsTrue (is_whole (items_at (reply_at widest) after_reply left floor rest.now)) },
 }
@@ -52,6 +54,7 @@ impl<'a> InvokeItem<'a> {
     pub(super) fn read(
         bounds: Bounds,
         floor: u16,
+        usual: usize,
         bytes: &'a [u8],
     ) -> Result<(InvokeItem<'a>, &'a [u8]), Fault>
         ensures { Gives (λ x. (reply_of x.0, x.1.now)) result (reply_at bounds floor bytes.now) }
@@ -60,7 +63,7 @@ impl<'a> InvokeItem<'a> {
         let (decision, rest) = decision(rest)?;
         let (decided, rest) = u64_at(rest)?;
         let (current, rest) = number_from(decided, rest)?;
-        let (signature, rest) = signature(rest)?;
+        let (signature, rest) = signature_like(usual, rest)?;
         Ok((
             InvokeItem {
                 replica,
@@ -115,9 +118,11 @@ impl<'a> InvokesView<'a> {
     {
         let mut rest = bytes;
         let mut floor = 0u16;
+        let mut usual = 0usize;
         for _ in 0..count {
-            let (item, after) = InvokeItem::read(bounds, floor, rest)?;
+            let (item, after) = InvokeItem::read(bounds, floor, usual, rest)?;
             floor = item.replica as u16 + 1;
+            usual = item.signature.len();
             rest = after;
         }
         Ok((
@@ -138,14 +143,16 @@ impl<'a> InvokesView<'a> {
         ensures { option_map reply_of result ≡ slice_get (replies_of self.now) place }
     {
         let mut floor = 0u16;
+        let mut usual = 0usize;
         let mut rest = self.bytes;
         for i in 0..self.count {
-            match InvokeItem::read(WIDEST, floor, rest) {
+            match InvokeItem::read(WIDEST, floor, usual, rest) {
                 Ok((item, after)) => {
                     if i as usize == place {
                         return Some(item);
                     }
                     floor = item.replica as u16 + 1;
+                    usual = item.signature.len();
                     rest = after;
                 }
                 Err(_) => return None,
@@ -168,6 +175,7 @@ impl<'a> InvokesView<'a> {
         InvokesIter {
             left: self.count,
             floor: 0,
+            usual: 0,
             rest: self.bytes,
         }
     }
@@ -187,10 +195,11 @@ impl<'a> Iterator for InvokesIter<'a> {
         if self.left == 0 {
             return None;
         }
-        match InvokeItem::read(WIDEST, self.floor, self.rest) {
+        match InvokeItem::read(WIDEST, self.floor, self.usual, self.rest) {
             Ok((item, after)) => {
                 self.left -= 1;
                 self.floor = item.replica as u16 + 1;
+                self.usual = item.signature.len();
                 self.rest = after;
                 Some(item)
             }

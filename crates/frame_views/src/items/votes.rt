@@ -7,7 +7,7 @@ ghost use Rattle.frame_views.specs.Grammar.{vote_at};
 ghost use Rattle.frame_views.specs.Lists.{spells_votes, votes_in};
 
 use crate::bounds::{Bounds, WIDEST};
-use crate::fields::{next_number, signature};
+use crate::fields::{next_number, signature_like};
 use basil_types::reading::{Fault, byte};
 
 /// A vote in a list: the replica and its signature.
@@ -31,6 +31,8 @@ pub struct VotesView<'a> {
 pub struct VotesIter<'a> {
     left: u8,
     floor: u16,
+    /// The length of the signature before.
+    usual: usize,
     rest: &'a [u8],
     ghost whole: { IsTrue (is_whole (items_at (vote_at widest) after_vote left floor rest.now)) },
 }
@@ -46,12 +48,13 @@ impl<'a> VoteItem<'a> {
     pub(super) fn read(
         bounds: Bounds,
         floor: u16,
+        usual: usize,
         bytes: &'a [u8],
     ) -> Result<(VoteItem<'a>, &'a [u8]), Fault>
         ensures { Gives (λ x. (vote_of x.0, x.1.now)) result (vote_at bounds floor bytes.now) }
     {
         let (replica, rest) = next_number(bounds.replicas, floor, bytes)?;
-        let (signature, rest) = signature(rest)?;
+        let (signature, rest) = signature_like(usual, rest)?;
         Ok((VoteItem { replica, signature }, rest))
     }
 }
@@ -92,9 +95,11 @@ impl<'a> VotesView<'a> {
     {
         let mut rest = bytes;
         let mut floor = 0u16;
+        let mut usual = 0usize;
         for _ in 0..count {
-            let (item, after) = VoteItem::read(bounds, floor, rest)?;
+            let (item, after) = VoteItem::read(bounds, floor, usual, rest)?;
             floor = item.replica as u16 + 1;
+            usual = item.signature.len();
             rest = after;
         }
         Ok((
@@ -115,14 +120,16 @@ impl<'a> VotesView<'a> {
         ensures { option_map vote_of result ≡ slice_get (votes_of self.now) place }
     {
         let mut floor = 0u16;
+        let mut usual = 0usize;
         let mut rest = self.bytes;
         for i in 0..self.count {
-            match VoteItem::read(WIDEST, floor, rest) {
+            match VoteItem::read(WIDEST, floor, usual, rest) {
                 Ok((item, after)) => {
                     if i as usize == place {
                         return Some(item);
                     }
                     floor = item.replica as u16 + 1;
+                    usual = item.signature.len();
                     rest = after;
                 }
                 Err(_) => return None,
@@ -138,6 +145,7 @@ impl<'a> VotesView<'a> {
         VotesIter {
             left: self.count,
             floor: 0,
+            usual: 0,
             rest: self.bytes,
         }
     }
@@ -155,6 +163,7 @@ impl<'a> VotesIter<'a> {
         VotesIter {
             left: 0,
             floor: 0,
+            usual: 0,
             rest: &[],
         }
     }
@@ -174,10 +183,11 @@ impl<'a> Iterator for VotesIter<'a> {
         if self.left == 0 {
             return None;
         }
-        match VoteItem::read(WIDEST, self.floor, self.rest) {
+        match VoteItem::read(WIDEST, self.floor, self.usual, self.rest) {
             Ok((item, after)) => {
                 self.left -= 1;
                 self.floor = item.replica as u16 + 1;
+                self.usual = item.signature.len();
                 self.rest = after;
                 Some(item)
             }

@@ -7,7 +7,7 @@ ghost use Rattle.frame_views.specs.Grammar.{word_at};
 ghost use Rattle.frame_views.specs.Lists.{spells_elects, elects_in};
 
 use crate::bounds::{Bounds, WIDEST};
-use crate::fields::{decision, next_number, signature};
+use crate::fields::{decision, next_number, signature_like};
 use basil_types::party::Decision;
 use basil_types::reading::{Fault, byte, in_range};
 
@@ -33,6 +33,8 @@ pub struct ElectsView<'a> {
 pub struct ElectsIter<'a> {
     left: u8,
     floor: u16,
+    /// The length of the signature before.
+    usual: usize,
     rest: &'a [u8],
     ghost whole: { IsTrue (is_whole (items_at (word_at widest) after_word left floor rest.now)) },
 }
@@ -48,13 +50,14 @@ impl<'a> ElectItem<'a> {
     pub(super) fn read(
         bounds: Bounds,
         floor: u16,
+        usual: usize,
         bytes: &'a [u8],
     ) -> Result<(ElectItem<'a>, &'a [u8]), Fault>
         ensures { Gives (λ x. (elect_of x.0, x.1.now)) result (word_at bounds floor bytes.now) }
     {
         let (replica, rest) = next_number(bounds.replicas, floor, bytes)?;
         let (decision, rest) = decision(rest)?;
-        let (signature, rest) = signature(rest)?;
+        let (signature, rest) = signature_like(usual, rest)?;
         Ok((
             ElectItem {
                 replica,
@@ -104,9 +107,11 @@ impl<'a> ElectsView<'a> {
     {
         let mut rest = bytes;
         let mut floor = 0u16;
+        let mut usual = 0usize;
         for _ in 0..count {
-            let (item, after) = ElectItem::read(bounds, floor, rest)?;
+            let (item, after) = ElectItem::read(bounds, floor, usual, rest)?;
             floor = item.replica as u16 + 1;
+            usual = item.signature.len();
             rest = after;
         }
         Ok((
@@ -127,14 +132,16 @@ impl<'a> ElectsView<'a> {
         ensures { option_map elect_of result ≡ slice_get (elects_of self.now) place }
     {
         let mut floor = 0u16;
+        let mut usual = 0usize;
         let mut rest = self.bytes;
         for i in 0..self.count {
-            match ElectItem::read(WIDEST, floor, rest) {
+            match ElectItem::read(WIDEST, floor, usual, rest) {
                 Ok((item, after)) => {
                     if i as usize == place {
                         return Some(item);
                     }
                     floor = item.replica as u16 + 1;
+                    usual = item.signature.len();
                     rest = after;
                 }
                 Err(_) => return None,
@@ -157,6 +164,7 @@ impl<'a> ElectsView<'a> {
         ElectsIter {
             left: self.count,
             floor: 0,
+            usual: 0,
             rest: self.bytes,
         }
     }
@@ -176,10 +184,11 @@ impl<'a> Iterator for ElectsIter<'a> {
         if self.left == 0 {
             return None;
         }
-        match ElectItem::read(WIDEST, self.floor, self.rest) {
+        match ElectItem::read(WIDEST, self.floor, self.usual, self.rest) {
             Ok((item, after)) => {
                 self.left -= 1;
                 self.floor = item.replica as u16 + 1;
+                self.usual = item.signature.len();
                 self.rest = after;
                 Some(item)
             }
