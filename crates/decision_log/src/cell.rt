@@ -1,6 +1,6 @@
 //! The logged decision of one transaction.
 
-ghost use Rattle.std.specs.Prelude.{◌≡◌, ◌<◌, ◌≤◌, None, Some, IfErr, IfOk, IfSome, MatchResult, OnOk};
+ghost use Rattle.std.specs.Prelude.{◌≡◌, ◌<◌, None, Some, IfErr, IfOk, IfSome, MatchResult, OnOk};
 ghost use Rattle.decision_log.specs.Cells.{first_cell, cell_of, entered, adopt_fault, IsOrdered};
 ghost use Rattle.decision_log.specs.Runs.{Enter, Adopt, after};
 

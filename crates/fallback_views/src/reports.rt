@@ -1,6 +1,6 @@
 //! The views that replicas report, and the view that these raise a replica to.
 
-ghost use Rattle.std.specs.Prelude.{◌≡◌, ◌<◌, ◌≤◌, ◌+◌, ◌-◌, ◌*◌, filter, nat_lt};
+ghost use Rattle.std.specs.Prelude.{◌≡◌, ◌<◌, ◌≤◌, ◌+◌, ◌-◌, filter, nat_lt};
 ghost use Rattle.fallback_views.specs.Views.{count, reached_by, greatest, raised};
 
 use basil_types::cluster::Cluster;
