@@ -1,0 +1,5 @@
+pub mod WalkLaws
+pub mod SeenLaws
+pub mod FaultLaws
+pub mod OrderLaws
+pub mod ChoiceLaws

@@ -1,0 +1,5 @@
+pub mod Faults
+pub mod Versions
+pub mod Replies
+pub mod Choosing
+pub mod Laws
