@@ -1,0 +1,12 @@
+pub mod VersionLaws
+pub mod Backwards
+pub mod KeyLaws
+pub mod IndexLaws
+pub mod Searches
+pub mod RoomLaws
+pub mod PutLaws
+pub mod StandsLaws
+pub mod NotedLaws
+pub mod LatestLaws
+pub mod SearchLaws
+pub mod MemberLaws

@@ -1,0 +1,7 @@
+use Rattle.std.specs.Prelude.{take}
+use Rattle.basil_types.specs.Shown.{transaction_of}
+use Rattle.mv_store.specs.Changes.{PutsWrites}
+use Rattle.mv_store.proofs.store.Store.put_writes.Given as goal
+
+abbrev pub invariant-loop-place : goal.invariant-loop-place
+invariant-loop-place l = PutsWrites l.initial.self.keys l.self.keys (take l.place (transaction_of l.t).writes) l.version l.told
