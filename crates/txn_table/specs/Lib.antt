@@ -1,0 +1,5 @@
+pub mod Entries
+pub mod Shown
+pub mod Tables
+pub mod Released
+pub mod Kept
