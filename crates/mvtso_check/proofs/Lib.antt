@@ -1,0 +1,5 @@
+pub mod Walks
+pub mod HitLaws
+pub mod BookLaws
+pub mod SearchLaws
+pub mod VerdictLaws

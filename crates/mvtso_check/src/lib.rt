@@ -1,0 +1,10 @@
+//! What a replica votes on a transaction (Basil, multiversion timestamp ordering check).
+#![tactic(auto)]
+
+pub mod check;
+mod crossings;
+mod dependencies;
+pub mod laws;
+#[cfg(test)]
+mod tests;
+pub mod verdict;
