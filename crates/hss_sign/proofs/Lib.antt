@@ -1,0 +1,6 @@
+pub mod LmsLaws
+pub mod LevelLaws
+pub mod NumberLaws
+pub mod SigningLaws
+pub mod SizeLaws
+pub mod SpendingLaws

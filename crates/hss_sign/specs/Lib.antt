@@ -1,0 +1,4 @@
+pub mod Verifying
+pub mod Keys
+pub mod Kept
+pub mod Laws
