@@ -4,7 +4,8 @@ use Rattle.std.specs.Prelude.{slice_get, ◌||◌}
 use Rattle.std.specs.List.{list_any}
 use Rattle.mv_store.specs.declared.hits.Hits.{Hits}
 use Rattle.mv_store.specs.Held.{Held, hits}
-use Rattle.mvtso_check.specs.Crossings.{joined, no_hits}
+use Rattle.mv_store.specs.Hits.{no_hits}
+use Rattle.mvtso_check.specs.Crossings.{joined}
 use Rattle.mvtso_check.proofs.HitLaws.{least_assoc, least_none, least_either, any_either, least_none_pass, any_none_pass}
 use Rattle.mvtso_check.proofs.Walks.{drop_here, drop_past, drop_short}
 

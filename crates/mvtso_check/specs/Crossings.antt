@@ -1,9 +1,6 @@
 -- What two searches tell together.
-use Rattle.std.specs.Prelude.{ℕ, false, ◌||◌, Option, None, Some, min}
+use Rattle.std.specs.Prelude.{ℕ, ◌||◌, Option, None, Some, min}
 use Rattle.mv_store.specs.declared.hits.Hits.{Hits}
-
-abbrev pub no_hits : Hits
-no_hits = record { any = false; committed = None }
 
 -- the lesser of two places, as far as there are
 abbrev pub least : Option ℕ → Option ℕ → Option ℕ

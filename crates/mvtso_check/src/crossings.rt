@@ -4,6 +4,7 @@ ghost use Rattle.std.specs.Prelude.{◌≡◌, ◌&&◌, ◌||◌, List};
 ghost use Rattle.std.specs.List.{list_any};
 ghost use Rattle.basil_types.specs.Shown.{transaction_of, read_of, write_of};
 ghost use Rattle.basil_types.specs.Transaction.{version_of};
+ghost use Rattle.mv_store.specs.Hits.{no_hits};
 ghost use Rattle.mv_store.specs.Held as held_values;
 ghost use Rattle.mv_store.specs.Held.{Held, NotedRead};
 ghost use Rattle.mv_store.specs.Store.{Stands};
@@ -131,7 +132,7 @@ fn is_own(home: &Home, key: &[u8]) -> bool
 }
 
 fn none() -> Hits
-    ensures { result ≡ crossings.no_hits }
+    ensures { result ≡ no_hits }
 {
     Hits {
         any: false,
