@@ -68,7 +68,8 @@ module _ (g : Signed) where
   logged : (x : Id) (d : Decision) (v a : ℕ) → Contains (g 0 0) (LogReply 0 0 x d v a) → Logged alone g x d v
   logged x d v a h = one_of_one (λ r. (u : ℕ) × Says alone g 0 r (LogReply 0 r x d v u)) (a, inr h)
 
-  conflict_abort : Contains (g 0 0) (Vote 0 0 first_id Commit) → Contains (g 0 0) (Vote 0 0 second_id Abort) → ConflictAbort alone g second_id
+  conflict_abort : Contains (g 0 0) (Vote 0 0 first_id Commit) → Contains (g 0 0) (Vote 0 0 second_id Abort) →
+      ConflictAbort alone g second_id
   conflict_abort h k = record {
     voter_shard = 0;
     voter = 0;

@@ -1,13 +1,9 @@
 -- More words allow no fewer certificates.
 use Rattle.std.proofs.Common.{ℕ, inl, inr}
-use Rattle.std.specs.List.{Contains}
 use Rattle.quorum_laws.proofs.Quorums.{weaker}
 use Rattle.agreement_laws.specs.Words.{Id, Decision, Commit, Abort, Word, Vote, LogReply, Election}
 use Rattle.agreement_laws.specs.Settings.{Setting}
-use Rattle.agreement_laws.specs.Certificates.{Signed, Says, Voted, Tallied, Logged, Elected, CanCommit, FastAbort, LoggedAbort}
-
-abbrev pub Grows : Signed → Signed → Type 0
-Grows p q = (s r : ℕ) (w : Word) → Contains (p s r) w → Contains (q s r) w
+use Rattle.agreement_laws.specs.Certificates.{Signed, Grows, Says, Voted, Tallied, Logged, Elected, CanCommit, FastAbort, LoggedAbort, ConflictAbort, CanAbort}
 
 module _ (c : Setting) (p q : Signed) (g : Grows p q) where
   pub Says-grows : (s r : ℕ) (w : Word) → Says c p s r w → Says c q s r w
@@ -36,3 +32,21 @@ module _ (c : Setting) (p q : Signed) (g : Grows p q) where
 
   pub LoggedAbort-grows : (x : Id) → LoggedAbort c p x → LoggedAbort c q x
   LoggedAbort-grows x h = (h.0, Logged-grows x Abort h.0 h.1)
+
+  ConflictAbort-grows : (x : Id) → ConflictAbort c p x → ConflictAbort c q x
+  ConflictAbort-grows x h = record {
+    voter_shard = h.voter_shard;
+    voter = h.voter;
+    of_involved = h.of_involved;
+    in_range = h.in_range;
+    voted = Says-grows h.voter_shard h.voter (Vote h.voter_shard h.voter x Abort) h.voted;
+    rival = h.rival;
+    shard = h.shard;
+    conflicts = h.conflicts;
+    commits = CanCommit-grows h.rival h.commits;
+  }
+
+  pub CanAbort-grows : (x : Id) → CanAbort c p x → CanAbort c q x
+  CanAbort-grows x (inl h) = inl (FastAbort-grows x h)
+  CanAbort-grows x (inr (inl h)) = inr (inl (LoggedAbort-grows x h))
+  CanAbort-grows x (inr (inr h)) = inr (inr (ConflictAbort-grows x h))

@@ -5,5 +5,7 @@ pub mod VoteSteps
 pub mod LogSteps
 pub mod Views
 pub mod Safety
+pub mod Staying
 mod ExampleRun
+mod DividedRun
 pub mod ListSets

@@ -47,7 +47,8 @@ abbrev naming : Decision → List Named → ℕ → Bool
 naming d ws r = listed (replicas_of ws) r && same_decision (name_in ws r) d
 
 -- as many replicas name it as words
-naming_count : (d : Decision) (floor n : ℕ) (ws : List Named) → AreRising floor n (replicas_of ws) → size (naming d ws) n ≡ count_by (λ w. same_decision w.decision d) ws
+naming_count : (d : Decision) (floor n : ℕ) (ws : List Named) → AreRising floor n (replicas_of ws) →
+    size (naming d ws) n ≡ count_by (λ w. same_decision w.decision d) ws
 naming_count d floor n [] a = size_none n where
   size_none : (n : ℕ) → size (λ _. false) n ≡ 0
   size_none zero = refl

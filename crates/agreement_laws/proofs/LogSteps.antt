@@ -4,12 +4,12 @@ use Rattle.std.specs.List.{Contains}
 use Rattle.std.proofs.lemmas.List.Elements.{Contains-append_left, Contains-append_right, Contains-append_cases}
 use Rattle.agreement_laws.specs.Words.{Id, Decision, Word, Vote, LogReply, Election, Proposal}
 use Rattle.agreement_laws.specs.Settings.{Setting}
-use Rattle.agreement_laws.specs.Certificates.{Signed, Tallied, Elected}
+use Rattle.agreement_laws.specs.Certificates.{Signed, Tallied, Elected, Grows}
 use Rattle.agreement_laws.specs.Replicas.{LogCell, Book, Act, Votes, Waits, Ends, Logs, Repeats, Enters, Proposes, Adopts, entered, after, reply_of, election_of, words, CanEnter, CanAdopt, May}
 use Rattle.agreement_laws.specs.Runs.{put_id}
 use Rattle.agreement_laws.specs.Invariants.{IsUnder, IsReached, IsBacked, LogHolds}
 use Rattle.agreement_laws.proofs.Puts.{in_none, in_one, put_id_cases}
-use Rattle.agreement_laws.proofs.Growth.{Grows, Tallied-grows, Elected-grows}
+use Rattle.agreement_laws.proofs.Growth.{Tallied-grows, Elected-grows}
 use Rattle.agreement_laws.proofs.Signings.{reply_signed, election_signed}
 
 module _ (c : Setting) (signed : Signed) (s r : ℕ) (own : List Word) (x : Id) where
@@ -28,7 +28,8 @@ module _ (c : Setting) (signed : Signed) (s r : ℕ) (own : List Word) (x : Id) 
   IsBacked-more ws (Some k) b = (b.0, b.1, Contains-append_left own ws _ b.2)
 
   -- words that say nothing of its log
-  pub LogHolds-other : (cell : Option LogCell) (ws : List Word) → ((d : Decision) (v a : ℕ) → Contains ws (Reply d v a) → ⊥) → ((d : Decision) (w : ℕ) → Contains ws (Names d w) → ⊥) → Holds own cell → Holds (own ++ ws) cell
+  pub LogHolds-other : (cell : Option LogCell) (ws : List Word) → ((d : Decision) (v a : ℕ) → Contains ws (Reply d v a) → ⊥) →
+      ((d : Decision) (w : ℕ) → Contains ws (Names d w) → ⊥) → Holds own cell → Holds (own ++ ws) cell
   LogHolds-other cell ws no_reply no_election l =
       let old_reply = λ (d : Decision) (v a : ℕ) (h : Contains (own ++ ws) (Reply d v a)). let k : Contains own (Reply d v a) = elim (Contains-append_cases own ws _ h) [ inl k ↦ k | inr k ↦ absurd (no_reply d v a k) ] in k in
       let old_name = λ (d : Decision) (w : ℕ) (h : Contains (own ++ ws) (Names d w)). let k : Contains own (Names d w) = elim (Contains-append_cases own ws _ h) [ inl k ↦ k | inr k ↦ absurd (no_election d w k) ] in k in
@@ -48,7 +49,8 @@ module _ (c : Setting) (signed : Signed) (s r : ℕ) (own : List Word) (x : Id) 
   under_now k d v (inr h) = (omega (arith, h.0), λ e. h.1)
 
   -- one more log reply, of a cell at or above the old one
-  LogHolds-reply : (cell : Option LogCell) (k : LogCell) (a : ℕ) → k.decided ≤ k.current → ((d : Decision) (v : ℕ) → IsUnder cell d v → IsUnder (Some k) d v) → ((w : ℕ) → IsReached cell w → w ≤ k.current)
+  LogHolds-reply : (cell : Option LogCell) (k : LogCell) (a : ℕ) → k.decided ≤ k.current →
+      ((d : Decision) (v : ℕ) → IsUnder cell d v → IsUnder (Some k) d v) → ((w : ℕ) → IsReached cell w → w ≤ k.current)
       → ((e : Decision) (w : ℕ) → Contains own (Names e w) → k.decided < w → (u b : ℕ) × (k.decided ≤ u) × (u < w) × Contains own (Reply e u b))
       → (k.decided ≡ 0 → Tallied c signed x k.decision) → (0 < k.decided → Elected c signed x k.decision k.decided)
       → Holds own cell → Holds (own ++ Reply k.decision k.decided a ∷ []) (Some k)
@@ -76,7 +78,8 @@ module _ (c : Setting) (signed : Signed) (s r : ℕ) (own : List Word) (x : Id) 
       }
 
   -- one more election word, for a view above the current one
-  LogHolds-election : (k : LogCell) (w : ℕ) → k.current < w → Holds own (Some k) → Holds (own ++ Names k.decision w ∷ []) (Some (record k { current = w }))
+  LogHolds-election : (k : LogCell) (w : ℕ) → k.current < w → Holds own (Some k) →
+      Holds (own ++ Names k.decision w ∷ []) (Some (record k { current = w }))
   LogHolds-election k w up l =
       let new : Word = Names k.decision w in
       let ws : List Word = new ∷ [] in
@@ -123,14 +126,16 @@ module _ (c : Setting) (signed : Signed) (s r : ℕ) (own : List Word) (x : Id) 
   reached_less None v h w k = absurd k
   reached_less (Some k) v h w i = omega (arith, h.1)
 
-  adopts : (cell : Option LogCell) (d : Decision) (v : ℕ) → 0 < v → CanAdopt cell v → Elected c signed x d v → Holds own cell → Holds (own ++ Reply d v v ∷ []) (Some (record { decision = d; decided = v; current = v }))
+  adopts : (cell : Option LogCell) (d : Decision) (v : ℕ) → 0 < v → CanAdopt cell v → Elected c signed x d v → Holds own cell →
+      Holds (own ++ Reply d v v ∷ []) (Some (record { decision = d; decided = v; current = v }))
   adopts cell d v p h e l =
       LogHolds-reply cell (record { decision = d; decided = v; current = v }) v (omega arith)
       (λ g u i. inl (under_less cell v h g u i)) (reached_less cell v h)
       (λ g w i q. let z : w ≤ v = reached_less cell v h w (l.reached g w i) in absurd (omega arith))
       (λ z. absurd (omega arith)) (λ _. e) l
 
-  logs : (cell : Option LogCell) (d : Decision) → cell ≡ None → Tallied c signed x d → Holds own cell → Holds (own ++ Reply d 0 0 ∷ []) (Some (record { decision = d; decided = 0; current = 0 }))
+  logs : (cell : Option LogCell) (d : Decision) → cell ≡ None → Tallied c signed x d → Holds own cell →
+      Holds (own ++ Reply d 0 0 ∷ []) (Some (record { decision = d; decided = 0; current = 0 }))
   logs None d e t l =
       LogHolds-reply None (record { decision = d; decided = 0; current = 0 }) 0 (omega arith)
       (λ g u i. absurd i) (λ w i. absurd i)
@@ -140,7 +145,8 @@ module _ (c : Setting) (signed : Signed) (s r : ℕ) (own : List Word) (x : Id) 
 
   -- nothing is elected for view 0
   module _ (up : (y : Id) (d : Decision) (v : ℕ) → Elected c signed y d v → 0 < v) (aborted : Id → Bool) (book : Book) where
-    LogHolds-act : (a : Act) → May c signed aborted s book x a → Holds own (book x).cell → Holds (own ++ words s r x a (book x)) (after a (book x)).cell
+    LogHolds-act : (a : Act) → May c signed aborted s book x a → Holds own (book x).cell →
+        Holds (own ++ words s r x a (book x)) (after a (book x)).cell
     LogHolds-act (Votes d) m l = LogHolds-other _ (Vote s r x d ∷ []) (λ e v b h. let k = in_one _ _ h in cc) (λ e w h. let k = in_one _ _ h in cc) l
     LogHolds-act Waits m l = LogHolds-other _ [] (λ e v b h. in_none _ h) (λ e w h. in_none _ h) l
     LogHolds-act (Ends d) m l = LogHolds-other _ [] (λ e v b h. in_none _ h) (λ e w h. in_none _ h) l
@@ -151,13 +157,15 @@ module _ (c : Setting) (signed : Signed) (s r : ℕ) (own : List Word) (x : Id) 
     LogHolds-act (Adopts d v) m l = adopts _ d v (up x d v m.1) m.0 m.1 l
 
 module _ (c : Setting) (signed : Signed) (s r : ℕ) (own : List Word) (x : Id) (up : (y : Id) (d : Decision) (v : ℕ) → Elected c signed y d v → 0 < v) (aborted : Id → Bool) (book : Book) where
-  pub LogHolds-step : (a : Act) → May c signed aborted s book x a → ((y : Id) → LogHolds c signed s r own y (book y).cell) → (y : Id) → LogHolds c signed s r (own ++ words s r x a (book x)) y (put_id book x (after a (book x)) y).cell
+  pub LogHolds-step : (a : Act) → May c signed aborted s book x a → ((y : Id) → LogHolds c signed s r own y (book y).cell) → (y : Id) →
+      LogHolds c signed s r (own ++ words s r x a (book x)) y (put_id book x (after a (book x)) y).cell
   LogHolds-step a m l = put_id_cases (λ y t. LogHolds c signed s r (own ++ words s r x a (book x)) y t.cell) book x (after a (book x))
       (LogHolds-act c signed s r own x up aborted book a m (l x))
       (λ y n. LogHolds-other c signed s r own y (book y).cell (words s r x a (book x)) (λ d v b h. n (reply_signed s r x y a (book x) d v b h)) (λ d w h. n (election_signed s r x y a (book x) d w h)) (l y))
 
 -- what others sign is of no matter
-pub LogHolds-grows : (c : Setting) (p q : Signed) → Grows p q → (s r : ℕ) (own : List Word) (x : Id) (cell : Option LogCell) → LogHolds c p s r own x cell → LogHolds c q s r own x cell
+pub LogHolds-grows : (c : Setting) (p q : Signed) → Grows p q → (s r : ℕ) (own : List Word) (x : Id) (cell : Option LogCell) →
+    LogHolds c p s r own x cell → LogHolds c q s r own x cell
 LogHolds-grows c p q g s r own x cell l = record {
   under = l.under;
   backed = l.backed;

@@ -1,19 +1,20 @@
 -- Conflict exclusion and agreement: the invariant, kept by each lawful event.
-use Rattle.std.proofs.Common.{◌≡◌, ℕ, ◌+◌, ◌*◌, true, false, refl, arith, ◌⊎◌, inl, inr, sym, ◌∙◌, ap, subst, List, [], ◌∷◌, Some, None}
+use Rattle.std.proofs.Common.{◌≡◌, ℕ, ◌<◌, ◌+◌, ◌*◌, true, false, refl, arith, ◌⊎◌, inl, inr, sym, ◌∙◌, ap, subst, List, [], ◌∷◌, Some, None}
 use Rattle.std.specs.List.{Contains}
 use Rattle.std.proofs.lemmas.Bool.{cases_Bool, false_from_ne_true}
 use Rattle.std.proofs.lemmas.List.Elements.{Contains-append_left, Contains-append_cases}
+use Rattle.quorum_laws.specs.Numbers.{replicas}
 use Rattle.quorum_laws.specs.Sets.{Quorum}
 use Rattle.quorum_laws.proofs.Quorums.{weaker, both, one}
 use Rattle.agreement_laws.specs.Words.{Id, Commit, Abort, Word, Vote}
 use Rattle.agreement_laws.specs.Settings.{Setting, Sane}
-use Rattle.agreement_laws.specs.Certificates.{Signed, Says, CanCommit, FastAbort, LoggedAbort, ConflictAbort, CanAbort}
+use Rattle.agreement_laws.specs.Certificates.{Signed, Says, CanCommit, FastAbort, LoggedAbort, ConflictAbort, CanAbort, Grows}
 use Rattle.agreement_laws.specs.Replicas.{Slot, is_standing, Act, after, words, May}
 use Rattle.agreement_laws.specs.Runs.{Node, State, signed_of, Event, Acts, Lies, Shows, put_id, put_node, acted, lied, happens, IsLawful, run, AreLawful, start, answered, MayAnswer, answers}
 use Rattle.agreement_laws.specs.Invariants.{VotesHold, InOrder, Bars, IsBlocked, Invariant}
-use Rattle.agreement_laws.specs.Laws.{Counting, LockIn, Exclusion, Dependency, Agreement, FromInvariant, InEveryRun, HoldsAtStart, HoldsAfterEvent, HoldsAfterAnswer}
+use Rattle.agreement_laws.specs.Laws.{Counting, LockIn, Exclusion, Dependency, DependencyThere, CommitVotes, Voters, Agreement, FromInvariant, InEveryRun, HoldsAtStart, HoldsAfterEvent, HoldsAfterAnswer}
 use Rattle.agreement_laws.proofs.Puts.{in_none, put_id_same, put_id_cases, put_node_cases}
-use Rattle.agreement_laws.proofs.Growth.{Grows, CanCommit-grows, FastAbort-grows, LoggedAbort-grows}
+use Rattle.agreement_laws.proofs.Growth.{CanCommit-grows, FastAbort-grows, LoggedAbort-grows}
 use Rattle.agreement_laws.proofs.Signings.{vote_signed}
 use Rattle.agreement_laws.proofs.VoteSteps.{vote_open, VotesHold-step, VotesHold-grows}
 use Rattle.agreement_laws.proofs.LogSteps.{LogHolds-step, LogHolds-grows}
@@ -34,11 +35,14 @@ module _ (c : Setting) (ok : Sane c) (st : State) (inv : Invariant c st) where
   }
 
   -- a commit certificate has commit votes in the shard of each conflict
-  votes_there : (x y : Id) (s : ℕ) → c.conflict x y s ≡ true → CanCommit c Words x → Quorum (5 * c.f + 1) (3 * c.f + 1) (λ r. Says c Words s r (Vote s r x Commit))
+  votes_there : (x y : Id) (s : ℕ) → c.conflict x y s ≡ true → CanCommit c Words x →
+      Quorum (5 * c.f + 1) (3 * c.f + 1) (λ r. Says c Words s r (Vote s r x Commit))
   votes_there x y s k p = tallied c ok Words all_honest x p s (ok.on_a_key x y s k)
 
   -- of two that conflict, both with a commit vote of one correct replica, one has an abort outcome there
-  pub one_gave_way : (s r : ℕ) (x y : Id) → c.faulty s r ≡ false → c.conflict x y s ≡ true → Contains (Words s r) (Vote s r x Commit) → Contains (Words s r) (Vote s r y Commit) → (((st.nodes s r).book x).outcome ≡ Some Abort) ⊎ (((st.nodes s r).book y).outcome ≡ Some Abort)
+  pub one_gave_way : (s r : ℕ) (x y : Id) → c.faulty s r ≡ false → c.conflict x y s ≡ true → Contains (Words s r) (Vote s r x Commit) →
+      Contains (Words s r) (Vote s r y Commit) →
+      (((st.nodes s r).book x).outcome ≡ Some Abort) ⊎ (((st.nodes s r).book y).outcome ≡ Some Abort)
   one_gave_way s r x y b k h i = let z = (inv.in_order s r b).votes in z.apart x y k (ap is_standing (z.said x Commit h)) (ap is_standing (z.said y Commit i))
 
   -- what has had an abort certificate shown cannot be committed
@@ -67,11 +71,23 @@ module _ (c : Setting) (ok : Sane c) (st : State) (inv : Invariant c st) where
         | inr e ↦ no_commit y (z.ended_abort y e) q
       ]
 
-  pub needed : (x y : Id) (s : ℕ) → CanCommit c (signed_of st) x → c.depends x y s ≡ true → CanCommit c (signed_of st) y
-  needed x y s p k =
+  pub committed_there : (x y : Id) (s : ℕ) → CanCommit c (signed_of st) x → c.depends x y s ≡ true →
+      (r : ℕ) × (c.faulty s r ≡ false) × (((st.nodes s r).book y).outcome ≡ Some Commit)
+  committed_there x y s p k =
       let v = tallied c ok Words all_honest x p s (ok.of_a_key x y s k) in
       let o = one _ (omega arith) (correct c ok Words 1 s (λ r. Says c Words s r (Vote s r x Commit)) (omega arith) v) in
-      (inv.in_order s o.0 o.2.1).votes.dependencies x y (signed_it c ok Words s o.0 (Vote s o.0 x Commit) o.2.0 o.2.1) k
+      (o.0, o.2.1, (inv.in_order s o.0 o.2.1).votes.dependencies x y (signed_it c ok Words s o.0 (Vote s o.0 x Commit) o.2.0 o.2.1) k)
+
+  pub needed : (x y : Id) (s : ℕ) → CanCommit c (signed_of st) x → c.depends x y s ≡ true → CanCommit c (signed_of st) y
+  needed x y s p k =
+      let o = committed_there x y s p k in
+      (inv.in_order s o.0 o.1).votes.ended_commit y o.2
+
+  pub voted : (x : Id) (s : ℕ) → CanCommit c (signed_of st) x → c.involved x s ≡ true →
+      (r : ℕ) × (r < replicas c.f) × (c.faulty s r ≡ false) × Contains (signed_of st s r) (Vote s r x Commit)
+  voted x s p i =
+      let o = one _ (omega arith) (correct c ok Words 1 s (λ r. Says c Words s r (Vote s r x Commit)) (omega arith) (tallied c ok Words all_honest x p s i)) in
+      (o.0, o.1, o.2.1, signed_it c ok Words s o.0 (Vote s o.0 x Commit) o.2.0 o.2.1)
 
   pub no_abort : (x : Id) → CanCommit c (signed_of st) x → CanAbort c (signed_of st) x → ⊥
   no_abort x k (inl a) = counting c ok Words all_honest x k (inl a)
@@ -94,6 +110,15 @@ exclusion_of c ok st inv x y s p q = false_from_ne_true (c.conflict x y s) (excl
 pub dependency_of : FromInvariant Dependency
 dependency_of c ok st inv = needed c ok st inv
 
+pub dependency_there_of : FromInvariant DependencyThere
+dependency_there_of c ok st inv = committed_there c ok st inv
+
+pub commit_votes_of : FromInvariant CommitVotes
+commit_votes_of c ok st inv x s p k = tallied c ok (signed_of st) (all_honest c ok st inv) x p s k
+
+pub voters_of : FromInvariant Voters
+voters_of c ok st inv = voted c ok st inv
+
 pub agreement_of : FromInvariant Agreement
 agreement_of c ok st inv = record { none_shown = λ x k. false_from_ne_true (st.aborted x) (λ a. no_commit c ok st inv x a k); none_possible = no_abort c ok st inv }
 
@@ -106,7 +131,8 @@ module _ (c : Setting) (ok : Sane c) (st : State) (inv : Invariant c st) (s r : 
   grows g = put_node_cases (λ t q z. (w : Word) → Contains (st.nodes t q).own w → Contains z.own w) st.nodes s r p g (λ t q w k. k)
 
   -- what is in order stays so while others sign
-  stays : Grows (signed_of st) (signed_of next) → (t q : ℕ) (n : Node) → InOrder c (signed_of st) st.aborted t q n → InOrder c (signed_of next) st.aborted t q n
+  stays : Grows (signed_of st) (signed_of next) → (t q : ℕ) (n : Node) → InOrder c (signed_of st) st.aborted t q n →
+      InOrder c (signed_of next) st.aborted t q n
   stays g t q n z = record {
     votes = VotesHold-grows c (signed_of st) (signed_of next) g st.aborted st.aborted (λ _ h. h) t q n.own n.book z.votes;
     logs = λ x. LogHolds-grows c (signed_of st) (signed_of next) g t q n.own x _ (z.logs x);
@@ -146,7 +172,9 @@ module _ (c : Setting) (ok : Sane c) where
 
   -- A replica that bars x goes on to bar it: a commit vote for x would need an abort outcome of the rival, which
   -- can be committed.
-  bars_kept : (st : State) → Invariant c st → (s r : ℕ) (p : Node) (x : Id) (a : Act) → May c (signed_of st) st.aborted s p.book x a → VotesHold c (signed_of st) st.aborted s r p.own p.book → (u y : Id) → c.conflict u y s ≡ true → CanCommit c (signed_of st) y → Bars c u y s r p.own → Bars c u y s r (acted s r p x a).own
+  bars_kept : (st : State) → Invariant c st → (s r : ℕ) (p : Node) (x : Id) (a : Act) → May c (signed_of st) st.aborted s p.book x a →
+      VotesHold c (signed_of st) st.aborted s r p.own p.book → (u y : Id) → c.conflict u y s ≡ true → CanCommit c (signed_of st) y →
+      Bars c u y s r p.own → Bars c u y s r (acted s r p x a).own
   bars_kept st inv s r p x a m z u y k cy (inl e) = inl e
   bars_kept st inv s r p x a m z u y k cy (inr e) =
       let ws = words s r x a (p.book x) in
@@ -173,7 +201,8 @@ module _ (c : Setting) (ok : Sane c) where
     pub order : InOrder c (signed_of st) st.aborted s r q
     pub bars : (u y : Id) → c.conflict u y s ≡ true → CanCommit c (signed_of st) y → Bars c u y s r p.own → Bars c u y s r q.own
 
-  went : (st : State) → Invariant c st → (s r : ℕ) (p : Node) (acts : List (Id × Act)) → MayAnswer c (signed_of st) st.aborted s r p acts → InOrder c (signed_of st) st.aborted s r p → Went st s r p (answered s r p acts)
+  went : (st : State) → Invariant c st → (s r : ℕ) (p : Node) (acts : List (Id × Act)) → MayAnswer c (signed_of st) st.aborted s r p acts →
+      InOrder c (signed_of st) st.aborted s r p → Went st s r p (answered s r p acts)
   went st inv s r p [] m o = record { up = λ w k. k; order = o; bars = λ u y k cy b. b }
   went st inv s r p (k ∷ rest) m o =
       let g = signed_of st in
@@ -186,14 +215,16 @@ module _ (c : Setting) (ok : Sane c) where
         bars = λ u y i cy b. z.bars u y i cy (bars_kept st inv s r p k.0 k.1 m.0 o.votes u y i cy b);
       }
 
-  pub after_answer : (st : State) (s r : ℕ) (acts : List (Id × Act)) → Invariant c st → c.faulty s r ≡ false → MayAnswer c (signed_of st) st.aborted s r (st.nodes s r) acts → Invariant c (answers st s r acts)
+  pub after_answer : (st : State) (s r : ℕ) (acts : List (Id × Act)) → Invariant c st → c.faulty s r ≡ false →
+      MayAnswer c (signed_of st) st.aborted s r (st.nodes s r) acts → Invariant c (answers st s r acts)
   after_answer st s r acts inv b m =
       let w = went st inv s r (st.nodes s r) acts m (inv.in_order s r b) in
       Invariant-node c ok st inv s r (answered s r (st.nodes s r) acts) w.up (λ _. w.order) w.bars
 
   -- The first abort certificate of x is a conflict abort: the rival's voters bar x. One that has voted on both has
   -- an abort outcome of one of them, which isn't x's, and the rival can be committed.
-  first_shown : (st : State) → Invariant c st → (x : Id) → st.aborted x ≡ false → ConflictAbort c (signed_of st) x → IsBlocked c (signed_of st) x
+  first_shown : (st : State) → Invariant c st → (x : Id) → st.aborted x ≡ false → ConflictAbort c (signed_of st) x →
+      IsBlocked c (signed_of st) x
   first_shown st inv x e q =
       let g = signed_of st in
       let s = q.shard in

@@ -14,11 +14,14 @@ use Rattle.agreement_laws.specs.Laws.{OneElected}
 -- what holds of the words of one correct replica, without its book
 pub record IsHonest (c : Setting) (signed : Signed) (s r : ℕ) : Type 0 where
   pub one_vote : (x : Id) (d e : Decision) → Contains (signed s r) (Vote s r x d) → Contains (signed s r) (Vote s r x e) → d ≡ e
-  pub one_decision : (x : Id) (d e : Decision) (v a b : ℕ) → Contains (signed s r) (LogReply s r x d v a) → Contains (signed s r) (LogReply s r x e v b) → d ≡ e
+  pub one_decision : (x : Id) (d e : Decision) (v a b : ℕ) → Contains (signed s r) (LogReply s r x d v a) →
+      Contains (signed s r) (LogReply s r x e v b) → d ≡ e
   pub first : (x : Id) (d : Decision) (a : ℕ) → Contains (signed s r) (LogReply s r x d 0 a) → Tallied c signed x d
   pub later : (x : Id) (d : Decision) (v a : ℕ) → Contains (signed s r) (LogReply s r x d v a) → 0 < v → Elected c signed x d v
-  pub named : (x : Id) (d : Decision) (w : ℕ) → Contains (signed s r) (Election s r x d w) → (v a : ℕ) × (v < w) × Contains (signed s r) (LogReply s r x d v a)
-  pub latest : (x : Id) (e : Decision) (w : ℕ) (d : Decision) (v a : ℕ) → Contains (signed s r) (Election s r x e w) → Contains (signed s r) (LogReply s r x d v a) → v < w → (u b : ℕ) × (v ≤ u) × (u < w) × Contains (signed s r) (LogReply s r x e u b)
+  pub named : (x : Id) (d : Decision) (w : ℕ) → Contains (signed s r) (Election s r x d w) →
+      (v a : ℕ) × (v < w) × Contains (signed s r) (LogReply s r x d v a)
+  pub latest : (x : Id) (e : Decision) (w : ℕ) (d : Decision) (v a : ℕ) → Contains (signed s r) (Election s r x e w) →
+      Contains (signed s r) (LogReply s r x d v a) → v < w → (u b : ℕ) × (v ≤ u) × (u < w) × Contains (signed s r) (LogReply s r x e u b)
 
 abbrev pub AreHonest : Setting → Signed → Type 0
 AreHonest c signed = (s r : ℕ) → c.faulty s r ≡ false → IsHonest c signed s r
@@ -38,7 +41,8 @@ one_elected f who names d e h p q =
     let k = and_parts (P d m.0) (P e m.0) m.2 in
     sym (same_yes (names m.0) d (and_parts (who m.0) (same_decision (names m.0) d) k.0).1) ∙ same_yes (names m.0) e (and_parts (who m.0) (same_decision (names m.0) e) k.1).1
 
-reply_at : (ws : List Word) (s r : ℕ) (x : Id) (d : Decision) (u v a : ℕ) → u ≡ v → Contains ws (LogReply s r x d u a) → Contains ws (LogReply s r x d v a)
+reply_at : (ws : List Word) (s r : ℕ) (x : Id) (d : Decision) (u v a : ℕ) → u ≡ v → Contains ws (LogReply s r x d u a) →
+    Contains ws (LogReply s r x d v a)
 reply_at ws s r x d u v a e h = subst (λ (z : ℕ). Contains ws (LogReply s r x d z a)) e h
 
 module _ (c : Setting) (ok : Sane c) (signed : Signed) where
@@ -48,7 +52,8 @@ module _ (c : Setting) (ok : Sane c) (signed : Signed) where
   signed_it s r w (inr m) h = m
 
   -- all but f of a quorum are correct
-  pub correct : {k : ℕ} (j : ℕ) (s : ℕ) (P : ℕ → Type 0) → j + c.f ≤ k → Quorum (replicas c.f) k P → Quorum (replicas c.f) j (λ r. P r × (c.faulty s r ≡ false))
+  pub correct : {k : ℕ} (j : ℕ) (s : ℕ) (P : ℕ → Type 0) → j + c.f ≤ k → Quorum (replicas c.f) k P →
+      Quorum (replicas c.f) j (λ r. P r × (c.faulty s r ≡ false))
   correct j s P h q = both P (λ r. c.faulty s r ≡ false) (omega arith) q (correct_of (c.faulty s) (ok.few s))
 
   module _ (all : AreHonest c signed) where
@@ -64,7 +69,8 @@ module _ (c : Setting) (ok : Sane c) (signed : Signed) where
         cc
 
     -- the majority of an election
-    naming : (x : Id) (d : Decision) (v : ℕ) → Elected c signed x d v → Quorum (replicas c.f) (majority c.f) (λ r. Says c signed (c.log_shard x) r (Election (c.log_shard x) r x d v))
+    naming : (x : Id) (d : Decision) (v : ℕ) → Elected c signed x d v →
+        Quorum (replicas c.f) (majority c.f) (λ r. Says c signed (c.log_shard x) r (Election (c.log_shard x) r x d v))
     naming x d v e = record {
       who = λ r. e.who r && same_decision (e.names r) d;
       many = e.most;
@@ -72,7 +78,8 @@ module _ (c : Setting) (ok : Sane c) (signed : Signed) where
     }
 
     -- a correct replica named what an election decided
-    namer : (x : Id) (d : Decision) (v : ℕ) → Elected c signed x d v → (r : ℕ) × (c.faulty (c.log_shard x) r ≡ false) × Contains (signed (c.log_shard x) r) (Election (c.log_shard x) r x d v)
+    namer : (x : Id) (d : Decision) (v : ℕ) → Elected c signed x d v →
+        (r : ℕ) × (c.faulty (c.log_shard x) r ≡ false) × Contains (signed (c.log_shard x) r) (Election (c.log_shard x) r x d v)
     namer x d v e =
         let s = c.log_shard x in
         let o = one _ (omega arith) (correct 1 s (λ r. Says c signed s r (Election s r x d v)) (omega arith) (naming x d v e)) in
@@ -83,7 +90,8 @@ module _ (c : Setting) (ok : Sane c) (signed : Signed) where
     elected_above x d v e = let o = namer x d v e in let z = (all (c.log_shard x) o.0 o.1).named x d v o.2 in omega (arith, z.2)
 
     -- a decision that a correct replica logged came from tallies
-    origin : (n : ℕ) (x : Id) (d : Decision) (v a r : ℕ) → v < n → c.faulty (c.log_shard x) r ≡ false → Contains (signed (c.log_shard x) r) (LogReply (c.log_shard x) r x d v a) → Tallied c signed x d
+    origin : (n : ℕ) (x : Id) (d : Decision) (v a r : ℕ) → v < n → c.faulty (c.log_shard x) r ≡ false →
+        Contains (signed (c.log_shard x) r) (LogReply (c.log_shard x) r x d v a) → Tallied c signed x d
     origin zero x d v a r h b m = absurd (omega arith)
     origin (suc n) x d v a r h b m = elim (cases_lt 0 v) [
       | inl p ↦
@@ -95,7 +103,8 @@ module _ (c : Setting) (ok : Sane c) (signed : Signed) where
 
     -- A log certificate of view v fixes what correct replicas log above v. Its replicas and those whose words elected a
     -- later decision share a correct one. What that one named it had logged from v on: in v itself, or by induction.
-    lock : (n : ℕ) (x : Id) (d : Decision) (v : ℕ) → Logged c signed x d v → (e : Decision) (w a r : ℕ) → w < n → v < w → c.faulty (c.log_shard x) r ≡ false → Contains (signed (c.log_shard x) r) (LogReply (c.log_shard x) r x e w a) → e ≡ d
+    lock : (n : ℕ) (x : Id) (d : Decision) (v : ℕ) → Logged c signed x d v → (e : Decision) (w a r : ℕ) → w < n → v < w →
+        c.faulty (c.log_shard x) r ≡ false → Contains (signed (c.log_shard x) r) (LogReply (c.log_shard x) r x e w a) → e ≡ d
     lock zero x d v q e w a r h l b m = absurd (omega arith)
     lock (suc n) x d v q e w a r h l b m =
         let s = c.log_shard x in
@@ -112,7 +121,8 @@ module _ (c : Setting) (ok : Sane c) (signed : Signed) where
           | inr p ↦ (all s i o.2.1).one_decision x e d v g.1 o.2.0.0.0 (reply_at (signed s i) s i x e g.0 v g.1 (omega (arith, g.2)) g.4) y
         ]
 
-    correct_log : (x : Id) (d : Decision) (v : ℕ) → Logged c signed x d v → (r a : ℕ) × (c.faulty (c.log_shard x) r ≡ false) × Contains (signed (c.log_shard x) r) (LogReply (c.log_shard x) r x d v a)
+    correct_log : (x : Id) (d : Decision) (v : ℕ) → Logged c signed x d v →
+        (r a : ℕ) × (c.faulty (c.log_shard x) r ≡ false) × Contains (signed (c.log_shard x) r) (LogReply (c.log_shard x) r x d v a)
     correct_log x d v q =
         let s = c.log_shard x in
         let o = one _ (omega arith) (correct 1 s (λ i. (u : ℕ) × Says c signed s i (LogReply s i x d v u)) (omega arith) q) in

@@ -4,12 +4,12 @@ use Rattle.std.specs.List.{Contains}
 use Rattle.std.proofs.lemmas.List.Elements.{Contains-append_cases}
 use Rattle.agreement_laws.specs.Words.{Id, Decision, Commit, Abort, Word, Vote}
 use Rattle.agreement_laws.specs.Settings.{Setting, Sane}
-use Rattle.agreement_laws.specs.Certificates.{Signed, CanCommit}
+use Rattle.agreement_laws.specs.Certificates.{Signed, CanCommit, Grows}
 use Rattle.agreement_laws.specs.Replicas.{VoteState, Unvoted, Waiting, Cast, Book, is_standing, is_held, Act, Votes, Waits, Ends, Logs, Repeats, Enters, Proposes, Adopts, after, words, IsClear, May}
 use Rattle.agreement_laws.specs.Runs.{put_id}
 use Rattle.agreement_laws.specs.Invariants.{VotesHold}
 use Rattle.agreement_laws.proofs.Puts.{in_none, in_one, put_id_cases}
-use Rattle.agreement_laws.proofs.Growth.{Grows, CanCommit-grows}
+use Rattle.agreement_laws.proofs.Growth.{CanCommit-grows}
 use Rattle.agreement_laws.proofs.Signings.{no_vote_in_reply, no_vote_in_election, vote_signed}
 
 -- what stands and isn't held has an abort outcome
@@ -46,6 +46,17 @@ module _ (c : Setting) (signed : Signed) (aborted : Id → Bool) (s r : ℕ) (bo
   abort_kept (Proposes e v) m h = h
   abort_kept (Adopts e v) m h = h
 
+  commit_kept : (a : Act) → Allowed a → (book x).outcome ≡ Some Commit → (after a (book x)).outcome ≡ Some Commit
+  commit_kept (Votes d) m h = h
+  commit_kept Waits m h = h
+  commit_kept (Ends Commit) m h = refl
+  commit_kept (Ends Abort) m h = let e : None ≡ Some Commit = sym m.0 ∙ h in cc
+  commit_kept (Logs e) m h = h
+  commit_kept Repeats m h = h
+  commit_kept (Enters w) m h = h
+  commit_kept (Proposes e v) m h = h
+  commit_kept (Adopts e v) m h = h
+
   abort_from : (a : Act) → Allowed a → (after a (book x)).outcome ≡ Some Abort → ((book x).outcome ≡ Some Abort) ⊎ (aborted x ≡ true)
   abort_from (Votes d) m h = inl h
   abort_from Waits m h = inl h
@@ -68,7 +79,8 @@ module _ (c : Setting) (signed : Signed) (aborted : Id → Bool) (s r : ℕ) (bo
   commit_from (Proposes e v) m h = inl h
   commit_from (Adopts e v) m h = inl h
 
-  standing_from : (a : Act) → Allowed a → is_standing (after a (book x)).vote ≡ true → (is_standing (book x).vote ≡ true) ⊎ IsClear c s book x
+  standing_from : (a : Act) → Allowed a → is_standing (after a (book x)).vote ≡ true →
+      (is_standing (book x).vote ≡ true) ⊎ IsClear c s book x
   standing_from (Votes Commit) (_, _, inl w) h = inl (ap is_standing w)
   standing_from (Votes Commit) (_, _, inr w) h = inr w.1
   standing_from (Votes Abort) m h = cc
@@ -81,7 +93,8 @@ module _ (c : Setting) (signed : Signed) (aborted : Id → Bool) (s r : ℕ) (bo
   standing_from (Adopts e v) m h = inl h
 
   -- a vote is signed only without an outcome
-  pub vote_open : (a : Act) → Allowed a → (y : Id) (d : Decision) → Contains (words s r x a (book x)) (Vote s r y d) → (after a (book x)).outcome ≡ None
+  pub vote_open : (a : Act) → Allowed a → (y : Id) (d : Decision) → Contains (words s r x a (book x)) (Vote s r y d) →
+      (after a (book x)).outcome ≡ None
   vote_open (Votes Commit) m y d h = m.0
   vote_open (Votes Abort) m y d h = m.0
   vote_open Waits m y d h = absurd (in_none _ h)
@@ -93,18 +106,20 @@ module _ (c : Setting) (signed : Signed) (aborted : Id → Bool) (s r : ℕ) (bo
   vote_open (Adopts e v) m y d h = let k = in_one _ _ h in cc
 
   -- a commit vote is signed once what the transaction depends on is committed
-  vote_after_dependencies : (a : Act) → Allowed a → ((y : Id) → (book y).outcome ≡ Some Commit → CanCommit c signed y) → (u y : Id) → Contains (words s r x a (book x)) (Vote s r u Commit) → c.depends u y s ≡ true → CanCommit c signed y
-  vote_after_dependencies (Votes Commit) m f u y h n = let e : Vote s r x Commit ≡ Vote s r u Commit = in_one _ _ h in let i : x ≡ u = cc in f y (m.1 y (subst (λ (z : Id). c.depends z y s ≡ true) (sym i) n))
-  vote_after_dependencies (Votes Abort) m f u y h n = let e : Vote s r x Abort ≡ Vote s r u Commit = in_one _ _ h in cc
-  vote_after_dependencies Waits m f u y h n = absurd (in_none _ h)
-  vote_after_dependencies (Ends e) m f u y h n = absurd (in_none _ h)
-  vote_after_dependencies (Logs e) m f u y h n = let k = in_one _ _ h in cc
-  vote_after_dependencies Repeats m f u y h n = absurd (no_vote_in_reply s r x u Commit _ h)
-  vote_after_dependencies (Enters w) m f u y h n = absurd (no_vote_in_election s r x u w Commit _ h)
-  vote_after_dependencies (Proposes e v) m f u y h n = let k = in_one _ _ h in cc
-  vote_after_dependencies (Adopts e v) m f u y h n = let k = in_one _ _ h in cc
+  vote_after_dependencies : (a : Act) → Allowed a → (u y : Id) → Contains (words s r x a (book x)) (Vote s r u Commit) →
+      c.depends u y s ≡ true → (book y).outcome ≡ Some Commit
+  vote_after_dependencies (Votes Commit) m u y h n = let e : Vote s r x Commit ≡ Vote s r u Commit = in_one _ _ h in let i : x ≡ u = cc in m.1 y (subst (λ (z : Id). c.depends z y s ≡ true) (sym i) n)
+  vote_after_dependencies (Votes Abort) m u y h n = let e : Vote s r x Abort ≡ Vote s r u Commit = in_one _ _ h in cc
+  vote_after_dependencies Waits m u y h n = absurd (in_none _ h)
+  vote_after_dependencies (Ends e) m u y h n = absurd (in_none _ h)
+  vote_after_dependencies (Logs e) m u y h n = let k = in_one _ _ h in cc
+  vote_after_dependencies Repeats m u y h n = absurd (no_vote_in_reply s r x u Commit _ h)
+  vote_after_dependencies (Enters w) m u y h n = absurd (no_vote_in_election s r x u w Commit _ h)
+  vote_after_dependencies (Proposes e v) m u y h n = let k = in_one _ _ h in cc
+  vote_after_dependencies (Adopts e v) m u y h n = let k = in_one _ _ h in cc
 
-  pub VotesHold-step : Sane c → (a : Act) (own : List Word) → Allowed a → VotesHold c signed aborted s r own book → VotesHold c signed aborted s r (own ++ words s r x a (book x)) (put_id book x (after a (book x)))
+  pub VotesHold-step : Sane c → (a : Act) (own : List Word) → Allowed a → VotesHold c signed aborted s r own book →
+      VotesHold c signed aborted s r (own ++ words s r x a (book x)) (put_id book x (after a (book x)))
   VotesHold-step ok a own m o =
       let t = after a (book x) in
       let ws = words s r x a (book x) in
@@ -118,7 +133,8 @@ module _ (c : Setting) (signed : Signed) (aborted : Id → Bool) (s r : ℕ) (bo
         ended_commit = put_id_cases (λ z u. u.outcome ≡ Some Commit → CanCommit c signed z) book x t
             (λ h. elim (commit_from a m h) [ inl k ↦ o.ended_commit x k | inr k ↦ k ])
             (λ z _ h. o.ended_commit z h);
-        dependencies = λ u y h n. elim (Contains-append_cases own ws _ h) [ inl k ↦ o.dependencies u y k n | inr k ↦ vote_after_dependencies a m o.ended_commit u y k n ];
+        dependencies = λ u y h n. put_id_cases (λ z v. (book z).outcome ≡ Some Commit → v.outcome ≡ Some Commit) book x t (commit_kept a m) (λ z _ e. e) y
+            (elim (Contains-append_cases own ws _ h) [ inl k ↦ o.dependencies u y k n | inr k ↦ vote_after_dependencies a m u y k n ]);
         apart = put_id_cases (λ y u. (z : Id) → c.conflict y z s ≡ true → is_standing u.vote ≡ true → is_standing (put_id book x t z).vote ≡ true → (u.outcome ≡ Some Abort) ⊎ ((put_id book x t z).outcome ≡ Some Abort)) book x t
             (put_id_cases (λ z v. c.conflict x z s ≡ true → is_standing t.vote ≡ true → is_standing v.vote ≡ true → (t.outcome ≡ Some Abort) ⊎ (v.outcome ≡ Some Abort)) book x t
             (λ k _ _. let e : false ≡ true = sym (ok.not_itself x s) ∙ k in cc)
@@ -135,11 +151,13 @@ module _ (c : Setting) (signed : Signed) (aborted : Id → Bool) (s r : ℕ) (bo
       }
 
 -- what others sign and what else is shown does no harm
-pub VotesHold-grows : (c : Setting) (p q : Signed) → Grows p q → (aborted more : Id → Bool) → ((x : Id) → aborted x ≡ true → more x ≡ true) → (s r : ℕ) (own : List Word) (book : Book) → VotesHold c p aborted s r own book → VotesHold c q more s r own book
+pub VotesHold-grows : (c : Setting) (p q : Signed) → Grows p q → (aborted more : Id → Bool) →
+    ((x : Id) → aborted x ≡ true → more x ≡ true) → (s r : ℕ) (own : List Word) (book : Book) → VotesHold c p aborted s r own book →
+    VotesHold c q more s r own book
 VotesHold-grows c p q g aborted more k s r own book o = record {
   said = o.said;
   apart = o.apart;
   ended_abort = λ x h. k x (o.ended_abort x h);
   ended_commit = λ x h. CanCommit-grows c p q g x (o.ended_commit x h);
-  dependencies = λ x y h n. CanCommit-grows c p q g y (o.dependencies x y h n);
+  dependencies = o.dependencies;
 }

@@ -9,6 +9,10 @@ use Rattle.agreement_laws.specs.Settings.{Setting}
 abbrev pub Signed : Type 0
 Signed = (shard replica : ℕ) → List Word
 
+-- each has signed no fewer
+abbrev pub Grows : Signed → Signed → Type 0
+Grows p q = (s r : ℕ) (w : Word) → Contains (p s r) w → Contains (q s r) w
+
 -- a signature of that replica on the word may be shown: it is faulty, or it signed the word
 abbrev pub Says : Setting → Signed → (shard replica : ℕ) → Word → Type 0
 Says c signed s r w = (c.faulty s r ≡ true) ⊎ Contains (signed s r) w
@@ -24,7 +28,9 @@ Tallied c signed x Abort = (s : ℕ) × (c.involved x s ≡ true) × Voted c sig
 
 -- a log quorum of replies with one decision and one decided view, whatever views their replicas are in
 abbrev pub Logged : Setting → Signed → Id → Decision → (view : ℕ) → Type 0
-Logged c signed x d v = Quorum (replicas c.f) (log_quorum c.f) (λ r. (current : ℕ) × Says c signed (c.log_shard x) r (LogReply (c.log_shard x) r x d v current))
+Logged c signed x d v =
+    Quorum (replicas c.f) (log_quorum c.f)
+    (λ r. (current : ℕ) × Says c signed (c.log_shard x) r (LogReply (c.log_shard x) r x d v current))
 
 -- exactly a log quorum of replicas
 abbrev pub IsElection : (f : ℕ) → (ℕ → Bool) → Type 0
@@ -40,7 +46,8 @@ pub record Elected (c : Setting) (signed : Signed) (x : Id) (d : Decision) (view
   pub names : ℕ → Decision
   pub exact : IsElection c.f who
   pub most : IsMajority c.f who names d
-  pub each : (r : ℕ) → r < replicas c.f → who r ≡ true → Says c signed (c.log_shard x) r (Election (c.log_shard x) r x (names r) view)
+  pub each : (r : ℕ) → r < replicas c.f → who r ≡ true →
+      Says c signed (c.log_shard x) r (Election (c.log_shard x) r x (names r) view)
 
 -- the proposal of the view's leader
 abbrev pub Proposed : Setting → Signed → Id → Decision → (view : ℕ) → Type 0

@@ -7,3 +7,4 @@ pub mod Runs
 pub mod Invariants
 pub mod Laws
 pub mod Examples
+pub mod DividedLog

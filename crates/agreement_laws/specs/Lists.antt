@@ -19,7 +19,8 @@ abbrev pub LogOfList : Type 0
 LogOfList =
     (c : Setting) (signed : Signed) (x : Id) (d : Decision) (v : ℕ) (rs : List ℕ) →
     AreRising 0 (replicas c.f) rs → log_quorum c.f ≤ length rs →
-    ((r : ℕ) → Contains rs r → (current : ℕ) × Says c signed (c.log_shard x) r (LogReply (c.log_shard x) r x d v current)) →
+    ((r : ℕ) → Contains rs r →
+    (current : ℕ) × Says c signed (c.log_shard x) r (LogReply (c.log_shard x) r x d v current)) →
     Logged c signed x d v
 
 -- an election word without what all of a list have in common
@@ -36,5 +37,6 @@ ElectionOfList =
     (c : Setting) (signed : Signed) (x : Id) (d : Decision) (v : ℕ) (ws : List Named) →
     AreRising 0 (replicas c.f) (replicas_of ws) → length ws ≡ log_quorum c.f →
     majority c.f ≤ count_by (λ w. same_decision w.decision d) ws →
-    ((w : Named) → Contains ws w → Says c signed (c.log_shard x) w.replica (Election (c.log_shard x) w.replica x w.decision v)) →
+    ((w : Named) → Contains ws w →
+    Says c signed (c.log_shard x) w.replica (Election (c.log_shard x) w.replica x w.decision v)) →
     Elected c signed x d v

@@ -62,7 +62,10 @@ AreLawful c (e ∷ es) st = IsLawful c st e × AreLawful c es (happens st e)
 
 -- nothing is signed, known or shown
 abbrev pub start : State
-start = record { nodes = λ _ _. record { own = []; book = λ _. record { vote = Unvoted; outcome = None; cell = None } }; aborted = λ _. false }
+start = record {
+  nodes = λ _ _. record { own = []; book = λ _. record { vote = Unvoted; outcome = None; cell = None } };
+  aborted = λ _. false;
+}
 
 -- A replica's answer to one message may be several acts, each judged by the book that the ones before it left and
 -- by what was signed and shown before the message.
@@ -72,7 +75,8 @@ answered s r p (a ∷ rest) = answered s r (acted s r p a.0 a.1) rest
 
 abbrev pub MayAnswer : Setting → Signed → (Id → Bool) → (shard replica : ℕ) → Node → List (Id × Act) → Type 0
 MayAnswer c signed aborted s r p [] = Unit {0}
-MayAnswer c signed aborted s r p (a ∷ rest) = May c signed aborted s p.book a.0 a.1 × MayAnswer c signed aborted s r (acted s r p a.0 a.1) rest
+MayAnswer c signed aborted s r p (a ∷ rest) =
+    May c signed aborted s p.book a.0 a.1 × MayAnswer c signed aborted s r (acted s r p a.0 a.1) rest
 
 abbrev pub answers : State → (shard replica : ℕ) → List (Id × Act) → State
 answers st s r acts = record st { nodes = put_node st.nodes s r (answered s r (st.nodes s r) acts) }

@@ -13,13 +13,18 @@ pub mod lists;
 pub mod runs;
 pub mod states;
 
-pub use examples::certificates_are_reached;
+pub use examples::{a_divided_log_is_settled, certificates_are_reached};
 pub use invariant::{
     invariant_after_answer, invariant_after_event, invariant_at_start, invariant_in_every_run,
 };
 pub use lists::{election_of_list, log_of_list, votes_of_list};
 pub use runs::{
-    agreement_in_every_run, counting_in_every_run, dependency_in_every_run, exclusion_in_every_run,
-    lock_in_in_every_run,
+    agreement_in_every_run, certificates_stay_in_every_run, commit_votes_in_every_run,
+    counting_in_every_run, dependency_in_every_run, dependency_there_in_every_run,
+    exclusion_in_every_run, lock_in_in_every_run, shown_are_possible_in_every_run,
+    voters_in_every_run,
 };
-pub use states::{agreement, counting, dependency, exclusion, lock_in, one_elected};
+pub use states::{
+    agreement, certificates_stay, commit_votes, counting, dependency, dependency_there, exclusion,
+    lock_in, one_elected, voters,
+};

@@ -26,12 +26,12 @@ split-None : (bs : List ℕ) → position (λ b. b == 10) bs ≡ None → slice_
 split-None bs e = slice_split_none (λ b. b == 10) bs (position-None (λ b. b == 10) bs e)
 
 -- bytes are split into one piece at least
-record Pieces (bs : List ℕ) : Type 0 where
-  first : List ℕ
-  others : List (List ℕ)
-  is : slice_split (λ b. b == 10) bs ≡ first ∷ others
+pub record Pieces (bs : List ℕ) : Type 0 where
+  pub first : List ℕ
+  pub others : List (List ℕ)
+  pub is : slice_split (λ b. b == 10) bs ≡ first ∷ others
 
-pieces : (bs : List ℕ) → Pieces bs
+pub pieces : (bs : List ℕ) → Pieces bs
 pieces bs = by (position (λ b. b == 10) bs) refl
   where
     by : (o : Option ℕ) → position (λ b. b == 10) bs ≡ o → Pieces bs

@@ -5,6 +5,8 @@ pub mod Commands
 pub mod Outcome
 pub mod Signatures
 pub mod Checking
+pub mod Signers
 pub mod Output
 pub mod Answers
+pub mod Reading
 pub mod Parts

@@ -1,5 +1,5 @@
 -- What a command leads to, and what is written.
-use Rattle.std.specs.Prelude.{ℕ, List, [], ◌∷◌, ◌++◌, length, nat_lt, codes, decimal, if◌then◌else◌}
+use Rattle.std.specs.Prelude.{ℕ, List, [], ◌∷◌, ◌++◌, length, Bool, nat_lt, codes, decimal, if◌then◌else◌}
 
 pub data Outcome : Type 0 where
   -- the words are no command
@@ -24,6 +24,14 @@ text_of TooLong = codes "too long 16777216" ++ 10 ∷ []
 abbrev pub read_fault_text : List ℕ
 read_fault_text = codes "read fault" ++ 10 ∷ []
 
+-- the most bytes of an input that is read whole
+abbrev pub longest_input : ℕ
+longest_input = 16777216
+
+-- whether bytes are more than are read whole
+abbrev pub is_too_long : List ℕ → Bool
+is_too_long bytes = nat_lt longest_input (length bytes)
+
 -- an input that is read whole is too long before anything else is judged of it
 abbrev pub unless_too_long : List ℕ → Outcome → Outcome
-unless_too_long bytes outcome = if nat_lt 16777216 (length bytes) then TooLong else outcome
+unless_too_long bytes outcome = if is_too_long bytes then TooLong else outcome

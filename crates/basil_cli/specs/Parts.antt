@@ -2,14 +2,13 @@
 use Rattle.std.specs.Prelude.{◌≡◌, ◌<◌, ◌≤◌, ℕ, length, List, [], ◌∷◌, Bool, false, Option, Some, None, Result, Ok, Err, ⊤}
 use Rattle.basil_types.specs.Setting.{Setting}
 use Rattle.cluster_world.specs.Run.{EventValue, happens}
-use Rattle.cluster_world.specs.Safe.{IsSafe}
 use Rattle.cluster_world.specs.State.{State}
 use Rattle.cluster_world.specs.World.{WorldValue, IsSmall}
 use Rattle.frame_views.specs.Shown.{writeback_of}
 use Rattle.frame_views.specs.Values.{WritebackValue}
 use Rattle.frame_views.specs.declared.frames.views.WritebackView.{WritebackView}
-use Rattle.basil_cli.specs.Outcome.{Outcome, BadLine, Written, Refused, TooLong}
-use Rattle.basil_cli.specs.Replay.{ReplayState, Ended, Refusal, First, Skips, Opens, Fails, called}
+use Rattle.basil_cli.specs.Outcome.{Outcome, BadLine, Written, Refused, TooLong, longest_input}
+use Rattle.basil_cli.specs.Replay.{ReplayState, Refusal, First, Skips, Opens, Fails, called}
 use Rattle.basil_cli.specs.declared.header.Opening.{Opening}
 use Rattle.basil_cli.specs.declared.header.Opening.TheVariants as opening
 use Rattle.basil_cli.specs.declared.input.Whole.{Whole}
@@ -60,21 +59,16 @@ outcome_is (ending.Written text) = Written text
 outcome_is (ending.Refused reason) = Refused reason
 outcome_is ending.TooLong = TooLong
 
--- the run that a schedule leads to has no transaction with certificates of both kinds
-abbrev pub IsSafeEnd : Result Ended Refusal → Type 0
-IsSafeEnd (Ok e) = IsSafe e.cluster e.replay.state
-IsSafeEnd (Err refusal) = ⊤
-
 -- a header that opens a replay has one shard of one replica
 abbrev pub IsSmallOpening : Opening → Type 0
 IsSmallOpening opening.Skips = ⊤
 IsSmallOpening (opening.Opens cluster clock) = IsSmall cluster
 IsSmallOpening (opening.Fails reason) = ⊤
 
--- an input that was read whole has these bytes; one that is too long has more than 16,777,216
+-- an input that was read whole has these bytes; one that is too long has more than are read whole
 abbrev pub IsWhole : Whole → List ℕ → Type 0
-IsWhole (whole.Bytes all) bytes = (all ≡ bytes) × (length bytes ≤ 16777216)
-IsWhole whole.TooLong bytes = 16777216 < length bytes
+IsWhole (whole.Bytes all) bytes = (all ≡ bytes) × (length bytes ≤ longest_input)
+IsWhole whole.TooLong bytes = longest_input < length bytes
 
 -- a writeback that was read, or the reason why the line is refused
 abbrev pub Framed : Result WritebackView ℕ → Result WritebackValue ℕ → Type 0

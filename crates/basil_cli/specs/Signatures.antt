@@ -3,9 +3,9 @@ use Rattle.std.specs.Prelude.{ℕ, List, [], ◌∷◌, ◌++◌, codes, Option,
 use Rattle.hex.specs.Hex.{encode_lower}
 use Rattle.lms_sign.specs.Signing.{signature_of}
 use Rattle.lms_sign.specs.Tree.{Tree, tree_of, public_of}
+use Rattle.lms_sign.specs.Numbers.{refusal_number}
 use Rattle.lms_sign.specs.Verifying.{first_refusal}
 use Rattle.lms_sign.specs.declared.verifying.LmsRefusal.{LmsRefusal}
-use Rattle.lms_sign.specs.declared.verifying.LmsRefusal.TheVariants.{KeyLength, SetType, SignatureLength, TypeDiffers, LeafRange, Root}
 use Rattle.basil_cli.specs.Outcome.{Outcome, Written, Refused}
 use Rattle.basil_cli.specs.declared.command.KeyMaterial.{KeyMaterial}
 
@@ -21,14 +21,6 @@ keys_made m = Written (hex_line (public_of (tree_named m)))
 
 abbrev pub signed : KeyMaterial → ℕ → List ℕ → Outcome
 signed m leaf message = Written (hex_line (signature_of (tree_named m) leaf message))
-
-abbrev pub refusal_number : LmsRefusal → ℕ
-refusal_number KeyLength = 1
-refusal_number SetType = 2
-refusal_number SignatureLength = 3
-refusal_number TypeDiffers = 4
-refusal_number LeafRange = 5
-refusal_number Root = 6
 
 abbrev pub verified_with : Option LmsRefusal → Outcome
 verified_with None = Written (codes "accepted" ++ 10 ∷ [])

@@ -6,24 +6,19 @@ ghost use Rattle.frame_views.specs.Fitting.{FitsCertificate, FitsWriteback, boun
 ghost use Rattle.frame_views.specs.Shown.{certificate_of, writeback_of};
 ghost use Rattle.txn_meta.specs.Form.{form_fault};
 ghost use Rattle.basil_cli.specs.Checking as checking;
-ghost use Rattle.basil_cli.specs.Checking.{accepted_by, decision_text, proved_by, judged, judged_alone, framed, writeback_on, checked_under, headed, checked};
+ghost use Rattle.basil_cli.specs.Checking.{accepted_by, proved_by, judged, judged_alone, framed, writeback_on, checked_under, headed, checked};
 ghost use Rattle.basil_cli.specs.Lines.{lines_of};
-ghost use Rattle.basil_cli.specs.Outcome.{Written};
 ghost use Rattle.basil_cli.specs.Parts.{outcome_is, Framed};
 
 use crate::ending::Ending;
 use crate::input::first_line;
-use basil_types::bytes::Bytes;
+use crate::proving::{judge_by, judge_by_replay};
 use basil_types::cluster::Cluster;
 use basil_types::memory::NoMemory;
-use basil_types::party::Decision;
 use basil_types::transaction::TransactionView;
-use certificates::{check_abort, check_commit};
 use frame_views::certificates::CertificateView;
 use frame_views::frames::{MessageView, WritebackView};
 use keyring::plain::PlainKeys;
-use keyring::verifier::Verifier;
-use keyring_lms::LmsKeys;
 use lms_sign::LmsSet;
 use schedule_text::fields::frames::read_hex;
 use schedule_text::line::{KeysKind, Line, LineFault};
@@ -32,7 +27,7 @@ use std::alloc::Global;
 use txn_meta::form::check_form;
 
 /// The keys of a replay.
-#[derive(Clone, Copy, Debug)]
+#[derive(Clone, Copy)]
 pub(crate) enum Ring {
     /// Plain ones.
     Plain,
@@ -54,43 +49,7 @@ fn ring_of(keys: KeysKind) -> Option<Ring>
     }
 }
 
-/// `commit` or `abort`
-fn proved_text(alloc: Global, decision: Decision) -> Result<Ending, NoMemory>
-    ensures { IfOk result (λ e. outcome_is e ≡ Written (decision_text decision)) }
-{
-    match decision {
-        Decision::Commit => Ok(Ending::Written(Bytes::copy_of(alloc, b"commit\n")?)),
-        Decision::Abort => Ok(Ending::Written(Bytes::copy_of(alloc, b"abort\n")?)),
-    }
-}
-
-/// Whether a certificate proves the decision that it is for, by these keys.
-#[tactic(auto, unfolding(crate::specs::Checking::proved_by))]
-fn judge_by<V: Verifier>(
-    alloc: Global,
-    keys: &V,
-    cluster: &Cluster,
-    t: TransactionView<'_>,
-    c: &CertificateView<'_>,
-) -> Result<Ending, NoMemory>
-    requires form { form_fault (transaction_of t) ≡ None }
-    requires fits { FitsCertificate (bounds_of cluster.now) (certificate_of c.now) }
-    ensures { IfOk result (λ e. outcome_is e ≡ proved_by (V.accepted keys.now) cluster.now (transaction_of t.entry) (certificate_of c.now)) }
-{
-    let decision = certificates::decision_of(&c.body());
-    let answer = match decision {
-        Decision::Commit => check_commit(keys, cluster, t, c),
-        Decision::Abort => check_abort(keys, cluster, t, c),
-    };
-    match answer {
-        Ok(()) => proved_text(alloc, decision),
-        Err(refusal) => Ok(Ending::Refused {
-            reason: refusal.number(),
-        }),
-    }
-}
-
-/// The same by the keys of a replay.
+/// Whether a certificate proves the decision that it is for, by the keys of a replay.
 fn judge_with(
     alloc: Global,
     ring: Ring,
@@ -104,7 +63,7 @@ fn judge_with(
 {
     match ring {
         Ring::Plain => judge_by(alloc, &PlainKeys::new(cluster), cluster, t, c),
-        Ring::Lms { set } => judge_by(alloc, &LmsKeys::replay(alloc, cluster, set)?, cluster, t, c),
+        Ring::Lms { set } => judge_by_replay(alloc, set, cluster, t, c),
     }
 }
 

@@ -14,7 +14,7 @@ use schedule_text::fields::numbers::read_number;
 use std::alloc::Global;
 
 /// What an LMS key is made of: a parameter set, and the SEED and the identifier I of RFC 8554.
-#[derive(Clone, Copy, Debug)]
+#[derive(Clone, Copy)]
 pub(crate) struct KeyMaterial {
     pub set: LmsSet,
     pub seed: [u8; 32],
@@ -22,7 +22,7 @@ pub(crate) struct KeyMaterial {
 }
 
 /// What the program is asked to do.
-#[derive(Debug, Drop)]
+#[derive(Drop)]
 pub(crate) enum Command {
     /// The report of a schedule.
     Replay,
@@ -110,24 +110,13 @@ fn read_material(
     Ok(Some(KeyMaterial { set, seed, ident }))
 }
 
-/// The number of leaves of a set's tree.
-fn leaves(set: LmsSet) -> u64
-    ensures value { result ≡ leaves_of set }
-    ensures few { result ≤ 1024 }
-{
-    match set {
-        LmsSet::W4H5 | LmsSet::W8H5 => 32,
-        LmsSet::W4H10 | LmsSet::W8H10 => 1024,
-    }
-}
-
 /// The number of a leaf of a set's tree.
 fn read_leaf(set: LmsSet, word: &str) -> Option<u32>
     ensures value { result ≡ leaf_of set word.now }
     ensures below { IfSome result (λ leaf. leaf < leaves_of set) }
 {
     match read_number(word.as_bytes()) {
-        Ok(leaf) if leaf < leaves(set) => Some(leaf as u32),
+        Ok(leaf) if leaf < u64::from(set.leaves()) => Some(leaf as u32),
         _ => None,
     }
 }

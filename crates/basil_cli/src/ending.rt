@@ -3,7 +3,8 @@
 ghost use Rattle.std.specs.Prelude.{◌≡◌, ◌+◌, ◌^◌, ◌<◌, length, IfOk};
 ghost use Rattle.basil_cli.specs.Lines.{lines_of};
 ghost use Rattle.basil_cli.specs.Output.{replayed};
-ghost use Rattle.basil_cli.specs.Parts.{outcome_is, IsSafeEnd};
+ghost use Rattle.basil_cli.specs.Answers.{IsSafeEnd};
+ghost use Rattle.basil_cli.specs.Parts.{outcome_is};
 ghost use Rattle.basil_cli.specs.Replay.{ended_of, ended_lines, ended_with, run_lines, first_replay};
 ghost use Rattle.cluster_world.specs.World.{IsSmall};
 
@@ -18,7 +19,7 @@ use cluster_world::world::World;
 use std::alloc::Global;
 
 /// What a command leads to.
-#[derive(Debug, Drop)]
+#[derive(Drop)]
 pub(crate) enum Ending {
     /// The first line that is refused, and why.
     BadLine { line: u64, reason: u8 },

@@ -13,7 +13,7 @@ use schedule_text::reading::read_line;
 use std::alloc::Global;
 
 /// What a line does where no header came before it.
-#[derive(Clone, Copy, Debug)]
+#[derive(Clone, Copy)]
 pub(crate) enum Opening {
     /// It is skipped.
     Skips,

@@ -3,8 +3,12 @@
 ghost use Rattle.std.specs.Prelude.{◌≡◌, ◌≤◌, ◌<◌, ◌∷◌, [], IfOk, IfSome, MatchOption, IsErrOf, length, position, ◌==◌};
 ghost use Rattle.basil_types.specs.Causes.{Rose};
 ghost use Rattle.basil_cli.specs.Lines.{lines_of};
+ghost use Rattle.basil_cli.specs.Outcome.{is_too_long};
 ghost use Rattle.basil_cli.specs.Parts.{IsWhole};
+ghost use Rattle.basil_cli.specs.Reading.{IsRead, IsReadThrough, is_settled};
+ghost use Rattle.basil_cli.specs.Replay.{ended_of};
 
+use crate::place::Place;
 use basil_types::bytes::Bytes;
 use basil_types::memory::NoMemory;
 use basil_types::source::{Failed, Source};
@@ -14,7 +18,7 @@ use std::alloc::Global;
 const LONGEST_INPUT: usize = 16_777_216;
 
 /// Why a source was not read to its end.
-#[derive(Clone, Copy, Debug, PartialEq, Eq)]
+#[derive(Clone, Copy)]
 pub(crate) enum InputFail {
     /// The source failed.
     Failed,
@@ -33,30 +37,37 @@ impl From<NoMemory> for InputFail {
     }
 }
 
-/// Reads a source to its end.
-pub(crate) fn read_all<S: Source>(alloc: Global, source: &mut S) -> Result<Vec<u8>, InputFail>
-    ensures bytes { IfOk result (λ v. IfSome (S.left source.old) (λ bytes. v.items ≡ bytes)) }
+/// Reads a schedule to its end, or as far as what it leads to is settled.
+pub(crate) fn read_schedule<S: Source>(alloc: Global, source: &mut S) -> Result<Vec<u8>, InputFail>
+    ensures same { IfOk result (λ v. IfSome (S.left source.old) (λ bytes. ended_of v.items ≡ ended_of bytes)) }
+    ensures through { IfOk result (λ v. IfSome (S.left source.old) (λ bytes.
+        IsRead is_settled bytes v.items (S.left source.new))) }
     ensures failed { IsErrOf result InputFail.Failed → Rose (S.faults source.old) (S.faults source.new) }
-    ensures later { S.faults source.old ≤ S.faults source.new }
+    ensures told { S.faults source.old < S.faults source.new → IsErrOf result InputFail.Failed }
 {
     let mut all = Vec::new(alloc);
     let mut buf = [0u8; 4096];
+    let mut place = Place::beginning();
     'turns: for _ in 0..u64::MAX {
-        match source.read(&mut buf) {
+        let count = match source.read(&mut buf) {
             Ok(0) => return Ok(all),
-            Ok(count) => {
-                if all.extend_from_slice(&buf[..count]).is_err() {
-                    return Err(InputFail::NoMemory);
-                }
-            }
+            Ok(count) => count,
             Err(_) => return Err(InputFail::Failed),
+        };
+        let piece = &buf[..count];
+        if all.extend_from_slice(piece).is_err() {
+            return Err(InputFail::NoMemory);
+        }
+        match place.reach(piece) {
+            Some(next) => place = next,
+            None => return Ok(all),
         }
     }
     Err(InputFail::NoMemory)
 }
 
 /// An input that is read whole.
-#[derive(Debug, Drop)]
+#[derive(Drop)]
 pub(crate) enum Whole {
     /// All its bytes.
     Bytes(Bytes),
@@ -67,8 +78,10 @@ pub(crate) enum Whole {
 /// Reads a source to its end, unless it gives more than 16,777,216 bytes.
 pub(crate) fn read_whole<S: Source>(alloc: Global, source: &mut S) -> Result<Whole, InputFail>
     ensures bytes { IfOk result (λ whole. IfSome (S.left source.old) (λ bytes. IsWhole whole bytes)) }
+    ensures through { IfOk result (λ _. IfSome (S.left source.old) (λ bytes.
+        IsReadThrough is_too_long bytes (S.left source.new))) }
     ensures failed { IsErrOf result InputFail.Failed → Rose (S.faults source.old) (S.faults source.new) }
-    ensures later { S.faults source.old ≤ S.faults source.new }
+    ensures told { S.faults source.old < S.faults source.new → IsErrOf result InputFail.Failed }
 {
     let mut all = Vec::new(alloc);
     let mut buf = [0u8; 4096];

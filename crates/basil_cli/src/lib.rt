@@ -6,6 +6,8 @@ mod command;
 mod ending;
 mod header;
 mod input;
+mod place;
+mod proving;
 mod replay;
 mod report;
 pub mod run;

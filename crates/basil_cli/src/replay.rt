@@ -20,7 +20,7 @@ use schedule_text::reading::{LONGEST_LINE, is_header, read_line};
 use std::alloc::{AllocError, AllocFailed, Global};
 
 /// Why a replay goes no further.
-#[derive(Clone, Copy, Debug, PartialEq, Eq)]
+#[derive(Clone, Copy)]
 pub(crate) enum Stop {
     /// The line is refused, for this reason.
     Refused { reason: u8 },
@@ -262,7 +262,7 @@ fn step_bytes(
 }
 
 /// Why a schedule goes no further.
-#[derive(Clone, Copy, Debug, PartialEq, Eq)]
+#[derive(Clone, Copy)]
 pub(crate) enum Failure {
     /// The line of this number is refused, for this reason.
     Refused { line: u64, reason: u8 },

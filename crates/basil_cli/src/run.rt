@@ -1,20 +1,21 @@
 //! The top call: all that the program does.
 
-ghost use Rattle.std.specs.Prelude.{◌≡◌, ◌⊎◌, false, Some, None, [], IfSome, IfOk, map, string_bytes};
+ghost use Rattle.std.specs.Prelude.{◌≡◌, ◌⊎◌, ◌<◌, ℕ, true, false, Some, None, [], IfSome, IfOk, map, string_bytes};
 ghost use Rattle.std.specs.Result.{IsErrOf};
-ghost use Rattle.basil_types.specs.Causes.{Rose};
-ghost use Rattle.basil_cli.specs.Answers.{Answers, IsTold, status_of};
+ghost use Rattle.basil_types.specs.Causes.{Rose, TookPrefix};
+ghost use Rattle.basil_cli.specs.Answers.{Answers, IsSafeEnd, IsTold, TookFault, is_outcomes, status_of};
 ghost use Rattle.basil_cli.specs.Commands as commands;
 ghost use Rattle.basil_cli.specs.Commands.{command_of, words_read, reads, HasLeaf};
 ghost use Rattle.basil_cli.specs.Outcome.{text_of, Usage, BadLine, Refused};
 ghost use Rattle.basil_cli.specs.Output.{outcome_of, output_of};
-ghost use Rattle.basil_cli.specs.Parts.{outcome_is, IsSafeEnd};
+ghost use Rattle.basil_cli.specs.Parts.{outcome_is};
+ghost use Rattle.basil_cli.specs.Reading.{IsReadFor, IsReadThrough, is_enough, is_settled};
 ghost use Rattle.basil_cli.specs.Replay.{ended_of};
 
 use crate::check::check;
 use crate::command::{Command, read_command};
 use crate::ending::{Ending, ending_of};
-use crate::input::{InputFail, Whole, read_all, read_whole};
+use crate::input::{InputFail, Whole, read_schedule, read_whole};
 use crate::signatures::{keys, sign, verify};
 use crate::status::Status;
 use basil_types::clock::Clock;
@@ -69,10 +70,12 @@ fn status_of_ending(ending: &Ending) -> Status
 
 /// Writes the text of an ending, and tells its status.
 fn write_ending<K: Sink>(alloc: Global, ending: &Ending, sink: &mut K) -> Status
-    ensures answers { Answers result (outcome_is ending.now) (K.taken sink.old) (K.taken sink.new) }
-    ensures told { (Rose (K.faults sink.old) (K.faults sink.new) → ⊥) → IsTold result (outcome_is ending.now) }
+    ensures answers { (before now : ℕ) →
+        Answers result (outcome_is ending.now) before now (K.taken sink.old) (K.taken sink.new) }
+    ensures complete { (Rose (K.faults sink.old) (K.faults sink.new) → ⊥) → IsTold result (outcome_is ending.now) }
     ensures words { result ≡ Status.BadWords → ⊥ }
     ensures cause { result ≡ Status.WriteFault → Rose (K.faults sink.old) (K.faults sink.new) }
+    ensures told { K.faults sink.old < K.faults sink.new → result ≡ Status.WriteFault }
     ensures no_read { result ≡ Status.ReadFault → ⊥ }
 {
     let Ok(text) = text_of_ending(alloc, ending) else {
@@ -86,9 +89,10 @@ fn write_ending<K: Sink>(alloc: Global, ending: &Ending, sink: &mut K) -> Status
 
 /// Writes that the words are no command.
 fn write_usage<K: Sink>(sink: &mut K) -> Status
-    ensures answers { Answers result Usage (K.taken sink.old) (K.taken sink.new) }
-    ensures told { (Rose (K.faults sink.old) (K.faults sink.new) → ⊥) → result ≡ Status.BadWords }
+    ensures answers { (before now : ℕ) → Answers result Usage before now (K.taken sink.old) (K.taken sink.new) }
+    ensures complete { (Rose (K.faults sink.old) (K.faults sink.new) → ⊥) → result ≡ Status.BadWords }
     ensures cause { result ≡ Status.WriteFault → Rose (K.faults sink.old) (K.faults sink.new) }
+    ensures told { K.faults sink.old < K.faults sink.new → result ≡ Status.WriteFault }
     ensures either { (result ≡ Status.BadWords) ⊎ (result ≡ Status.WriteFault) }
 {
     match sink.write(b"usage\n") {
@@ -99,11 +103,15 @@ fn write_usage<K: Sink>(sink: &mut K) -> Status
 
 /// What a schedule leads to; the run that its lines describe is safe.
 fn replay<S: Source>(alloc: Global, source: &mut S) -> Result<Ending, InputFail>
-    ensures outcome { IfOk result (λ e. IfSome (S.left source.old) (λ bytes. outcome_is e ≡ output_of Command.Replay bytes)) }
+    ensures outcome { IfOk result (λ e. IfSome (S.left source.old) (λ bytes.
+        outcome_is e ≡ output_of Command.Replay bytes)) }
     ensures safe { IfOk result (λ _. IfSome (S.left source.old) (λ bytes. IsSafeEnd (ended_of bytes))) }
+    ensures through { IfOk result (λ _. IfSome (S.left source.old) (λ bytes.
+        IsReadThrough is_settled bytes (S.left source.new))) }
     ensures failed { IsErrOf result InputFail.Failed → Rose (S.faults source.old) (S.faults source.new) }
+    ensures told { S.faults source.old < S.faults source.new → IsErrOf result InputFail.Failed }
 {
-    let bytes = read_all(alloc, source)?;
+    let bytes = read_schedule(alloc, source)?;
     match ending_of(alloc, &bytes) {
         Ok(ending) => Ok(ending),
         Err(NoMemory) => Err(InputFail::NoMemory),
@@ -117,11 +125,16 @@ fn ending_for<S: Source>(
     source: &mut S,
 ) -> Result<Ending, InputFail>
     requires { HasLeaf command.now }
-    ensures outcome { IfOk result (λ e. IfSome (S.left source.old) (λ bytes. outcome_is e ≡ output_of command.now bytes)) }
+    ensures outcome { IfOk result (λ e. IfSome (S.left source.old) (λ bytes.
+        outcome_is e ≡ output_of command.now bytes)) }
     ensures alone { reads command.now ≡ false → IfOk result (λ e. outcome_is e ≡ output_of command.now []) }
     ensures unread { reads command.now ≡ false → source.new ≡ source.old }
-    ensures safe { command.now ≡ Command.Replay → IfOk result (λ _. IfSome (S.left source.old) (λ bytes. IsSafeEnd (ended_of bytes))) }
+    ensures through { reads command.now ≡ true → IfOk result (λ _. IfSome (S.left source.old) (λ bytes.
+        IsReadThrough (is_enough command.now) bytes (S.left source.new))) }
+    ensures safe { command.now ≡ Command.Replay → IfOk result (λ _.
+        IfSome (S.left source.old) (λ bytes. IsSafeEnd (ended_of bytes))) }
     ensures failed { IsErrOf result InputFail.Failed → Rose (S.faults source.old) (S.faults source.new) }
+    ensures told { S.faults source.old < S.faults source.new → IsErrOf result InputFail.Failed }
 {
     match command {
         Command::Replay => replay(alloc, source),
@@ -154,14 +167,30 @@ fn run_command<S: Source, K: Sink>(
     sink: &mut K,
 ) -> Status
     requires { HasLeaf command.now }
-    ensures answers { IfSome (S.left source.old) (λ bytes. Answers result (output_of command.now bytes) (K.taken sink.old) (K.taken sink.new)) }
-    ensures alone { reads command.now ≡ false → Answers result (output_of command.now []) (K.taken sink.old) (K.taken sink.new) }
+    ensures answers { IfSome (S.left source.old) (λ bytes.
+        Answers result (output_of command.now bytes) (S.faults source.old) (S.faults source.new)
+        (K.taken sink.old) (K.taken sink.new)) }
+    ensures alone { reads command.now ≡ false →
+        Answers result (output_of command.now []) (S.faults source.old) (S.faults source.new)
+        (K.taken sink.old) (K.taken sink.new) }
     ensures unread { reads command.now ≡ false → source.new ≡ source.old }
-    ensures complete { (Rose (S.faults source.old) (S.faults source.new) → ⊥) → (Rose (K.faults sink.old) (K.faults sink.new) → ⊥) → IfSome (S.left source.old) (λ bytes. IsTold result (output_of command.now bytes)) }
-    ensures safe { IfSome (S.left source.old) (λ bytes. command.now ≡ Command.Replay → result ≡ Status.Done → IsSafeEnd (ended_of bytes)) }
+    ensures through { reads command.now ≡ true → is_outcomes result ≡ true → IfSome (S.left source.old) (λ bytes.
+        IsReadThrough (is_enough command.now) bytes (S.left source.new)) }
+    ensures complete { (Rose (S.faults source.old) (S.faults source.new) → ⊥) →
+        (Rose (K.faults sink.old) (K.faults sink.new) → ⊥) →
+        IfSome (S.left source.old) (λ bytes. IsTold result (output_of command.now bytes)) }
+    ensures safe { IfSome (S.left source.old) (λ bytes.
+        command.now ≡ Command.Replay → result ≡ Status.Done → IsSafeEnd (ended_of bytes)) }
+    ensures safe_in_part { IfSome (S.left source.old) (λ bytes.
+        command.now ≡ Command.Replay → result ≡ Status.WriteFault →
+        IsSafeEnd (ended_of bytes)
+        ⊎ TookFault (S.faults source.old) (S.faults source.new) (K.taken sink.old) (K.taken sink.new)) }
     ensures words { result ≡ Status.BadWords → ⊥ }
     ensures read { result ≡ Status.ReadFault → Rose (S.faults source.old) (S.faults source.new) }
     ensures write { result ≡ Status.WriteFault → Rose (K.faults sink.old) (K.faults sink.new) }
+    ensures read_told { S.faults source.old < S.faults source.new →
+        (result ≡ Status.ReadFault) ⊎ (result ≡ Status.WriteFault) }
+    ensures write_told { K.faults sink.old < K.faults sink.new → result ≡ Status.WriteFault }
 {
     match ending_for(alloc, command, source) {
         Ok(ending) => write_ending(alloc, &ending, sink),
@@ -186,25 +215,51 @@ pub fn run<S: Source, K: Sink, L: Links, C: Clock>(
     words: &[String],
     source: &mut S,
     sink: &mut K,
-    _links: &mut L,
-    _clock: &mut C,
+    links: &mut L,
+    clock: &mut C,
 ) -> Status
-    // Where the source tells its bytes, the status and what was written are those of the words and the bytes.
-    ensures answers { IfSome (S.left source.old) (λ bytes. Answers result (outcome_of (map string_bytes words.now) bytes) (K.taken sink.old) (K.taken sink.new)) }
+    // Where the source tells its bytes, the status and what was written are those of the words and the bytes. After a
+    // fault of the sink it is some of that text, or, where the source's count rose, some of the text of its fault.
+    ensures answers { IfSome (S.left source.old) (λ bytes.
+        Answers result (outcome_of (map string_bytes words.now) bytes) (S.faults source.old) (S.faults source.new)
+        (K.taken sink.old) (K.taken sink.new)) }
     // Where a report was written, no transaction of the run has both a commit and an abort certificate.
-    ensures safe { IfSome (S.left source.old) (λ bytes. command_of (map string_bytes words.now) ≡ Some Command.Replay → result ≡ Status.Done → IsSafeEnd (ended_of bytes)) }
+    ensures safe { IfSome (S.left source.old) (λ bytes.
+        command_of (map string_bytes words.now) ≡ Some Command.Replay → result ≡ Status.Done →
+        IsSafeEnd (ended_of bytes)) }
+    // Nor where any byte of a report was written before the sink failed.
+    ensures safe_in_part { IfSome (S.left source.old) (λ bytes.
+        command_of (map string_bytes words.now) ≡ Some Command.Replay → result ≡ Status.WriteFault →
+        IsSafeEnd (ended_of bytes)
+        ⊎ TookFault (S.faults source.old) (S.faults source.new) (K.taken sink.old) (K.taken sink.new)) }
     // Where no count rose, the status is that of the words and the bytes, or memory is wanting: a valid schedule gives
     // its whole report, and every other command its output or its refusal.
-    ensures complete { (Rose (S.faults source.old) (S.faults source.new) → ⊥) → (Rose (K.faults sink.old) (K.faults sink.new) → ⊥) → IfSome (S.left source.old) (λ bytes. IsTold result (outcome_of (map string_bytes words.now) bytes)) }
+    ensures complete { (Rose (S.faults source.old) (S.faults source.new) → ⊥) →
+        (Rose (K.faults sink.old) (K.faults sink.new) → ⊥) →
+        IfSome (S.left source.old) (λ bytes. IsTold result (outcome_of (map string_bytes words.now) bytes)) }
     // Words that aren't a command with an input decide alone, and nothing is read.
-    ensures alone { words_read (command_of (map string_bytes words.now)) ≡ false → Answers result (outcome_of (map string_bytes words.now) []) (K.taken sink.old) (K.taken sink.new) }
+    ensures alone { words_read (command_of (map string_bytes words.now)) ≡ false →
+        Answers result (outcome_of (map string_bytes words.now) []) (S.faults source.old) (S.faults source.new)
+        (K.taken sink.old) (K.taken sink.new) }
     ensures unread { words_read (command_of (map string_bytes words.now)) ≡ false → source.new ≡ source.old }
+    // The status of an outcome is answered when the input was read to its end, or as far as it decides.
+    ensures through { words_read (command_of (map string_bytes words.now)) ≡ true → is_outcomes result ≡ true →
+        IfSome (S.left source.old) (λ bytes.
+        IsReadFor (command_of (map string_bytes words.now)) bytes (S.left source.new)) }
     // The words alone decide on this answer.
     ensures words { result ≡ Status.BadWords → command_of (map string_bytes words.now) ≡ None }
-    ensures other_words { command_of (map string_bytes words.now) ≡ None → (result ≡ Status.BadWords) ⊎ ((result ≡ Status.WriteFault) ⊎ (result ≡ Status.NoMemory)) }
+    ensures other_words { command_of (map string_bytes words.now) ≡ None →
+        (result ≡ Status.BadWords) ⊎ ((result ≡ Status.WriteFault) ⊎ (result ≡ Status.NoMemory)) }
     // A fault has its cause.
     ensures read { result ≡ Status.ReadFault → Rose (S.faults source.old) (S.faults source.new) }
     ensures write { result ≡ Status.WriteFault → Rose (K.faults sink.old) (K.faults sink.new) }
+    // A fault is told.
+    ensures read_told { S.faults source.old < S.faults source.new →
+        (result ≡ Status.ReadFault) ⊎ (result ≡ Status.WriteFault) }
+    ensures write_told { K.faults sink.old < K.faults sink.new → result ≡ Status.WriteFault }
+    // No command uses the links or the clock.
+    ensures links { links.new ≡ links.old }
+    ensures clock { clock.new ≡ clock.old }
 {
     match read_command(alloc, words) {
         Ok(Some(command)) => run_command(alloc, &command, source, sink),

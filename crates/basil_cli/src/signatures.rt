@@ -3,14 +3,14 @@
 ghost use Rattle.std.specs.Prelude.{◌≡◌, ◌<◌, IfOk};
 ghost use Rattle.lms_sign.specs.Sets.{leaves_of};
 ghost use Rattle.basil_cli.specs.Signatures as signatures;
-ghost use Rattle.basil_cli.specs.Signatures.{keys_made, signed, verified, refusal_number};
+ghost use Rattle.basil_cli.specs.Signatures.{keys_made, signed, verified};
 ghost use Rattle.basil_cli.specs.Parts.{outcome_is};
 
 use crate::command::KeyMaterial;
 use crate::ending::Ending;
 use basil_types::bytes::Bytes;
 use basil_types::memory::NoMemory;
-use lms_sign::{LmsKey, LmsRefusal};
+use lms_sign::LmsKey;
 use std::alloc::Global;
 
 /// Bytes in lower-case hex, on a line.
@@ -49,20 +49,6 @@ pub(crate) fn sign(
     }
 }
 
-/// The number of a refusal, in the order of the tests.
-fn number_of(refusal: LmsRefusal) -> u8
-    ensures { result ≡ refusal_number refusal }
-{
-    match refusal {
-        LmsRefusal::KeyLength => 1,
-        LmsRefusal::SetType => 2,
-        LmsRefusal::SignatureLength => 3,
-        LmsRefusal::TypeDiffers => 4,
-        LmsRefusal::LeafRange => 5,
-        LmsRefusal::Root => 6,
-    }
-}
-
 /// Whether a signature of a message is valid under a public key.
 pub(crate) fn verify(
     alloc: Global,
@@ -75,7 +61,7 @@ pub(crate) fn verify(
     match lms_sign::verify(public, message, signature) {
         Ok(()) => Ok(Ending::Written(Bytes::copy_of(alloc, b"accepted\n")?)),
         Err(refusal) => Ok(Ending::Refused {
-            reason: number_of(refusal),
+            reason: refusal.number(),
         }),
     }
 }

@@ -1,15 +1,115 @@
-//! Frames and certificates written: of borrowed parts, and of owned values.
+//! Frames and certificates: read from bytes, owned, measured, and written.
+//!
+//! [`check`] reads a frame, [`signatures`], [`transactions`] and [`pairs`] walk over all that it carries, [`decode`] owns
+//! what it says, [`fits`] tells whether an owned message is in the grammar, and [`encode_into`] and the `put` calls append frames.
 #![tactic(auto)]
 
-mod certificates;
-mod fields;
-mod frames;
-mod lists;
-mod messages;
-
-pub use certificates::put_certificate;
-pub use frames::{
-    put_decide, put_elect, put_invoke, put_log_reply, put_message, put_read, put_read_reply,
-    put_recover, put_st1, put_st2, put_vote, put_writeback,
-};
-pub use messages::{encode_into, put_decide_parts, put_invoke_parts, put_st2_parts};
+pub use frame_fitting::fits;
+pub use frame_fitting::lengths;
+pub use frame_fitting::wider;
+pub use frame_values::decoding::decode;
+pub use frame_values::decoding::own_certificate;
+pub use frame_values::lending::BodyParts;
+pub use frame_values::lending::CertificateParts;
+pub use frame_values::lending::DecideParts;
+pub use frame_values::lending::InvokeParts;
+pub use frame_values::lending::MessageParts;
+pub use frame_values::lending::ReadReplyParts;
+pub use frame_values::lending::St2Parts;
+pub use frame_values::lending::VoteParts;
+pub use frame_values::lending::WritebackParts;
+pub use frame_values::lending::lent;
+pub use frame_values::owned::Certificate;
+pub use frame_values::owned::CertificateBody;
+pub use frame_values::owned::CommittedPart;
+pub use frame_values::owned::DecideMessage;
+pub use frame_values::owned::ElectMessage;
+pub use frame_values::owned::ElectPart;
+pub use frame_values::owned::InvokeMessage;
+pub use frame_values::owned::InvokePart;
+pub use frame_values::owned::LogPart;
+pub use frame_values::owned::LogReplyMessage;
+pub use frame_values::owned::Message;
+pub use frame_values::owned::ReadMessage;
+pub use frame_values::owned::ReadReplyMessage;
+pub use frame_values::owned::RecoverMessage;
+pub use frame_values::owned::ShardVotes;
+pub use frame_values::owned::St1Message;
+pub use frame_values::owned::St2Message;
+pub use frame_values::owned::VoteMessage;
+pub use frame_values::owned::VotePart;
+pub use frame_values::owned::WritebackMessage;
+pub use frame_views::carried;
+pub use frame_views::carried::PairItem;
+pub use frame_views::carried::pairs;
+pub use frame_views::carried::transactions;
+pub use frame_views::certificates::CertBody;
+pub use frame_views::certificates::CertificateView;
+pub use frame_views::fault::BadFrame;
+pub use frame_views::frames::CommittedView;
+pub use frame_views::frames::DecideView;
+pub use frame_views::frames::ElectView;
+pub use frame_views::frames::InvokeView;
+pub use frame_views::frames::LogReplyView;
+pub use frame_views::frames::MessageView;
+pub use frame_views::frames::ReadReplyView;
+pub use frame_views::frames::ReadView;
+pub use frame_views::frames::RecoverView;
+pub use frame_views::frames::St1View;
+pub use frame_views::frames::St2View;
+pub use frame_views::frames::VoteView;
+pub use frame_views::frames::WritebackView;
+pub use frame_views::frames::check;
+pub use frame_views::items::ElectItem;
+pub use frame_views::items::ElectsIter;
+pub use frame_views::items::ElectsView;
+pub use frame_views::items::InvokeItem;
+pub use frame_views::items::InvokesIter;
+pub use frame_views::items::InvokesView;
+pub use frame_views::items::LogItem;
+pub use frame_views::items::LogsIter;
+pub use frame_views::items::LogsView;
+pub use frame_views::items::ShardItem;
+pub use frame_views::items::TalliesIter;
+pub use frame_views::items::TalliesView;
+pub use frame_views::items::VoteItem;
+pub use frame_views::items::VotesIter;
+pub use frame_views::items::VotesView;
+pub use frame_views::laws;
+pub use frame_views::signed;
+pub use frame_views::signed::SignedItem;
+pub use frame_views::signed::signatures;
+pub use frame_writing::encode_into;
+pub use frame_writing::put_certificate;
+pub use frame_writing::put_decide;
+pub use frame_writing::put_decide_parts;
+pub use frame_writing::put_elect;
+pub use frame_writing::put_invoke;
+pub use frame_writing::put_invoke_parts;
+pub use frame_writing::put_log_reply;
+pub use frame_writing::put_message;
+pub use frame_writing::put_owned_certificate;
+pub use frame_writing::put_read;
+pub use frame_writing::put_read_reply;
+pub use frame_writing::put_read_reply_parts;
+pub use frame_writing::put_recover;
+pub use frame_writing::put_signature;
+pub use frame_writing::put_signature_reserved;
+pub use frame_writing::put_st1;
+pub use frame_writing::put_st2;
+pub use frame_writing::put_st2_parts;
+pub use frame_writing::put_unsigned_decide;
+pub use frame_writing::put_unsigned_decide_parts;
+pub use frame_writing::put_unsigned_elect;
+pub use frame_writing::put_unsigned_log_reply;
+pub use frame_writing::put_unsigned_read_reply;
+pub use frame_writing::put_unsigned_read_reply_parts;
+pub use frame_writing::put_unsigned_recover;
+pub use frame_writing::put_unsigned_st1;
+pub use frame_writing::put_unsigned_vote;
+pub use frame_writing::put_unsigned_vote_parts;
+pub use frame_writing::put_vote;
+pub use frame_writing::put_vote_parts;
+pub use frame_writing::put_writeback;
+pub use frame_writing::put_writeback_parts;
+pub use frame_writing::signatures_end_frames;

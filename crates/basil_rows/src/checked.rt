@@ -8,7 +8,6 @@ use keyring::signer::Signer;
 use keyring_lms::LmsPen;
 use lms_sign::LmsSet;
 use std::alloc::Global;
-use std::process::Abort;
 use std::test::Fail;
 
 /// A header, the frame of a writeback in hex, and what is said of it.
@@ -273,46 +272,46 @@ fn status_of(answer: &str) -> Status {
     }
 }
 
-/// A header and a frame are answered so.
-fn says(
-    rt: &impl Abort,
-    alloc: Global,
-    header: &str,
-    frame: &str,
-    answer: &str,
-) -> Result<(), Fail> {
+/// Whether a header and a frame are answered so.
+fn says(alloc: Global, header: &str, frame: &str, answer: &str) -> Result<bool, Fail> {
     let input = input(alloc, header, frame)?;
     let told = run_words(alloc, &["check"], input.as_bytes(), &[], &[])?;
-    assert_eq!(rt; told.status, status_of(answer));
-    assert_eq!(rt; told.text.strip_suffix(b"\n"), Some(answer.as_bytes()));
-    Ok(())
+    let text = told.text.strip_suffix(b"\n");
+    Ok(told.status == status_of(answer) && text == Some(answer.as_bytes()))
 }
 
-fn each_is_told(rt: &impl Abort, alloc: Global, table: &[Checked]) -> Result<(), Fail> {
+/// Whether each row of a table is answered so.
+fn are_told(alloc: Global, table: &[Checked]) -> Result<bool, Fail> {
     for row in table {
-        says(rt, alloc, row.header, row.frame, row.answer)?;
+        if !says(alloc, row.header, row.frame, row.answer)? {
+            return Ok(false);
+        }
     }
-    Ok(())
+    Ok(true)
 }
 
 #[test]
 fn one_of_each_kind(rt: HostRuntime) -> Result<(), Fail> {
-    each_is_told(&rt, rt.alloc(), TOLD)
+    assert!(rt; are_told(rt.alloc(), TOLD)?);
+    Ok(())
 }
 
 #[test]
 fn certificates_alone(rt: HostRuntime) -> Result<(), Fail> {
-    each_is_told(&rt, rt.alloc(), ALONE)
+    assert!(rt; are_told(rt.alloc(), ALONE)?);
+    Ok(())
 }
 
 #[test]
 fn certificates_with_another_inside(rt: HostRuntime) -> Result<(), Fail> {
-    each_is_told(&rt, rt.alloc(), NESTED)
+    assert!(rt; are_told(rt.alloc(), NESTED)?);
+    Ok(())
 }
 
 #[test]
 fn a_large_certificate(rt: HostRuntime) -> Result<(), Fail> {
-    says(&rt, rt.alloc(), EIGHT_SHARDS, LARGE, "commit")
+    assert!(rt; says(rt.alloc(), EIGHT_SHARDS, LARGE, "commit")?);
+    Ok(())
 }
 
 /// An input that is refused at a line.
@@ -444,13 +443,10 @@ const BAD_LINES: &[BadLine] = &[
 fn bad_lines_come_first(rt: HostRuntime) -> Result<(), Fail> {
     for row in BAD_LINES {
         let told = run_words(rt.alloc(), &["check"], row.input, &[], &[])?;
-        assert_eq!(&rt;
-            told.status,
-            Status::BadInput {
-                line: row.line,
-                reason: row.reason
-            }
-        );
+        let (line, reason) = (row.line, row.reason);
+        let text = format!(in rt.alloc(); "line {line} reason {reason}\n")?;
+        assert!(rt; told.status == Status::BadInput { line, reason });
+        assert!(rt; told.text.as_slice() == text.as_bytes());
     }
     Ok(())
 }
@@ -459,7 +455,8 @@ fn bad_lines_come_first(rt: HostRuntime) -> Result<(), Fail> {
 fn an_input_may_be_too_long(rt: HostRuntime) -> Result<(), Fail> {
     let zeros = vec![in rt.alloc(); 0u8; 16_777_217]?;
     let told = run_words(rt.alloc(), &["check"], &zeros, &[], &[])?;
-    assert_eq!(&rt; told.status, Status::TooLong);
+    assert!(rt; told.status == Status::TooLong);
+    assert!(rt; told.text.as_slice() == b"too long 16777216\n".as_slice());
     Ok(())
 }
 
@@ -490,13 +487,8 @@ fn certificates_by_lms_keys(rt: HostRuntime) -> Result<(), Fail> {
     let mut id = [0u8; 32];
     hex::decode_to_slice(ID, &mut id).map_err(|_| "no id")?;
     let signature = vote_signature(alloc, &id)?;
-    says(
-        &rt,
-        alloc,
-        header,
-        frame_with(alloc, &signature)?.as_str(),
-        "commit",
-    )?;
+    let frame = frame_with(alloc, &signature)?;
+    assert!(rt; says(alloc, header, frame.as_str(), "commit")?);
     // the same signature as that of another certificate's vote: its last byte is changed
     let changed = signature.get(..4694).ok_or("short")?;
     let another = if signature.ends_with("00") {
@@ -505,11 +497,7 @@ fn certificates_by_lms_keys(rt: HostRuntime) -> Result<(), Fail> {
         "00"
     };
     let signature = format!(in alloc; "{changed}{another}")?;
-    says(
-        &rt,
-        alloc,
-        header,
-        frame_with(alloc, &signature)?.as_str(),
-        "refused 6",
-    )
+    let frame = frame_with(alloc, &signature)?;
+    assert!(rt; says(alloc, header, frame.as_str(), "refused 6")?);
+    Ok(())
 }

@@ -15,3 +15,5 @@ mod signatures;
 mod sizes;
 #[cfg(test)]
 mod support;
+#[cfg(test)]
+mod worlds;

@@ -8,6 +8,7 @@ mod others;
 mod protocol;
 mod spellings;
 mod transactions;
+mod values;
 
 use schedule_text::line::{Line, LineFault};
 use schedule_text::reading::read_line;

@@ -4,7 +4,6 @@ use crate::support::{Answer, run_words};
 use basil_cli::status::Status;
 use basil_types::memory::NoMemory;
 use std::alloc::Global;
-use std::process::Abort;
 use std::test::Fail;
 
 /// The SEED of every key here.
@@ -42,118 +41,155 @@ fn answer(alloc: Global, words: &[&str], input: &[u8]) -> Result<Answer, NoMemor
     run_words(alloc, words, input, &[], &[])
 }
 
-/// A command ends so, and writes this text and a newline.
+/// Whether a command ends so, and writes this text and a newline.
 fn writes(
-    rt: &impl Abort,
     alloc: Global,
     words: &[&str],
     input: &[u8],
     status: Status,
     text: &str,
-) -> Result<(), Fail> {
+) -> Result<bool, NoMemory> {
     let answer = answer(alloc, words, input)?;
-    assert_eq!(rt; answer.status, status);
-    assert_eq!(rt; answer.text.strip_suffix(b"\n"), Some(text.as_bytes()));
+    Ok(answer.status == status && answer.text.strip_suffix(b"\n") == Some(text.as_bytes()))
+}
+
+/// Words, an input, and what comes of them.
+struct Case {
+    words: &'static [&'static str],
+    input: &'static [u8],
+    status: Status,
+    text: &'static str,
+}
+
+const KEYS: &[Case] = &[
+    Case {
+        words: &["keys", "w8h5", SEED, IDENT],
+        input: b"",
+        status: Status::Done,
+        text: PUBLIC,
+    },
+    Case {
+        words: &["keys", "w4h5", SEED, IDENT],
+        input: b"unread",
+        status: Status::Done,
+        text: PUBLIC_W4,
+    },
+];
+
+const SIGNATURES: &[Case] = &[
+    Case {
+        words: &["sign", "w8h5", SEED, IDENT, "0"],
+        input: b"",
+        status: Status::Done,
+        text: SIGNATURE,
+    },
+    Case {
+        words: &["verify", PUBLIC, SIGNATURE],
+        input: b"",
+        status: Status::Done,
+        text: "accepted",
+    },
+    Case {
+        words: &["verify", PUBLIC, ANOTHER],
+        input: b"",
+        status: Status::Done,
+        text: "accepted",
+    },
+    Case {
+        words: &["verify", PUBLIC, SIGNATURE],
+        input: b"x",
+        status: Status::Refused { reason: 6 },
+        text: "refused 6",
+    },
+    Case {
+        words: &["verify", "aa", "bb"],
+        input: b"",
+        status: Status::Refused { reason: 1 },
+        text: "refused 1",
+    },
+    Case {
+        words: &["verify", ZEROS, SIGNATURE],
+        input: b"",
+        status: Status::Refused { reason: 2 },
+        text: "refused 2",
+    },
+    Case {
+        words: &["verify", PUBLIC, PUBLIC],
+        input: b"",
+        status: Status::Refused { reason: 3 },
+        text: "refused 3",
+    },
+];
+
+/// Whether each command writes its text.
+fn each_writes(alloc: Global, cases: &[Case]) -> Result<bool, NoMemory> {
+    for case in cases {
+        if !writes(alloc, case.words, case.input, case.status, case.text)? {
+            return Ok(false);
+        }
+    }
+    Ok(true)
+}
+
+#[test]
+fn keys_are_made(rt: HostRuntime) -> Result<(), Fail> {
+    assert!(rt; each_writes(rt.alloc(), KEYS)?);
     Ok(())
 }
 
 #[test]
-fn public_keys_by_their_command(rt: HostRuntime) -> Result<(), Fail> {
-    let w8h5 = ["keys", "w8h5", SEED, IDENT];
-    writes(&rt, rt.alloc(), &w8h5, b"", Status::Done, PUBLIC)?;
-    let w4h5 = ["keys", "w4h5", SEED, IDENT];
-    writes(&rt, rt.alloc(), &w4h5, b"unread", Status::Done, PUBLIC_W4)?;
-    // 0000000500000003 and the identifier stand first
-    assert!(rt; PUBLIC_W4.starts_with("0000000500000003646566"));
+fn signatures_are_made_and_verified(rt: HostRuntime) -> Result<(), Fail> {
+    assert!(rt; each_writes(rt.alloc(), SIGNATURES)?);
     Ok(())
 }
 
 #[test]
-fn signatures_by_their_command(rt: HostRuntime) -> Result<(), Fail> {
-    let first = ["sign", "w8h5", SEED, IDENT, "0"];
-    writes(&rt, rt.alloc(), &first, b"", Status::Done, SIGNATURE)?;
+fn the_last_leaf_signs(rt: HostRuntime) -> Result<(), Fail> {
     let message = hex::decode(rt.alloc(), MESSAGE_W4)?;
     let last = ["sign", "w4h5", SEED, IDENT, "31"];
     let answer = answer(rt.alloc(), &last, &message)?;
-    assert_eq!(rt; answer.status, Status::Done);
-    assert_eq!(rt; answer.text.len(), 4697);
+    assert!(rt; answer.status == Status::Done);
+    assert!(rt; answer.text.len() == 4697);
     assert!(rt; answer.text.starts_with(b"0000001f00000003"));
     let signature = str::from_utf8(&answer.text).map_err(|_| "no text")?;
     let again = ["verify", PUBLIC_W4, signature.trim_end()];
-    writes(&rt, rt.alloc(), &again, &message, Status::Done, "accepted")
+    assert!(rt; writes(rt.alloc(), &again, &message, Status::Done, "accepted")?);
+    Ok(())
 }
 
-/// Verifies the message under the key of w4h5, where its signature has other digits at a place.
-fn verified(alloc: Global, place: usize, digits: &str) -> Result<Status, Fail> {
+/// The answer to the message under the key of w4h5, where its signature has other digits at a place.
+fn verified(alloc: Global, place: usize, digits: &str) -> Result<Answer, Fail> {
     let message = hex::decode(alloc, MESSAGE_W4)?;
     let behind = place.checked_add(digits.len()).ok_or("too far")?;
     let before = SIGNATURE_W4.get(..place).ok_or("too far")?;
     let after = SIGNATURE_W4.get(behind..).ok_or("too far")?;
     let signature = format!(in alloc; "{before}{digits}{after}")?;
-    Ok(answer(alloc, &["verify", PUBLIC_W4, signature.as_str()], &message)?.status)
+    let words = ["verify", PUBLIC_W4, signature.as_str()];
+    Ok(answer(alloc, &words, &message)?)
 }
 
+const CHANGED: [(usize, &str, Status, &[u8]); 3] = [
+    // the leaf stays 31
+    (0, "0000001f", Status::Done, b"accepted\n"),
+    // leaf 32
+    (0, "00000020", Status::Refused { reason: 5 }, b"refused 5\n"),
+    // another one-time type
+    (8, "00000004", Status::Refused { reason: 4 }, b"refused 4\n"),
+];
+
 #[test]
-fn signatures_are_verified(rt: HostRuntime) -> Result<(), Fail> {
-    let own = ["verify", PUBLIC, SIGNATURE];
-    writes(&rt, rt.alloc(), &own, b"", Status::Done, "accepted")?;
-    let another = ["verify", PUBLIC, ANOTHER];
-    writes(&rt, rt.alloc(), &another, b"", Status::Done, "accepted")?;
-    writes(
-        &rt,
-        rt.alloc(),
-        &own,
-        b"x",
-        Status::Refused { reason: 6 },
-        "refused 6",
-    )?;
-    // the leaf stays 31; leaf 32; another one-time type
-    assert_eq!(rt; verified(rt.alloc(), 0, "0000001f")?, Status::Done);
-    assert_eq!(rt;
-        verified(rt.alloc(), 0, "00000020")?,
-        Status::Refused { reason: 5 }
-    );
-    assert_eq!(rt;
-        verified(rt.alloc(), 8, "00000004")?,
-        Status::Refused { reason: 4 }
-    );
+fn changed_signatures_are_refused(rt: HostRuntime) -> Result<(), Fail> {
+    for (place, digits, status, text) in &CHANGED {
+        let given = verified(rt.alloc(), *place, digits)?;
+        assert!(rt; given.status == *status);
+        assert!(rt; given.text.as_slice() == *text);
+    }
     Ok(())
 }
 
-#[test]
-fn the_first_refusal_is_told(rt: HostRuntime) -> Result<(), Fail> {
-    let alloc = rt.alloc();
-    let key_length = ["verify", "aa", "bb"];
-    writes(
-        &rt,
-        alloc,
-        &key_length,
-        b"",
-        Status::Refused { reason: 1 },
-        "refused 1",
-    )?;
-    let zeros =
-        "00000000000000000000000000000000000000000000000000000000000000000000000000000000000000000000000000000000000000000000000000000000";
-    let types = ["verify", zeros.get(..112).ok_or("short")?, SIGNATURE];
-    writes(
-        &rt,
-        alloc,
-        &types,
-        b"",
-        Status::Refused { reason: 2 },
-        "refused 2",
-    )?;
-    let short = ["verify", PUBLIC, SIGNATURE.get(2..).ok_or("short")?];
-    writes(
-        &rt,
-        alloc,
-        &short,
-        b"",
-        Status::Refused { reason: 3 },
-        "refused 3",
-    )?;
-    Ok(())
-}
+/// A public key of zeros.
+const ZEROS: &str =
+    "0000000000000000000000000000000000000000000000000000000000000000000000000000000000000000000000000000000000000000";
 
 const LONG_SEED: &str = "000102030405060708090a0b0c0d0e0f101112131415161718191a1b1c1d1e1f20";
 
@@ -197,7 +233,7 @@ const OTHERS: &[&[&str]] = &[
 #[test]
 fn other_words_are_no_command(rt: HostRuntime) -> Result<(), Fail> {
     for words in OTHERS {
-        writes(&rt, rt.alloc(), words, b"", Status::BadWords, "usage")?;
+        assert!(rt; writes(rt.alloc(), words, b"", Status::BadWords, "usage")?);
     }
     Ok(())
 }
@@ -211,24 +247,32 @@ fn verify_zeros(alloc: Global, count: usize) -> Result<Answer, NoMemory> {
 #[test]
 fn an_input_may_be_too_long(rt: HostRuntime) -> Result<(), Fail> {
     let longest = verify_zeros(rt.alloc(), 16_777_216)?;
-    assert_eq!(rt; longest.status, Status::Refused { reason: 6 });
+    assert!(rt; longest.status == Status::Refused { reason: 6 });
+    assert!(rt; longest.text.as_slice() == b"refused 6\n".as_slice());
     let longer = verify_zeros(rt.alloc(), 16_777_217)?;
-    assert_eq!(rt; longer.status, Status::TooLong);
-    assert_eq!(rt; longer.text.as_slice(), b"too long 16777216\n".as_slice());
+    assert!(rt; longer.status == Status::TooLong);
+    assert!(rt; longer.text.as_slice() == b"too long 16777216\n".as_slice());
     Ok(())
 }
 
-#[test]
-fn a_failing_read_is_told(rt: HostRuntime) -> Result<(), Fail> {
-    let words = ["verify", PUBLIC, SIGNATURE];
-    let failed = run_words(rt.alloc(), &words, b"", &[1], &[])?;
-    assert_eq!(rt; failed.status, Status::ReadFault);
-    assert_eq!(rt; failed.text.as_slice(), b"read fault\n".as_slice());
+/// Words, the reads and writes that fail, and how the call ends.
+const FAULTS: [(&[&str], &[u64], &[u64], Status); 3] = [
+    (&["verify", PUBLIC, SIGNATURE], &[1], &[], Status::ReadFault),
     // `keys` reads nothing
-    let words = ["keys", "w4h5", SEED, IDENT];
-    let unread = run_words(rt.alloc(), &words, b"", &[1], &[])?;
-    assert_eq!(rt; unread.status, Status::Done);
-    let unwritten = run_words(rt.alloc(), &words, b"", &[], &[1])?;
-    assert_eq!(rt; unwritten.status, Status::WriteFault);
+    (&["keys", "w4h5", SEED, IDENT], &[1], &[], Status::Done),
+    (
+        &["keys", "w4h5", SEED, IDENT],
+        &[],
+        &[1],
+        Status::WriteFault,
+    ),
+];
+
+#[test]
+fn faults_are_told(rt: HostRuntime) -> Result<(), Fail> {
+    for (words, failing_reads, failing_writes, status) in &FAULTS {
+        let given = run_words(rt.alloc(), words, b"", failing_reads, failing_writes)?;
+        assert!(rt; given.status == *status);
+    }
     Ok(())
 }

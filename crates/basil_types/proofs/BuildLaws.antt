@@ -38,10 +38,12 @@ nothing_below : (key : List ℕ) → 1 ≤ length key → key_below [] key ≡ t
 nothing_below [] some = absurd (omega arith)
 nothing_below (b ∷ key) some = refl
 
-ordered : (place : ℕ) (before key : List ℕ) (keys : List (List ℕ)) → order_fault_from place before (key ∷ keys) ≡ None → (key_below before key ≡ true) × (order_fault_from (place + 1) key keys ≡ None)
+ordered : (place : ℕ) (before key : List ℕ) (keys : List (List ℕ)) → order_fault_from place before (key ∷ keys) ≡ None →
+    (key_below before key ≡ true) × (order_fault_from (place + 1) key keys ≡ None)
 ordered place before key keys e = by (key_below before key) e
   where
-    by : (b : Bool) → cond b (order_fault_from (place + 1) key keys) (Some place) ≡ None → (b ≡ true) × (order_fault_from (place + 1) key keys ≡ None)
+    by : (b : Bool) → cond b (order_fault_from (place + 1) key keys) (Some place) ≡ None → (b ≡ true) ×
+        (order_fault_from (place + 1) key keys ≡ None)
     by true h = (refl, h)
     by false h = absurd cc
 
@@ -54,13 +56,15 @@ SizedWrite w = write_fits w ≡ true
 read_is : (before : List ℕ) (r : ReadPart) → Sized r → ReadInRange r → key_below before r.key ≡ true → FitsRead before r
 read_is before r sized plain above = record { key = key_is r.key sized plain.key; above = above; version = plain.version }
 
-reads_fit : (place : ℕ) (before : List ℕ) (reads : List ReadPart) → order_fault_from place before (map key_of_read reads) ≡ None → AllByRecursion Sized reads → AllByRecursion ReadInRange reads → AreItems FitsRead key_of_read before reads
+reads_fit : (place : ℕ) (before : List ℕ) (reads : List ReadPart) → order_fault_from place before (map key_of_read reads) ≡ None →
+    AllByRecursion Sized reads → AllByRecursion ReadInRange reads → AreItems FitsRead key_of_read before reads
 reads_fit place before [] e sized plain = tt
 reads_fit place before (r ∷ reads) e sized plain =
     let o = ordered place before r.key (map key_of_read reads) e in
     (read_is before r sized.0 plain.0 o.0, reads_fit (place + 1) r.key reads o.1 sized.1 plain.1)
 
-are_reads : (reads : List ReadPart) → order_fault (map key_of_read reads) ≡ None → AllByRecursion Sized reads → AllByRecursion ReadInRange reads → AreItems FitsRead key_of_read [] reads
+are_reads : (reads : List ReadPart) → order_fault (map key_of_read reads) ≡ None → AllByRecursion Sized reads →
+    AllByRecursion ReadInRange reads → AreItems FitsRead key_of_read [] reads
 are_reads [] e sized plain = tt
 are_reads (r ∷ reads) e sized plain =
     let key = key_is r.key sized.0 plain.0.key in
@@ -69,30 +73,37 @@ are_reads (r ∷ reads) e sized plain =
 abbrev Keeps : ℕ → WritePart → Type 0
 Keeps format w = format ≡ 1 → w.deletes ≡ false
 
-value_is : (deletes : Bool) (value : List ℕ) → cond deletes (eqb (length value) 0) (leb (length value) 256) ≡ true → IsBytes value → IsValue value × (deletes ≡ true → value ≡ [])
+value_is : (deletes : Bool) (value : List ℕ) → cond deletes (eqb (length value) 0) (leb (length value) 256) ≡ true → IsBytes value →
+    IsValue value × (deletes ≡ true → value ≡ [])
 value_is true value e bytes =
     let none : length value ≡ 0 = eqb-true _ _ e in
     (record { short = omega arith; bytes = bytes }, λ h. nil_from_length value none)
 value_is false value e bytes = (record { short = leb-true _ _ e; bytes = bytes }, λ h. absurd cc)
 
-write_is : (format : ℕ) (before : List ℕ) (w : WritePart) → SizedWrite w → WriteInRange w → Keeps format w → key_below before w.key ≡ true → FitsWrite format before w
+write_is : (format : ℕ) (before : List ℕ) (w : WritePart) → SizedWrite w → WriteInRange w → Keeps format w → key_below before w.key ≡ true →
+    FitsWrite format before w
 write_is format before w sized plain keeps above =
     let b = both_true (key_fits w.key) (value_fits w) sized in
     let v = value_is w.deletes w.value b.1 plain.value in
     record { key = key_is w.key b.0 plain.key; above = above; value = v.0; gives = keeps; deletes = v.1 }
 
-writes_fit : (format place : ℕ) (before : List ℕ) (writes : List WritePart) → order_fault_from place before (map key_of_write writes) ≡ None → AllByRecursion SizedWrite writes → AllByRecursion WriteInRange writes → AllByRecursion (Keeps format) writes → AreItems (FitsWrite format) key_of_write before writes
+writes_fit : (format place : ℕ) (before : List ℕ) (writes : List WritePart) → order_fault_from place before (map key_of_write writes)
+    ≡ None → AllByRecursion SizedWrite writes → AllByRecursion WriteInRange writes → AllByRecursion (Keeps format) writes → AreItems
+    (FitsWrite format) key_of_write before writes
 writes_fit format place before [] e sized plain keeps = tt
 writes_fit format place before (w ∷ writes) e sized plain keeps =
     let o = ordered place before w.key (map key_of_write writes) e in
     (write_is format before w sized.0 plain.0 keeps.0 o.0, writes_fit format (place + 1) w.key writes o.1 sized.1 plain.1 keeps.1)
 
-are_writes : (format : ℕ) (writes : List WritePart) → order_fault (map key_of_write writes) ≡ None → AllByRecursion SizedWrite writes → AllByRecursion WriteInRange writes → AllByRecursion (Keeps format) writes → AreItems (FitsWrite format) key_of_write [] writes
+are_writes : (format : ℕ) (writes : List WritePart) → order_fault (map key_of_write writes) ≡ None → AllByRecursion SizedWrite writes →
+    AllByRecursion WriteInRange writes → AllByRecursion (Keeps format) writes → AreItems (FitsWrite format) key_of_write [] writes
 are_writes format [] e sized plain keeps = tt
 are_writes format (w ∷ writes) e sized plain keeps =
     let b = both_true (key_fits w.key) (value_fits w) sized.0 in
-    let key = key_is w.key b.0 plain.0.key in
-    (write_is format [] w sized.0 plain.0 keeps.0 (nothing_below w.key key.some), writes_fit format 1 w.key writes e sized.1 plain.1 keeps.1)
+    let key = key_is w.key b.0 plain.0.key in (
+      write_is format [] w sized.0 plain.0 keeps.0 (nothing_below w.key key.some),
+      writes_fit format 1 w.key writes e sized.1 plain.1 keeps.1,
+    )
 
 not-false : (b : Bool) → not b ≡ false → b ≡ true
 not-false true e = refl
@@ -118,13 +129,15 @@ keep writes = λ k d lt one. by k d lt (plain (list_any (λ w. w.deletes) writes
     plain true h = absurd (omega arith)
     plain false h = refl
 
-    by : (k : ℕ) (d : WritePart) → k < length writes → list_any (λ w. w.deletes) writes ≡ false → (b : Bool) → (get_or writes k d).deletes ≡ b → (get_or writes k d).deletes ≡ false
+    by : (k : ℕ) (d : WritePart) → k < length writes → list_any (λ w. w.deletes) writes ≡ false → (b : Bool) → (get_or writes k d).deletes
+        ≡ b → (get_or writes k d).deletes ≡ false
     by k d lt none true was =
         let some : list_any (λ w. w.deletes) writes ≡ true = list_any_at (λ w. w.deletes) writes k d lt was in
         absurd (let no : true ≡ false = sym some ∙ none in cc)
     by k d lt none false was = was
 
-pub built-is : (time client : ℕ) (reads : List ReadPart) (writes : List WritePart) → build_fault client reads writes ≡ None → time < 2 ^ 64 → All ReadInRange reads → All WriteInRange writes → IsTransaction (built time client reads writes)
+pub built-is : (time client : ℕ) (reads : List ReadPart) (writes : List WritePart) → build_fault client reads writes ≡ None →
+    time < 2 ^ 64 → All ReadInRange reads → All WriteInRange writes → IsTransaction (built time client reads writes)
 built-is time client reads writes e fits reads_plain writes_plain =
     let a = neither _ _ e in
     let b = neither _ _ a.1 in
@@ -144,8 +157,11 @@ built-is time client reads writes e fits reads_plain writes_plain =
       client = leb-true _ _ who.1;
       few_reads = leb-true _ _ few.0;
       few_writes = leb-true _ _ few.1;
-      reads = are_reads reads orders.0 (recursion_from_All Sized reads (all_pass read_fits reads sizes.0)) (recursion_from_All ReadInRange reads reads_plain);
-      writes = are_writes (format_of writes) writes write_orders (recursion_from_All SizedWrite writes (all_pass write_fits writes write_sizes)) (recursion_from_All WriteInRange writes writes_plain)
+      reads = are_reads reads orders.0 (recursion_from_All Sized reads (all_pass read_fits reads sizes.0))
+          (recursion_from_All ReadInRange reads reads_plain);
+      writes = are_writes (format_of writes) writes write_orders
+          (recursion_from_All SizedWrite writes (all_pass write_fits writes write_sizes))
+          (recursion_from_All WriteInRange writes writes_plain)
           (recursion_from_All (Keeps (format_of writes)) writes (keep writes));
     }
   where

@@ -57,23 +57,27 @@ pub record Takes (bytes text rest : List ℕ) : Type 0 where
   pub rest_fits : IsBytes rest
 
 pub Takes-then : (a x b y c : List ℕ) → Takes a x b → Takes b y c → Takes a (x ++ y) c
-Takes-then a x b y c p q = record { parts = p.parts ∙ ap (λ (t : List ℕ). x ++ t) q.parts ∙ sym (append_assoc x y c); rest_fits = q.rest_fits }
+Takes-then a x b y c p q =
+    record { parts = p.parts ∙ ap (λ (t : List ℕ). x ++ t) q.parts ∙ sym (append_assoc x y c); rest_fits = q.rest_fits }
 
 -- ---- one byte
 
 pub byte_takes : (bytes : List ℕ) (x : ℕ × List ℕ) → IsBytes bytes → byte_at bytes ≡ Ok x → Takes bytes (x.0 ∷ []) x.1 × (x.0 < 256)
 byte_takes [] x fits e = absurd cc
 byte_takes (b ∷ bytes) x fits e =
-    subst (λ (y : ℕ × List ℕ). Takes (b ∷ bytes) (y.0 ∷ []) y.1 × (y.0 < 256)) (ok_is (b, bytes) x e) (record { parts = refl; rest_fits = IsBytes-rest b bytes fits }, fits 0)
+    subst (λ (y : ℕ × List ℕ). Takes (b ∷ bytes) (y.0 ∷ []) y.1 × (y.0 < 256)) (ok_is (b, bytes) x e)
+    (record { parts = refl; rest_fits = IsBytes-rest b bytes fits }, fits 0)
 
-pub between_takes : (low high : ℕ) (bytes : List ℕ) (x : ℕ × List ℕ) → IsBytes bytes → between low high bytes ≡ Ok x → Takes bytes (x.0 ∷ []) x.1 × (low ≤ x.0) × (x.0 < high)
+pub between_takes : (low high : ℕ) (bytes : List ℕ) (x : ℕ × List ℕ) → IsBytes bytes → between low high bytes ≡ Ok x → Takes bytes
+    (x.0 ∷ []) x.1 × (low ≤ x.0) × (x.0 < high)
 unfolding between
 between_takes low high bytes x fits e =
     let b = bind_ok (byte_at bytes) (λ b. cond (leb low b.0 && ltb b.0 high) (Ok b) (Err (Range (length bytes)))) x e in
     let g = pass_ok (leb low b.0.0 && ltb b.0.0 high) (Range (length bytes)) (Ok b.0) x b.2 in
     let t = both_true _ _ g.0 in
     let same = ok_is b.0 x g.1 in
-    subst (λ (y : ℕ × List ℕ). Takes bytes (y.0 ∷ []) y.1 × (low ≤ y.0) × (y.0 < high)) same ((byte_takes bytes b.0 fits b.1).0, leb-true _ _ t.0, ltb-true _ _ t.1)
+    subst (λ (y : ℕ × List ℕ). Takes bytes (y.0 ∷ []) y.1 × (low ≤ y.0) × (y.0 < high)) same
+    ((byte_takes bytes b.0 fits b.1).0, leb-true _ _ t.0, ltb-true _ _ t.1)
 
 pub between_again : (low high b : ℕ) (rest : List ℕ) → low ≤ b → b < high → between low high (b ∷ rest) ≡ Ok (b, rest)
 unfolding between
@@ -95,7 +99,8 @@ flag_takes bytes x fits e =
     let t = between_takes 0 2 bytes b.0 fits b.1 in
     let flag : cond (eqb b.0.0 1) 1 0 ≡ b.0.0 = flag_back b.0.0 t.1 t.2 in
     let made : Bool × List ℕ = (eqb b.0.0 1, b.0.1) in
-    moved (λ (y : Bool × List ℕ). Takes bytes (cond y.0 1 0 ∷ []) y.1) made x b.2 (subst (λ (k : ℕ). Takes bytes (k ∷ []) b.0.1) (sym flag) t.0)
+    moved (λ (y : Bool × List ℕ). Takes bytes (cond y.0 1 0 ∷ []) y.1) made x b.2
+    (subst (λ (k : ℕ). Takes bytes (k ∷ []) b.0.1) (sym flag) t.0)
 
 pub flag_again : (d : Bool) (rest : List ℕ) → flag_at (cond d 1 0 ∷ rest) ≡ Ok (d, rest)
 unfolding flag_at
@@ -126,24 +131,37 @@ wide64 = record {
   below = λ bytes fits. omega (arith, fits 0, fits 1, fits 2, fits 3, fits 4, fits 5, fits 6, fits 7);
 }
 
-pub number_takes : (w : Width) (limit : ℕ) (wide : IsWide w limit) (bytes : List ℕ) (n : ℕ) (rest : List ℕ) → IsBytes bytes → number_at w bytes ≡ Ok (n, rest) → Takes bytes (to_be_bytes w n) rest × (n < limit)
+pub number_takes : (w : Width) (limit : ℕ) (wide : IsWide w limit) (bytes : List ℕ) (n : ℕ) (rest : List ℕ) → IsBytes bytes →
+    number_at w bytes ≡ Ok (n, rest) → Takes bytes (to_be_bytes w n) rest × (n < limit)
 number_takes w limit wide bytes n rest fits e =
-    let g = guard_ok (ltb (length bytes) (byte_len w)) (Short (length bytes)) (from_be_bytes w (take (byte_len w) bytes), drop (byte_len w) bytes) (n, rest) e in
+    let g = guard_ok (ltb (length bytes) (byte_len w)) (Short (length bytes))
+    (from_be_bytes w (take (byte_len w) bytes), drop (byte_len w) bytes) (n, rest) e in
     let long : byte_len w ≤ length bytes = ltb-false _ _ g.0 in
     let n-is : from_be_bytes w (take (byte_len w) bytes) ≡ n = ap (λ (p : ℕ × List ℕ). p.0) g.1 in
     let rest-is : drop (byte_len w) bytes ≡ rest = ap (λ (p : ℕ × List ℕ). p.1) g.1 in
-    let front : to_be_bytes w n ≡ take (byte_len w) bytes = rw (← n-is) (wide.back (take (byte_len w) bytes) (omega (arith, length-take (byte_len w) bytes)) (IsBytes-take (byte_len w) bytes fits)) in
-    (record { parts = rw (front, ← rest-is) (sym (take-append-drop (byte_len w) bytes)); rest_fits = rw (← rest-is) (IsBytes-drop (byte_len w) bytes fits) }, rw (← n-is) (wide.below (take (byte_len w) bytes) (IsBytes-take (byte_len w) bytes fits)))
+    let front : to_be_bytes w n ≡ take (byte_len w) bytes =
+    rw (← n-is)
+    (wide.back (take (byte_len w) bytes) (omega (arith, length-take (byte_len w) bytes)) (IsBytes-take (byte_len w) bytes fits)) in (
+      record {
+        parts = rw (front, ← rest-is) (sym (take-append-drop (byte_len w) bytes));
+        rest_fits = rw (← rest-is)
+            (IsBytes-drop (byte_len w) bytes fits);
+      },
+      rw (← n-is) (wide.below (take (byte_len w) bytes) (IsBytes-take (byte_len w) bytes fits)),
+    )
 
-pub number_again : (w : Width) (limit : ℕ) (wide : IsWide w limit) (n : ℕ) (rest : List ℕ) → n < limit → number_at w (to_be_bytes w n ++ rest) ≡ Ok (n, rest)
+pub number_again : (w : Width) (limit : ℕ) (wide : IsWide w limit) (n : ℕ) (rest : List ℕ) → n < limit → number_at w
+    (to_be_bytes w n ++ rest) ≡ Ok (n, rest)
 number_again w limit wide n rest lt =
     let len = wide.len n in
-    let long : ltb (length (to_be_bytes w n ++ rest)) (byte_len w) ≡ false = le-ltb _ _ (omega (arith, length-append (to_be_bytes w n) rest)) in
+    let long : ltb (length (to_be_bytes w n ++ rest)) (byte_len w) ≡ false =
+    le-ltb _ _ (omega (arith, length-append (to_be_bytes w n) rest)) in
     rw (long, take_at (to_be_bytes w n) rest (byte_len w) len, drop_at (to_be_bytes w n) rest (byte_len w) len, wide.again n lt) refl
 
 -- ---- runs of bytes
 
-pub run_takes : (n : ℕ) (bytes : List ℕ) (x : List ℕ × List ℕ) → IsBytes bytes → run_at n bytes ≡ Ok x → Takes bytes x.0 x.1 × (length x.0 ≡ n) × IsBytes x.0
+pub run_takes : (n : ℕ) (bytes : List ℕ) (x : List ℕ × List ℕ) → IsBytes bytes → run_at n bytes ≡ Ok x → Takes bytes x.0 x.1 ×
+    (length x.0 ≡ n) × IsBytes x.0
 run_takes n bytes x fits e =
     let g = guard_ok (ltb (length bytes) n) (Short (length bytes)) (take n bytes, drop n bytes) x e in
     let long : n ≤ length bytes = ltb-false _ _ g.0 in

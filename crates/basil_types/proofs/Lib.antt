@@ -6,3 +6,8 @@ pub mod PartLaws
 pub mod TransactionLaws
 pub mod PlacedLaws
 pub mod BuildLaws
+pub mod VersionLaws
+pub mod MemberLaws
+pub mod EntryLaws
+pub mod ReplayLaws
+pub mod Walks

@@ -12,11 +12,13 @@ is_found bytes x fits e =
     let t = transaction_takes bytes x fits e in
     record { is = t.1; rest = x.1; spelled = t.0.parts }
 
-pub placed_ok : (start : ℕ) (bytes : List ℕ) (x : TransactionValue × List ℕ) → transaction_at (drop start bytes) ≡ Ok x → transaction_from start bytes ≡ Ok x.0
+pub placed_ok : (start : ℕ) (bytes : List ℕ) (x : TransactionValue × List ℕ) → transaction_at (drop start bytes) ≡ Ok x →
+    transaction_from start bytes ≡ Ok x.0
 unfolding transaction_from
 placed_ok start bytes x e = ap (at_offset (length bytes)) e
 
-pub placed_err : (start : ℕ) (bytes : List ℕ) (f : Fault) → transaction_at (drop start bytes) ≡ Err f → transaction_from start bytes ≡ Err (placed (length bytes) f)
+pub placed_err : (start : ℕ) (bytes : List ℕ) (f : Fault) → transaction_at (drop start bytes) ≡ Err f → transaction_from start bytes ≡ Err
+    (placed (length bytes) f)
 unfolding transaction_from
 placed_err start bytes f e = ap (at_offset (length bytes)) e
 

@@ -37,7 +37,8 @@ same_decision Abort Abort e = refl
 same_id : (a b x y : List ℕ) → length a ≡ 32 → length b ≡ 32 → a ++ x ≡ b ++ y → (a ≡ b) × (x ≡ y)
 same_id a b x y p q e = same_front a b x y (p ∙ sym q) e
 
-pub same_version : (v w : Version) (x y : List ℕ) → FitsVersion v → FitsVersion w → version_bytes v ++ x ≡ version_bytes w ++ y → (v ≡ w) × (x ≡ y)
+pub same_version : (v w : Version) (x y : List ℕ) → FitsVersion v → FitsVersion w → version_bytes v ++ x ≡ version_bytes w ++ y → (v ≡ w) ×
+    (x ≡ y)
 same_version v w x y fv fw e =
     let e' : to_be_bytes w64 v.time ++ (v.client ∷ v.id ++ x) ≡ to_be_bytes w64 w.time ++ (w.client ∷ w.id ++ y) =
     sym (append_assoc (to_be_bytes w64 v.time) (v.client ∷ v.id) x) ∙ e ∙ append_assoc (to_be_bytes w64 w.time) (w.client ∷ w.id) y in
@@ -71,7 +72,8 @@ same_vote v w fv fw e =
 same_log : (v w : LogReplyOf) → FitsLog v → FitsLog w → words_of (LogReplyWords v) ≡ words_of (LogReplyWords w) → v ≡ w
 same_log v w fv fw e =
     let r = same_replica v.shard v.replica w.shard w.replica _ _ (same_tail _ _ _ _ e) in
-    let r2 : v.id ++ (decision_byte v.decision ∷ to_be_bytes w64 v.decided ++ to_be_bytes w64 v.current) ≡ w.id ++ (decision_byte w.decision ∷ to_be_bytes w64 w.decided ++ to_be_bytes w64 w.current) =
+    let r2 : v.id ++ (decision_byte v.decision ∷ to_be_bytes w64 v.decided ++ to_be_bytes w64 v.current) ≡ w.id ++
+    (decision_byte w.decision ∷ to_be_bytes w64 w.decided ++ to_be_bytes w64 w.current) =
     sym (append_assoc v.id _ _) ∙ r.2 ∙ append_assoc w.id _ _ in
     let id = same_id v.id w.id _ _ fv.id fw.id r2 in
     let decision = same_decision v.decision w.decision (same_head _ _ _ _ id.1) in

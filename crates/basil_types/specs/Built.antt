@@ -13,7 +13,8 @@ abbrev pub format_of : List WritePart → ℕ
 format_of writes = if list_any (λ w. w.deletes) writes then 2 else 1
 
 abbrev pub built : ℕ → ℕ → List ReadPart → List WritePart → TransactionValue
-built time client reads writes = record { format = format_of writes; time = time; client = client; reads = reads; writes = writes }
+built time client reads writes =
+    record { format = format_of writes; time = time; client = client; reads = reads; writes = writes }
 
 abbrev pub key_fits : List ℕ → Bool
 key_fits key = nat_le 1 (length key) && nat_le (length key) 64
@@ -31,7 +32,8 @@ write_fits w = key_fits w.key && value_fits w
 -- the first place, counted from this one, whose key isn't above the one before it
 abbrev pub order_fault_from : ℕ → List ℕ → List (List ℕ) → Option ℕ
 order_fault_from place before [] = None
-order_fault_from place before (key ∷ keys) = if key_below before key then order_fault_from (place + 1) key keys else Some place
+order_fault_from place before (key ∷ keys) =
+    if key_below before key then order_fault_from (place + 1) key keys else Some place
 
 abbrev pub order_fault : List (List ℕ) → Option ℕ
 order_fault [] = None
@@ -45,11 +47,13 @@ or_else None other = other
 -- places count the reads first, and then the writes
 abbrev pub size_fault : List ReadPart → List WritePart → Option ℕ
 size_fault reads writes =
-    or_else (position (λ r. not (read_fits r)) reads) (option_map (λ place. length reads + place) (position (λ w. not (write_fits w)) writes))
+    or_else (position (λ r. not (read_fits r)) reads)
+    (option_map (λ place. length reads + place) (position (λ w. not (write_fits w)) writes))
 
 abbrev pub key_fault : List ReadPart → List WritePart → Option ℕ
 key_fault reads writes =
-    or_else (order_fault (map key_of_read reads)) (option_map (λ place. length reads + place) (order_fault (map key_of_write writes)))
+    or_else (order_fault (map key_of_read reads))
+    (option_map (λ place. length reads + place) (order_fault (map key_of_write writes)))
 
 abbrev pub build_fault : ℕ → List ReadPart → List WritePart → Option BuildFault
 build_fault client reads writes =

@@ -20,4 +20,11 @@ abbrev pub writes_of : WritesView → List WritePart
 writes_of v = list_of (items_at (write_at v.format) key_of_write v.count [] (v.bytes).now)
 
 abbrev pub whole_of : Parts → TransactionValue
-whole_of p = record { format = p.front.format; time = p.front.time; client = p.front.client; reads = reads_of p.reads; writes = writes_of p.writes }
+whole_of p =
+    record {
+      format = p.front.format;
+      time = p.front.time;
+      client = p.front.client;
+      reads = reads_of p.reads;
+      writes = writes_of p.writes;
+    }

@@ -2,6 +2,8 @@ pub mod Id
 pub mod Spare
 pub mod Version
 pub mod Setting
+pub mod Decision
+pub mod Limits
 pub mod Cluster
 pub mod Steps
 pub mod Lists
@@ -10,6 +12,7 @@ pub mod Reading
 pub mod Transaction
 pub mod Words
 pub mod Causes
+pub mod Links
 pub mod Memory
 pub mod Parsed
 pub mod Placed
@@ -18,3 +21,4 @@ pub mod Shown
 pub mod Built
 pub mod Inner
 pub mod Replayed
+pub mod Latest

@@ -4,7 +4,8 @@ use Rattle.basil_types.specs.declared.reading.Fault.{Fault}
 use Rattle.basil_types.specs.Steps.{◌>>=◌}
 
 -- k items, each read by one, which is told what the item before asks of it
-unfoldable pub items_at : {F V : Type 0} → (F → List ℕ → Result (V × List ℕ) Fault) → (V → F) → ℕ → F → List ℕ → Result (List V × List ℕ) Fault
+unfoldable pub items_at : {F V : Type 0} → (F → List ℕ → Result (V × List ℕ) Fault) → (V → F) → ℕ → F → List ℕ → Result
+    (List V × List ℕ) Fault
 items_at one next zero floor bytes = Ok ([], bytes)
 items_at one next (suc k) floor bytes = do
   first ← one floor bytes

@@ -67,7 +67,10 @@ transaction_at bytes = do
   head ← head_at bytes
   reads ← reads_at head.1
   writes ← writes_at head.0.format reads.1
-  Ok (record { format = head.0.format; time = head.0.time; client = head.0.client; reads = reads.0; writes = writes.0 }, writes.1)
+  Ok (
+    record { format = head.0.format; time = head.0.time; client = head.0.client; reads = reads.0; writes = writes.0 },
+    writes.1,
+  )
 
 abbrev pub read_value : Result (TransactionValue × List ℕ) Fault → TransactionValue
 read_value (Ok x) = x.0

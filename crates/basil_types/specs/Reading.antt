@@ -25,7 +25,9 @@ flag_at bytes = do
   Ok (b.0 == 1, b.1)
 
 abbrev pub number_at : Width → List ℕ → Result (ℕ × List ℕ) Fault
-number_at w bytes = if nat_lt (length bytes) (byte_len w) then Err (Short (length bytes)) else Ok (from_be_bytes w (take (byte_len w) bytes), drop (byte_len w) bytes)
+number_at w bytes =
+    if nat_lt (length bytes) (byte_len w) then Err (Short (length bytes)) else Ok
+    (from_be_bytes w (take (byte_len w) bytes), drop (byte_len w) bytes)
 
 abbrev pub run_at : ℕ → List ℕ → Result (List ℕ × List ℕ) Fault
 run_at n bytes = if nat_lt (length bytes) n then Err (Short (length bytes)) else Ok (take n bytes, drop n bytes)

@@ -1,5 +1,6 @@
 -- The numbers of a cluster.
-use Rattle.std.specs.Prelude.{ℕ, ◌+◌, ◌*◌, ◌≤◌}
+use Rattle.std.specs.Prelude.{ℕ, ◌≤◌}
+use Rattle.quorum_laws.specs.Numbers.{one_correct, correct_ones}
 
 pub record Setting : Type 0 where
   pub f : ℕ
@@ -11,5 +12,5 @@ pub record IsSetting (c : Setting) : Type 0 where
   pub faulty : c.f ≤ 6
   pub some : 1 ≤ c.shards
   pub few : c.shards ≤ 8
-  pub enough : c.f + 1 ≤ c.reads
-  pub correct : c.reads ≤ 4 * c.f + 1
+  pub enough : one_correct c.f ≤ c.reads
+  pub correct : c.reads ≤ correct_ones c.f

@@ -1,6 +1,7 @@
 -- A transaction, its canonical bytes, its id and its version, and what is a transaction.
-use Rattle.std.specs.Prelude.{◌≡◌, ℕ, ◌≤◌, ◌<◌, ◌^◌, ◌∷◌, ◌++◌, [], List, true, false, length, ◌==◌, if◌then◌else◌}
-use Rattle.std.specs.List.{flat_map}
+use Rattle.std.specs.Prelude.{◌≡◌, ℕ, Bool, ◌≤◌, ◌<◌, ◌^◌, ◌∷◌, ◌++◌, [], List, true, false, length, ◌==◌, if◌then◌else◌}
+use Rattle.std.specs.List.{flat_map, list_any}
+use Rattle.std.specs.Str.{bytes_eq}
 use Rattle.std.specs.Int.{to_be_bytes, w64, w16}
 use Rattle.basil_types.specs.Id.{id_of}
 use Rattle.basil_types.specs.Lists.{AreItems}
@@ -32,7 +33,8 @@ read_bytes r = short_text r.key ++ version_bytes r.version ++ (if r.dependency t
 
 -- in format 2 a flag tells whether there is a value
 abbrev pub written_bytes : ℕ → WritePart → List ℕ
-written_bytes format w = if format == 1 then long_text w.value else (if w.deletes then 0 ∷ [] else 1 ∷ long_text w.value)
+written_bytes format w =
+    if format == 1 then long_text w.value else (if w.deletes then 0 ∷ [] else 1 ∷ long_text w.value)
 
 abbrev pub write_bytes : ℕ → WritePart → List ℕ
 write_bytes format w = short_text w.key ++ written_bytes format w
@@ -47,6 +49,10 @@ id t = id_of (canonical t)
 
 abbrev pub version_of : TransactionValue → Version
 version_of t = record { time = t.time; client = t.client; id = id t }
+
+-- whether it wrote or deleted this key
+abbrev pub writes_key : TransactionValue → List ℕ → Bool
+writes_key t key = list_any (λ w. bytes_eq w.key key) t.writes
 
 -- ---- which values are transactions
 

@@ -57,7 +57,8 @@ abbrev pub words_of : SignedWords → List ℕ
 words_of (TransactionWords id) = 1 ∷ id
 words_of (VoteWords v) = 2 ∷ v.shard ∷ v.replica ∷ v.id ++ decision_byte v.decision ∷ []
 words_of (ReadReplyWords r) =
-    3 ∷ r.shard ∷ r.replica ∷ short_text r.key ++ to_be_bytes w64 r.time ++ r.client ∷ version_bytes r.committed ++ version_bytes r.prepared
+    3 ∷ r.shard ∷ r.replica ∷ short_text r.key ++ to_be_bytes w64 r.time ++ r.client ∷ version_bytes r.committed
+    ++ version_bytes r.prepared
 words_of (LogReplyWords r) =
     4 ∷ r.shard ∷ r.replica ∷ r.id ++ decision_byte r.decision ∷ to_be_bytes w64 r.decided ++ to_be_bytes w64 r.current
 words_of (ElectionWords w) = 5 ∷ view_bytes w

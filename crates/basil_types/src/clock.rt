@@ -17,7 +17,7 @@ pub trait Clock {
 }
 
 /// A list of moments in memory.
-#[derive(Debug, Drop)]
+#[derive(Drop)]
 pub struct MemClock {
     moments: Vec<u64>,
     at: usize,

@@ -2,13 +2,14 @@
 
 ghost use Rattle.std.specs.Prelude.{◌≡◌, ◌+◌, ◌*◌, ◌≤◌, OnOk, IfOk, IfErr, None, Some};
 ghost use Rattle.basil_types.specs.Cluster.{cluster_fault, IsCluster};
+ghost use Rattle.quorum_laws.specs.Numbers as numbers;
 
 use std::marker::Model;
 
 /// A cluster: `shards` shards of 5f + 1 replicas, of which at most `f` of each shard are faulty; a read waits for
 /// `reads` replies; a transaction's time may be at most `delta` above a replica's moment.
 /// Every value of this type is in range.
-#[derive(Clone, Copy, Debug)]
+#[derive(Clone, Copy)]
 pub struct Cluster {
     pub f: u8,
     pub shards: u8,
@@ -65,7 +66,7 @@ impl Cluster {
 
     /// Replicas of a shard: 5f + 1.
     pub fn n(&self) -> u8
-        ensures value { result ≡ 5 * self.now.f + 1 }
+        ensures value { result ≡ numbers.replicas self.now.f }
         ensures in_range { IsCluster self.now }
     {
         5 * self.f + 1
@@ -73,42 +74,42 @@ impl Cluster {
 
     /// Commit votes of a shard for a fast commit: 5f + 1.
     pub fn fast_commit(&self) -> u8
-        ensures { result ≡ 5 * self.now.f + 1 }
+        ensures { result ≡ numbers.fast_commit self.now.f }
     {
         5 * self.f + 1
     }
 
     /// Commit votes of a shard for a commit tally: 3f + 1.
     pub fn commit_tally(&self) -> u8
-        ensures { result ≡ 3 * self.now.f + 1 }
+        ensures { result ≡ numbers.commit_tally self.now.f }
     {
         3 * self.f + 1
     }
 
     /// Abort votes of a shard for an abort tally: f + 1.
     pub fn abort_tally(&self) -> u8
-        ensures { result ≡ self.now.f + 1 }
+        ensures { result ≡ numbers.abort_tally self.now.f }
     {
         self.f + 1
     }
 
     /// Abort votes of a shard for a fast abort: 3f + 1.
     pub fn fast_abort(&self) -> u8
-        ensures { result ≡ 3 * self.now.f + 1 }
+        ensures { result ≡ numbers.fast_abort self.now.f }
     {
         3 * self.f + 1
     }
 
     /// Log replies for a logged certificate: 4f + 1.
     pub fn log_quorum(&self) -> u8
-        ensures { result ≡ 4 * self.now.f + 1 }
+        ensures { result ≡ numbers.log_quorum self.now.f }
     {
         4 * self.f + 1
     }
 
     /// Election words that decide an election of 4f + 1: 2f + 1.
     pub fn majority(&self) -> u8
-        ensures { result ≡ 2 * self.now.f + 1 }
+        ensures { result ≡ numbers.majority self.now.f }
     {
         2 * self.f + 1
     }

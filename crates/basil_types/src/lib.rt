@@ -2,8 +2,10 @@
 #![tactic(auto)]
 
 pub mod bytes;
+mod calls;
 pub mod clock;
 pub mod cluster;
+pub mod limits;
 pub mod links;
 pub mod list;
 pub mod memory;
@@ -13,8 +15,6 @@ pub mod reading;
 pub mod replayed;
 pub mod sink;
 pub mod source;
-#[cfg(test)]
-mod tests;
 pub mod transaction;
 pub mod version;
 pub mod words;

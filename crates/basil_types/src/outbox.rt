@@ -6,14 +6,14 @@ use crate::party::Party;
 use crate::words::Words;
 
 /// A frame on its way to a party.
-#[derive(Debug, Drop)]
+#[derive(Drop)]
 pub struct Envelope {
     pub to: Party,
     pub frame: Bytes,
 }
 
 /// What a node's call appends: the messages that it sends, and the words that it signed, each in order.
-#[derive(Debug, Drop)]
+#[derive(Drop)]
 pub struct Outbox {
     pub messages: List<Envelope>,
     pub signed: List<Words>,

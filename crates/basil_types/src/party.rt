@@ -1,5 +1,8 @@
 //! Parties and decisions.
 
+ghost use Rattle.std.specs.Prelude.{◌≡◌};
+ghost use Rattle.basil_types.specs.Decision as decisions;
+
 /// Who sends, receives and signs.
 #[derive(Clone, Copy, Debug, PartialEq, Eq, PartialOrd, Ord)]
 pub enum Party {
@@ -14,4 +17,34 @@ pub enum Party {
 pub enum Decision {
     Commit,
     Abort,
+}
+
+/// Whether two decisions are the same.
+pub fn same_decision(a: Decision, b: Decision) -> bool
+    ensures { result ≡ decisions.same_decision a b }
+{
+    match a {
+        Decision::Commit => is_commit(b),
+        Decision::Abort => is_abort(b),
+    }
+}
+
+/// Whether it is to commit.
+pub fn is_commit(decision: Decision) -> bool
+    ensures { result ≡ decisions.is_commit decision }
+{
+    match decision {
+        Decision::Commit => true,
+        Decision::Abort => false,
+    }
+}
+
+/// Whether it is to abort.
+pub fn is_abort(decision: Decision) -> bool
+    ensures { result ≡ decisions.is_abort decision }
+{
+    match decision {
+        Decision::Commit => false,
+        Decision::Abort => true,
+    }
 }

@@ -1,21 +1,25 @@
 //! Where bytes go to.
 
-ghost use Rattle.std.specs.Prelude.{◌≡◌, ◌-◌, List, ℕ, Option, OnOk, OnErr, IfOk, Some, [], is_err, ◌||◌, nat_lt, length};
-ghost use Rattle.basil_types.specs.Causes.{HasCause, TookPrefix, TookAll, is_next};
+ghost use Rattle.std.specs.Prelude.{◌≡◌, ◌+◌, ◌-◌, ◌^◌, List, ℕ, Option, OnOk, OnErr, IfOk, Some, None, [], is_err};
+ghost use Rattle.std.specs.Prelude.{length, min};
+ghost use Rattle.basil_types.specs.Causes.{HasCause, TookPrefix, TookAll, no_faults};
+ghost use Rattle.basil_types.specs.Memory.{uncalled, write_fails, counted};
 
+use crate::calls::Calls;
 use crate::memory::NoMemory;
 use crate::source::Failed;
 use std::alloc::Global;
 use std::marker::Model;
 
-/// Where bytes go to. Its meaning is the bytes taken, where it tells them, and a count of faults that never falls.
+/// Where bytes go to. Its meaning is the bytes taken, where it tells them, and a count of faults that never falls,
+/// rises where a call fails, and only there.
 pub trait Sink {
     // The bytes taken, where they are told.
     ghost taken: { Self → Option (List ℕ) };
     // How many calls have failed.
     ghost faults: { Self → ℕ };
 
-    /// Takes the bytes. Fails only where the count of faults rose, and then took some of them from their front.
+    /// Takes the bytes. After a failure it took some of them, from their front.
     fn write(&mut self, bytes: &[u8]) -> Result<(), Failed>
         ensures all { OnOk result (TookAll (taken self.old) (taken self.new) bytes.now) }
         ensures prefix { TookPrefix (taken self.old) (taken self.new) bytes.now }
@@ -24,13 +28,11 @@ pub trait Sink {
 
 /// Bytes in memory, at most `room` of them; a write whose number is listed, counted from 1, fails, and one that would
 /// pass the room, and then it takes nothing.
-#[derive(Debug, Drop)]
+#[derive(Drop)]
 pub struct MemSink {
     bytes: Vec<u8>,
     room: usize,
-    failing: Vec<u64>,
-    calls: u64,
-    faults: u64,
+    calls: Calls,
 }
 
 impl Model for MemSink {
@@ -39,7 +41,7 @@ impl Model for MemSink {
 
     ghost Value = { SinkState };
 
-    ghost view = { λ s. record { taken = s.bytes.items; room = s.room; failing = s.failing.items; calls = s.calls; faults = s.faults } };
+    ghost view = { λ s. record { taken = s.bytes.items; room = s.room; calls = s.calls } };
 
     ghost invariant = { λ s. s.room ≤ vec_capacity s.bytes };
 }
@@ -47,15 +49,13 @@ impl Model for MemSink {
 impl MemSink {
     /// Takes memory for `room` bytes; its writes take none.
     pub fn new(alloc: Global, room: usize, failing: Vec<u64>) -> Result<MemSink, NoMemory>
-        ensures { IfOk result (λ s. s ≡ record { taken = []; room = room; failing = failing.items; calls = 0; faults = 0 }) }
+        ensures { IfOk result (λ s. s ≡ record { taken = []; room = room; calls = uncalled failing.items }) }
     {
         let bytes = Vec::with_capacity(alloc, room)?;
         Ok(MemSink {
             bytes,
             room,
-            failing,
-            calls: 0,
-            faults: 0,
+            calls: Calls::new(failing),
         })
     }
 
@@ -72,22 +72,22 @@ impl Sink for MemSink {
 
     ghost taken = { λ s. Some s.taken };
 
-    ghost faults = { λ s. s.faults };
+    ghost faults = { λ s. s.calls.faults };
 
     #[tactic(auto, using(crate::proofs::Taking::took_all))]
     fn write(&mut self, bytes: &[u8]) -> Result<(), Failed>
         ensures all { OnOk result (TookAll (Some self.old.taken) (Some self.new.taken) bytes.now) }
         ensures prefix { TookPrefix (Some self.old.taken) (Some self.new.taken) bytes.now }
-        ensures cause { HasCause self.old.faults self.new.faults result }
-        ensures exact { is_err result ≡ (is_next self.old.calls self.old.failing || nat_lt (self.old.room - length self.old.taken) (length bytes.now)) }
+        ensures cause { HasCause self.old.calls.faults self.new.calls.faults result }
+        ensures exact { is_err result ≡ write_fails self.old bytes.now }
         ensures nothing { OnErr result (self.new.taken ≡ self.old.taken) }
-        ensures fixed { (self.new.room ≡ self.old.room) × (self.new.failing ≡ self.old.failing) }
+        ensures counted { self.new.calls ≡ counted (is_err result) self.old.calls }
+        ensures fixed { self.new.room ≡ self.old.room }
     {
-        self.calls = self.calls.saturating_add(1);
         let left = self.room.saturating_sub(self.bytes.len());
-        let listed = self.failing.contains(&self.calls);
-        if listed || left < bytes.len() {
-            self.faults = self.faults.saturating_add(1);
+        let fails = self.calls.fails_next() || left < bytes.len();
+        self.calls.count(fails);
+        if fails {
             return Err(Failed);
         }
         match self.bytes.extend_from_slice(bytes) {
@@ -97,15 +97,25 @@ impl Sink for MemSink {
     }
 }
 
-/// Takes bytes without end, and only counts them; it never fails.
-#[derive(Debug, Drop)]
+/// Takes bytes without end, and only counts them, up to 2^64 - 1; it never fails.
+#[derive(Drop)]
 pub struct SureSink {
     count: u64,
 }
 
+impl Model for SureSink {
+    ghost use Rattle.std.specs.Prelude.{ℕ};
+
+    ghost Value = { ℕ };
+
+    ghost view = { λ s. s.count };
+}
+
 impl SureSink {
     /// No byte taken yet.
-    pub fn new() -> SureSink {
+    pub fn new() -> SureSink
+        ensures { result ≡ 0 }
+    {
         SureSink { count: 0 }
     }
 }
@@ -115,9 +125,14 @@ impl Sink for SureSink {
 
     ghost taken = { λ _. None };
 
-    ghost faults = { λ _. 0 };
+    ghost faults = { λ _. no_faults };
 
-    fn write(&mut self, bytes: &[u8]) -> Result<(), Failed> {
+    fn write(&mut self, bytes: &[u8]) -> Result<(), Failed>
+        ensures all { OnOk result (TookAll None None bytes.now) }
+        ensures prefix { TookPrefix None None bytes.now }
+        ensures cause { HasCause no_faults no_faults result }
+        ensures counted { self.new ≡ min (self.old + length bytes.now) (2 ^ 64 - 1) }
+    {
         self.count = self.count.saturating_add(bytes.len() as u64);
         Ok(())
     }

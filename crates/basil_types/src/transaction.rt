@@ -8,12 +8,11 @@ mod owned;
 mod parse;
 pub mod parts;
 mod spell;
-#[cfg(test)]
-mod tests;
 mod view;
 
 pub use fault::{BuildFault, PartFault};
 pub use laws::one_spelling;
+pub use lists::{ReadsIter, WritesIter};
 pub use owned::Transaction;
 pub use parse::first;
 pub use view::TransactionView;

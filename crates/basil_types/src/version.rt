@@ -1,7 +1,7 @@
 //! Versions and their order (Basil, multiversion timestamp ordering).
 
 ghost use Rattle.std.specs.Prelude.{◌≡◌};
-ghost use Rattle.basil_types.specs.Version.{below};
+ghost use Rattle.basil_types.specs.Version.{below, same_version, is_between, AreInOrder, AreToldApart};
 
 use std::cmp::Ordering;
 
@@ -35,4 +35,28 @@ impl Version {
             Ordering::Equal | Ordering::Greater => false,
         }
     }
+
+    /// Whether two versions are the same: their times, clients and ids.
+    pub fn is_same(&self, other: &Version) -> bool
+        ensures { result ≡ same_version self.now other.now }
+    {
+        self.time == other.time && self.client == other.client && self.id == other.id
+    }
+
+    /// Whether this version stands strictly between two others.
+    pub fn is_between(&self, low: &Version, high: &Version) -> bool
+        ensures { result ≡ is_between low.now self.now high.now }
+    {
+        low.is_below(self) && self.is_below(high)
+    }
 }
+
+/// A law: of two versions one is below the other, or they are equal.
+pub fn versions_are_in_order()
+    ensures { AreInOrder }
+{}
+
+/// A law: two versions are the same where all their parts are.
+pub fn versions_are_told_apart()
+    ensures { AreToldApart }
+{}

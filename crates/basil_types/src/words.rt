@@ -46,7 +46,8 @@ impl Words {
 
     /// A replica's vote on a transaction.
     pub fn vote(shard: u8, replica: u8, id: &[u8; 32], decision: Decision) -> Words
-        ensures { result ≡ words_of (VoteWords (record { shard = shard; replica = replica; id = id.now; decision = decision })) }
+        ensures { result ≡ words_of
+            (VoteWords (record { shard = shard; replica = replica; id = id.now; decision = decision })) }
     {
         let mut words = Words::of_replica(2, shard, replica);
         words.append(id);
@@ -66,7 +67,17 @@ impl Words {
     ) -> Words
         requires some { 1 ≤ length key.now }
         requires short { length key.now ≤ 64 }
-        ensures { result ≡ words_of (ReadReplyWords (record { shard = shard; replica = replica; key = key.now; time = time; client = client; committed = committed; prepared = prepared })) }
+        ensures { result ≡ words_of
+            (ReadReplyWords
+            (record {
+              shard = shard;
+              replica = replica;
+              key = key.now;
+              time = time;
+              client = client;
+              committed = committed;
+              prepared = prepared;
+            })) }
     {
         let mut words = Words::of_replica(3, shard, replica);
         words.push(key.len() as u8);
@@ -87,7 +98,16 @@ impl Words {
         decided: u64,
         current: u64,
     ) -> Words
-        ensures { result ≡ words_of (LogReplyWords (record { shard = shard; replica = replica; id = id.now; decision = decision; decided = decided; current = current })) }
+        ensures { result ≡ words_of
+            (LogReplyWords
+            (record {
+              shard = shard;
+              replica = replica;
+              id = id.now;
+              decision = decision;
+              decided = decided;
+              current = current;
+            })) }
     {
         let mut words = Words::of_replica(4, shard, replica);
         words.append(id);
@@ -99,14 +119,18 @@ impl Words {
 
     /// A replica's word in the election of a view.
     pub fn election(shard: u8, replica: u8, id: &[u8; 32], decision: Decision, view: u64) -> Words
-        ensures { result ≡ words_of (ElectionWords (record { shard = shard; replica = replica; id = id.now; decision = decision; view = view })) }
+        ensures { result ≡ words_of
+            (ElectionWords
+            (record { shard = shard; replica = replica; id = id.now; decision = decision; view = view })) }
     {
         Words::of_view(5, shard, replica, id, decision, view)
     }
 
     /// A leader's proposal in a view.
     pub fn proposal(shard: u8, replica: u8, id: &[u8; 32], decision: Decision, view: u64) -> Words
-        ensures { result ≡ words_of (ProposalWords (record { shard = shard; replica = replica; id = id.now; decision = decision; view = view })) }
+        ensures { result ≡ words_of
+            (ProposalWords
+            (record { shard = shard; replica = replica; id = id.now; decision = decision; view = view })) }
     {
         Words::of_view(6, shard, replica, id, decision, view)
     }
@@ -119,7 +143,8 @@ impl Words {
         decision: Decision,
         view: u64,
     ) -> Words
-        ensures { result ≡ kind ∷ view_bytes (record { shard = shard; replica = replica; id = id.now; decision = decision; view = view }) }
+        ensures { result ≡ kind ∷ view_bytes
+            (record { shard = shard; replica = replica; id = id.now; decision = decision; view = view }) }
     {
         let mut words = Words::of_replica(kind, shard, replica);
         words.append(id);

@@ -1,5 +1,6 @@
 -- There is no refusal exactly where the relation holds.
-use Rattle.std.proofs.Common.{◌≡◌, ℕ, ◌<◌, ◌≤◌, ◌^◌, Bool, true, false, cond, ◌&&◌, List, [], ◌∷◌, length, Option, None, Some, refl, sym, ap, ◌∙◌, subst, arith}
+use Rattle.std.proofs.Common.{◌≡◌, ℕ, ◌<◌, ◌≤◌, ◌^◌, Bool, true, false, cond, ◌&&◌, List, [], ◌∷◌, length, Option, None, Some, refl, sym}
+use Rattle.std.proofs.Common.{ap, ◌∙◌, subst, arith}
 use Rattle.std.specs.Prelude.{option_and_then, is_none, ◌↔◌, Result, Ok, Err, IsOk}
 use Rattle.std.specs.Str.{bytes_eq}
 use Rattle.std.specs.List.{list_all}
@@ -9,6 +10,7 @@ use Rattle.std.proofs.lemmas.List.Elements.{All-nil, All-cons, All-head}
 use Rattle.std.proofs.lemmas.List.Sums.{AllPass-from_list_all, list_all-from_AllPass}
 use Rattle.std.proofs.lemmas.Slice.Eq.{bytes_eq-Decides}
 use Rattle.basil_types.specs.Built.{or_else}
+use Rattle.basil_types.specs.Decision.{same_decision}
 use Rattle.basil_types.specs.Lists.{AreItems}
 use Rattle.basil_types.specs.declared.party.Decision.{Decision}
 use Rattle.basil_types.specs.declared.party.Decision.TheVariants.{Commit, Abort}
@@ -28,17 +30,19 @@ use Rattle.certificates.specs.declared.refusal.CertRefusal.TheVariants.{WrongId,
 use Rattle.certificates.specs.Accepted.{Accepted, accepts, AllAccepted}
 use Rattle.certificates.specs.Tallies.{VotedInAll, VotedInOne, AbortTallied, Tallied}
 use Rattle.certificates.specs.Deciding.{HasGoodForm, LoggedAs, CommitsBy, Commits, AbortsBy, Aborts, Proves}
-use Rattle.certificates.specs.Refusals.{few, few_listed, same_decision, stray, stray_listed, stray_logged, bad_signature, PairValue, wrong_id, mixed, not_involved, too_few, no_conflict_by, nested_in, refusal, Refuses, tallies_refusal, stray_alone}
-use Rattle.certificates.proofs.CountLaws.{size_loggers, none_refused, refused_none, enough, not_few, enough_each, none_few, voted_of, counted_of, front_accepted, each_voted, each_counted, length_tally, length_tallies}
+use Rattle.certificates.specs.Refusals.{few, few_listed, stray, stray_listed, stray_logged, bad_signature, PairValue, wrong_id, mixed}
+use Rattle.certificates.specs.Refusals.{not_involved, too_few, no_conflict_by, nested_in, refusal, Refuses, tallies_refusal, stray_alone}
+use Rattle.certificates.proofs.CountLaws.{size_loggers, none_refused, refused_none, enough, not_few, enough_each, none_few, voted_of}
+use Rattle.certificates.proofs.CountLaws.{counted_of, front_accepted, each_voted, each_counted, length_tally, length_tallies}
 use Rattle.certificates.proofs.ShardLaws.{listed_exactly, none_stray, is_involved, not_stray, is_log_shard, not_stray_logged, one_alone}
 
 -- ---- chains of tests
 
-split_none : {X : Type 0} (o p : Option X) → or_else o p ≡ None → (o ≡ None) × (p ≡ None)
+pub split_none : {X : Type 0} (o p : Option X) → or_else o p ≡ None → (o ≡ None) × (p ≡ None)
 split_none None p h = (refl, h)
 split_none (Some x) p h = absurd cc
 
-join_none : {X : Type 0} (o p : Option X) → o ≡ None → p ≡ None → or_else o p ≡ None
+pub join_none : {X : Type 0} (o p : Option X) → o ≡ None → p ≡ None → or_else o p ≡ None
 join_none o p h k = ap (λ q. or_else q p) h ∙ k
 
 all_from : (A : Accepted) (signed : List SignedBy) → bad_signature A signed ≡ None → AllAccepted A signed
@@ -72,33 +76,45 @@ no_mixed Abort Abort h = refl
 
 -- ---- votes and log replies
 
-all_voted : (A : Accepted) (c : Setting) (t : TransactionValue) (id : List ℕ) (needed : ℕ) (tallies : List TallyValue) → IsSetting c → FitsTallies (bounds_of c) tallies → stray_listed c t tallies ≡ None → few_listed needed tallies ≡ None → list_all (accepts A) (tallies_signed id Commit tallies) ≡ true → VotedInAll A c t id needed tallies
+all_voted : (A : Accepted) (c : Setting) (t : TransactionValue) (id : List ℕ) (needed : ℕ) (tallies : List TallyValue) → IsSetting c
+    → FitsTallies (bounds_of c) tallies → stray_listed c t tallies ≡ None → few_listed needed tallies ≡ None
+    → list_all (accepts A) (tallies_signed id Commit tallies) ≡ true → VotedInAll A c t id needed tallies
 all_voted A c t id needed tallies i fits h k a = record {
   shards = listed_exactly c t tallies i fits.each h;
   votes = each_voted A (bounds_of c) c.f id Commit needed 0 tallies refl fits.each a (enough_each needed tallies k);
 }
 
-all_counted : (A : Accepted) (c : Setting) (t : TransactionValue) (id : List ℕ) (needed : ℕ) (tallies : List TallyValue) → FitsTallies (bounds_of c) tallies → list_all (accepts A) (tallies_signed id Commit tallies) ≡ true → VotedInAll A c t id needed tallies → (stray_listed c t tallies ≡ None) × (few_listed needed tallies ≡ None)
+all_counted : (A : Accepted) (c : Setting) (t : TransactionValue) (id : List ℕ) (needed : ℕ) (tallies : List TallyValue)
+    → FitsTallies (bounds_of c) tallies → list_all (accepts A) (tallies_signed id Commit tallies) ≡ true
+    → VotedInAll A c t id needed tallies → (stray_listed c t tallies ≡ None) × (few_listed needed tallies ≡ None)
 all_counted A c t id needed tallies fits a v =
     (none_stray c t tallies v.shards, none_few needed tallies (each_counted A (bounds_of c) c.f id Commit needed 0 tallies refl fits.each a v.votes))
 
-one_voted : (A : Accepted) (c : Setting) (t : TransactionValue) (id : List ℕ) (needed floor : ℕ) (tally : TallyValue) → FitsTally (bounds_of c) floor tally → stray c t tally.shard ≡ None → few (length tally.votes) needed ≡ None → list_all (accepts A) (tally_signed id Abort tally) ≡ true → VotedInOne A c t id needed tally
+one_voted : (A : Accepted) (c : Setting) (t : TransactionValue) (id : List ℕ) (needed floor : ℕ) (tally : TallyValue)
+    → FitsTally (bounds_of c) floor tally → stray c t tally.shard ≡ None → few (length tally.votes) needed ≡ None
+    → list_all (accepts A) (tally_signed id Abort tally) ≡ true → VotedInOne A c t id needed tally
 one_voted A c t id needed floor tally fits h k a = record {
   shard = is_involved c t tally.shard h;
   votes = voted_of A (bounds_of c) c.f id Abort needed tally refl fits.votes.each a (enough (length tally.votes) needed k);
 }
 
-one_counted : (A : Accepted) (c : Setting) (t : TransactionValue) (id : List ℕ) (needed floor : ℕ) (tally : TallyValue) → FitsTally (bounds_of c) floor tally → list_all (accepts A) (tally_signed id Abort tally) ≡ true → VotedInOne A c t id needed tally → (stray c t tally.shard ≡ None) × (few (length tally.votes) needed ≡ None)
+one_counted : (A : Accepted) (c : Setting) (t : TransactionValue) (id : List ℕ) (needed floor : ℕ) (tally : TallyValue)
+    → FitsTally (bounds_of c) floor tally → list_all (accepts A) (tally_signed id Abort tally) ≡ true → VotedInOne A c t id needed tally
+    → (stray c t tally.shard ≡ None) × (few (length tally.votes) needed ≡ None)
 one_counted A c t id needed floor tally fits a v =
     (not_stray c t tally.shard v.shard, not_few (length tally.votes) needed (counted_of A (bounds_of c) c.f id Abort needed tally refl fits.votes.each a v.votes))
 
-logged_as : (A : Accepted) (c : Setting) (t : TransactionValue) (d : Decision) (id : List ℕ) (l : LoggedValue) → FitsLogged (bounds_of c) l → l.decision ≡ d → stray_logged c t l.shard ≡ None → few (length l.logs) (log_quorum c.f) ≡ None → list_all (accepts A) (logged_signed id l) ≡ true → LoggedAs A c t d id l
+logged_as : (A : Accepted) (c : Setting) (t : TransactionValue) (d : Decision) (id : List ℕ) (l : LoggedValue) → FitsLogged (bounds_of c) l
+    → l.decision ≡ d → stray_logged c t l.shard ≡ None → few (length l.logs) (log_quorum c.f) ≡ None
+    → list_all (accepts A) (logged_signed id l) ≡ true → LoggedAs A c t d id l
 logged_as A c t d id l fits e h k a =
     let same = size_loggers A (bounds_of c) id l fits.logs.each a in
     let many = enough (length l.logs) (log_quorum c.f) k in
     record { decides = e; shard = is_log_shard c t l.shard h; replies = omega arith }
 
-logged_counted : (A : Accepted) (c : Setting) (t : TransactionValue) (d : Decision) (id : List ℕ) (l : LoggedValue) → FitsLogged (bounds_of c) l → list_all (accepts A) (logged_signed id l) ≡ true → LoggedAs A c t d id l → (stray_logged c t l.shard ≡ None) × (few (length l.logs) (log_quorum c.f) ≡ None)
+logged_counted : (A : Accepted) (c : Setting) (t : TransactionValue) (d : Decision) (id : List ℕ) (l : LoggedValue)
+    → FitsLogged (bounds_of c) l → list_all (accepts A) (logged_signed id l) ≡ true → LoggedAs A c t d id l
+    → (stray_logged c t l.shard ≡ None) × (few (length l.logs) (log_quorum c.f) ≡ None)
 logged_counted A c t d id l fits a v =
     let same = size_loggers A (bounds_of c) id l fits.logs.each a in
     (not_stray_logged c t l.shard v.shard, not_few (length l.logs) (log_quorum c.f) (omega (arith, v.replies)))
@@ -115,13 +131,16 @@ pub record Passes (A : Accepted) (c : Setting) (d : Decision) (p : PairValue) : 
 abbrev pub paired : TransactionValue → CertificateValue → PairValue
 paired t certificate = record { transaction = t; certificate = certificate }
 
-kind_of_commit : (A : Accepted) (c : Setting) (t : TransactionValue) (id : List ℕ) (b : BodyValue) → IsSetting c → FitsCertificate (bounds_of c) (record { id = id; body = b }) → Passes A c Commit (paired t (record { id = id; body = b })) → CommitsBy A c t id b
+kind_of_commit : (A : Accepted) (c : Setting) (t : TransactionValue) (id : List ℕ) (b : BodyValue) → IsSetting c
+    → FitsCertificate (bounds_of c) (record { id = id; body = b }) → Passes A c Commit (paired t (record { id = id; body = b }))
+    → CommitsBy A c t id b
 kind_of_commit A c t id (values.Commits (values.FastCommit tallies)) i fits p = all_voted A c t id (fast_commit c.f) tallies i fits.body p.shards p.counts p.accepted
 kind_of_commit A c t id (values.Commits (values.Logged l)) i fits p = logged_as A c t Commit id l fits.body (not_mixed l.decision Commit p.decision) p.shards p.counts p.accepted
 kind_of_commit A c t id (values.FastAbort tally) i fits p = absurd (let e = p.decision in cc)
 kind_of_commit A c t id (values.ConflictAbort x) i fits p = absurd (let e = p.decision in cc)
 
-pub commits_from : (A : Accepted) (c : Setting) (t : TransactionValue) (certificate : CertificateValue) → IsSetting c → FitsCertificate (bounds_of c) certificate → HasGoodForm t → Passes A c Commit (paired t certificate) → Commits A c t certificate
+pub commits_from : (A : Accepted) (c : Setting) (t : TransactionValue) (certificate : CertificateValue) → IsSetting c
+    → FitsCertificate (bounds_of c) certificate → HasGoodForm t → Passes A c Commit (paired t certificate) → Commits A c t certificate
 commits_from A c t certificate i fits f p = record {
   form = f;
   about = same_id certificate.id (transactions.id t) p.id;
@@ -129,7 +148,10 @@ commits_from A c t certificate i fits f p = record {
   accepted = AllPass-from_list_all (accepts A) (certificate_signed certificate) p.accepted;
 }
 
-tests_of_commit : (A : Accepted) (c : Setting) (t : TransactionValue) (id : List ℕ) (b : BodyValue) → FitsCertificate (bounds_of c) (record { id = id; body = b }) → list_all (accepts A) (certificate_signed (record { id = id; body = b })) ≡ true → CommitsBy A c t id b → (mixed Commit (paired t (record { id = id; body = b })) ≡ None) × (not_involved c (paired t (record { id = id; body = b })) ≡ None) × (too_few c (paired t (record { id = id; body = b })) ≡ None)
+tests_of_commit : (A : Accepted) (c : Setting) (t : TransactionValue) (id : List ℕ) (b : BodyValue)
+    → FitsCertificate (bounds_of c) (record { id = id; body = b })
+    → list_all (accepts A) (certificate_signed (record { id = id; body = b })) ≡ true → CommitsBy A c t id b
+    → (mixed Commit (paired t (record { id = id; body = b })) ≡ None) × (not_involved c (paired t (record { id = id; body = b })) ≡ None) × (too_few c (paired t (record { id = id; body = b })) ≡ None)
 tests_of_commit A c t id (values.Commits (values.FastCommit tallies)) fits a k =
     let tests = all_counted A c t id (fast_commit c.f) tallies fits.body a k in (refl, tests.0, tests.1)
 tests_of_commit A c t id (values.Commits (values.Logged l)) fits a k =
@@ -137,7 +159,8 @@ tests_of_commit A c t id (values.Commits (values.Logged l)) fits a k =
 tests_of_commit A c t id (values.FastAbort tally) fits a k = absurd k
 tests_of_commit A c t id (values.ConflictAbort x) fits a k = absurd k
 
-pub commits_to : (A : Accepted) (c : Setting) (t : TransactionValue) (certificate : CertificateValue) → FitsCertificate (bounds_of c) certificate → Commits A c t certificate → Passes A c Commit (paired t certificate)
+pub commits_to : (A : Accepted) (c : Setting) (t : TransactionValue) (certificate : CertificateValue)
+    → FitsCertificate (bounds_of c) certificate → Commits A c t certificate → Passes A c Commit (paired t certificate)
 commits_to A c t certificate fits k =
     let a = all_to A (certificate_signed certificate) k.accepted in
     let tests = tests_of_commit A c t certificate.id certificate.body fits a k.kind in
@@ -153,7 +176,9 @@ record AllPassed (A : Accepted) (c : Setting) (d : Decision) (p : PairValue) (in
   shards : option_and_then (not_involved c) inner ≡ None
   counts : option_and_then (too_few c) inner ≡ None
 
-passed_from : (A : Accepted) (c : Setting) (t : TransactionValue) (d : Decision) (certificate : CertificateValue) → refusal A c t d certificate ≡ None → AllPassed A c d (paired t certificate) (nested_in certificate.body) (no_conflict_by t certificate.body)
+passed_from : (A : Accepted) (c : Setting) (t : TransactionValue) (d : Decision) (certificate : CertificateValue)
+    → refusal A c t d certificate ≡ None
+    → AllPassed A c d (paired t certificate) (nested_in certificate.body) (no_conflict_by t certificate.body)
 passed_from A c t d certificate h =
     let first = split_none _ _ h in
     let second = split_none _ _ first.1 in
@@ -173,7 +198,9 @@ passed_from A c t d certificate h =
       counts = counts.1;
     }
 
-passed_to : (A : Accepted) (c : Setting) (t : TransactionValue) (d : Decision) (certificate : CertificateValue) → AllPassed A c d (paired t certificate) (nested_in certificate.body) (no_conflict_by t certificate.body) → refusal A c t d certificate ≡ None
+passed_to : (A : Accepted) (c : Setting) (t : TransactionValue) (d : Decision) (certificate : CertificateValue)
+    → AllPassed A c d (paired t certificate) (nested_in certificate.body) (no_conflict_by t certificate.body)
+    → refusal A c t d certificate ≡ None
 passed_to A c t d certificate p =
     join_none _ _ (join_none _ _ p.outer.id p.ids)
     (join_none _ _ (join_none _ _ p.outer.decision p.decisions)
@@ -183,12 +210,14 @@ passed_to A c t d certificate p =
 
 -- ---- commit certificates
 
-nothing_inside : (A : Accepted) (c : Setting) (t : TransactionValue) (id : List ℕ) (b : BodyValue) → CommitsBy A c t id b → (nested_in b ≡ None) × (no_conflict_by t b ≡ None)
+nothing_inside : (A : Accepted) (c : Setting) (t : TransactionValue) (id : List ℕ) (b : BodyValue) → CommitsBy A c t id b
+    → (nested_in b ≡ None) × (no_conflict_by t b ≡ None)
 nothing_inside A c t id (values.Commits body) k = (refl, refl)
 nothing_inside A c t id (values.FastAbort tally) k = (refl, refl)
 nothing_inside A c t id (values.ConflictAbort x) k = absurd k
 
-pub commits_exactly : (A : Accepted) (c : Setting) (t : TransactionValue) (certificate : CertificateValue) → IsSetting c → FitsCertificate (bounds_of c) certificate → HasGoodForm t → (refusal A c t Commit certificate ≡ None) ↔ Commits A c t certificate
+pub commits_exactly : (A : Accepted) (c : Setting) (t : TransactionValue) (certificate : CertificateValue) → IsSetting c
+    → FitsCertificate (bounds_of c) certificate → HasGoodForm t → (refusal A c t Commit certificate ≡ None) ↔ Commits A c t certificate
 commits_exactly A c t certificate i fits f = (
   λ h. commits_from A c t certificate i fits f (passed_from A c t Commit certificate h).outer,
   λ k. let outer = commits_to A c t certificate fits k in
@@ -212,20 +241,25 @@ is_there : (o : Option FormFault) → is_none o ≡ true → o ≡ None
 is_there None h = refl
 is_there (Some fault) h = absurd cc
 
-rival : (t : TransactionValue) (x : ConflictValue) → no_conflict_by t (values.ConflictAbort x) ≡ None → (form_fault x.other ≡ None) × (conflict t x.other ≡ true)
+rival : (t : TransactionValue) (x : ConflictValue) → no_conflict_by t (values.ConflictAbort x) ≡ None
+    → (form_fault x.other ≡ None) × (conflict t x.other ≡ true)
 rival t x h = by (is_none (form_fault x.other) && conflict t x.other) refl h where
-  by : (b : Bool) → (is_none (form_fault x.other) && conflict t x.other) ≡ b → cond b None (Some NoConflict) ≡ None → (form_fault x.other ≡ None) × (conflict t x.other ≡ true)
+  by : (b : Bool) → (is_none (form_fault x.other) && conflict t x.other) ≡ b → cond b None (Some NoConflict) ≡ None
+      → (form_fault x.other ≡ None) × (conflict t x.other ≡ true)
   by true e h = let both = and_parts (is_none (form_fault x.other)) (conflict t x.other) e in (is_there (form_fault x.other) both.0, both.1)
   by false e h = absurd cc
 
-no_rival_fault : (t : TransactionValue) (x : ConflictValue) → form_fault x.other ≡ None → conflict t x.other ≡ true → no_conflict_by t (values.ConflictAbort x) ≡ None
+no_rival_fault : (t : TransactionValue) (x : ConflictValue) → form_fault x.other ≡ None → conflict t x.other ≡ true
+    → no_conflict_by t (values.ConflictAbort x) ≡ None
 no_rival_fault t x f k =
     ap (λ (o : Option FormFault). cond (is_none o && conflict t x.other) None (Some NoConflict)) f ∙ ap (λ b. cond b None (Some NoConflict)) k
 
 pair_inside : (x : ConflictValue) → form_fault x.other ≡ None → nested_in (values.ConflictAbort x) ≡ Some (inside x)
 pair_inside x f = ap (λ (o : Option FormFault). cond (is_none o) (Some (inside x)) None) f
 
-kind_of_abort : (A : Accepted) (c : Setting) (t : TransactionValue) (id : List ℕ) (b : BodyValue) → IsSetting c → FitsCertificate (bounds_of c) (record { id = id; body = b }) → AllPassed A c Abort (paired t (record { id = id; body = b })) (nested_in b) (no_conflict_by t b) → AbortsBy A c t id b
+kind_of_abort : (A : Accepted) (c : Setting) (t : TransactionValue) (id : List ℕ) (b : BodyValue) → IsSetting c
+    → FitsCertificate (bounds_of c) (record { id = id; body = b })
+    → AllPassed A c Abort (paired t (record { id = id; body = b })) (nested_in b) (no_conflict_by t b) → AbortsBy A c t id b
 kind_of_abort A c t id (values.Commits (values.FastCommit tallies)) i fits p = absurd (let e = p.outer.decision in cc)
 kind_of_abort A c t id (values.Commits (values.Logged l)) i fits p = logged_as A c t Abort id l fits.body (not_mixed l.decision Abort p.outer.decision) p.outer.shards p.outer.counts p.outer.accepted
 kind_of_abort A c t id (values.FastAbort tally) i fits p = one_voted A c t id (fast_abort c.f) 0 tally fits.body p.outer.shards p.outer.counts p.outer.accepted
@@ -244,7 +278,10 @@ kind_of_abort A c t id (values.ConflictAbort x) i fits p =
       });
     }
 
-tests_of_abort : (A : Accepted) (c : Setting) (t : TransactionValue) (id : List ℕ) (b : BodyValue) → FitsCertificate (bounds_of c) (record { id = id; body = b }) → wrong_id (paired t (record { id = id; body = b })) ≡ None → list_all (accepts A) (certificate_signed (record { id = id; body = b })) ≡ true → AbortsBy A c t id b → AllPassed A c Abort (paired t (record { id = id; body = b })) (nested_in b) (no_conflict_by t b)
+tests_of_abort : (A : Accepted) (c : Setting) (t : TransactionValue) (id : List ℕ) (b : BodyValue)
+    → FitsCertificate (bounds_of c) (record { id = id; body = b }) → wrong_id (paired t (record { id = id; body = b })) ≡ None
+    → list_all (accepts A) (certificate_signed (record { id = id; body = b })) ≡ true → AbortsBy A c t id b
+    → AllPassed A c Abort (paired t (record { id = id; body = b })) (nested_in b) (no_conflict_by t b)
 tests_of_abort A c t id (values.Commits (values.FastCommit tallies)) fits w a k = absurd k
 tests_of_abort A c t id (values.Commits (values.Logged l)) fits w a k =
     let tests = logged_counted A c t Abort id l fits.body a k in
@@ -264,7 +301,8 @@ tests_of_abort A c t id (values.ConflictAbort x) fits w a k =
       counts = ap (option_and_then (too_few c)) there ∙ inner.counts;
     }
 
-pub aborts_exactly : (A : Accepted) (c : Setting) (t : TransactionValue) (certificate : CertificateValue) → IsSetting c → FitsCertificate (bounds_of c) certificate → HasGoodForm t → (refusal A c t Abort certificate ≡ None) ↔ Aborts A c t certificate
+pub aborts_exactly : (A : Accepted) (c : Setting) (t : TransactionValue) (certificate : CertificateValue) → IsSetting c
+    → FitsCertificate (bounds_of c) certificate → HasGoodForm t → (refusal A c t Abort certificate ≡ None) ↔ Aborts A c t certificate
 aborts_exactly A c t certificate i fits f = (
   λ h. let p = passed_from A c t Abort certificate h in
       record {
@@ -277,26 +315,15 @@ aborts_exactly A c t certificate i fits f = (
       (tests_of_abort A c t certificate.id certificate.body fits (no_wrong_id certificate.id (transactions.id t) k.about) (all_to A (certificate_signed certificate) k.accepted) k.kind),
 )
 
-pub proves_exactly : (A : Accepted) (c : Setting) (t : TransactionValue) (d : Decision) (certificate : CertificateValue) → IsSetting c → FitsCertificate (bounds_of c) certificate → HasGoodForm t → (refusal A c t d certificate ≡ None) ↔ Proves A c t d certificate
+pub proves_exactly : (A : Accepted) (c : Setting) (t : TransactionValue) (d : Decision) (certificate : CertificateValue) → IsSetting c
+    → FitsCertificate (bounds_of c) certificate → HasGoodForm t → (refusal A c t d certificate ≡ None) ↔ Proves A c t d certificate
 proves_exactly A c t Commit certificate i fits f = commits_exactly A c t certificate i fits f
 proves_exactly A c t Abort certificate i fits f = aborts_exactly A c t certificate i fits f
 
--- only the signatures speak of what is accepted
-pub grows : (A B : Accepted) (c : Setting) (t : TransactionValue) (d : Decision) (certificate : CertificateValue) → (list_all (accepts A) (certificate_signed certificate) ≡ true → list_all (accepts B) (certificate_signed certificate) ≡ true) → refusal A c t d certificate ≡ None → refusal B c t d certificate ≡ None
-grows A B c t d certificate m h =
-    let p = passed_from A c t d certificate h in
-    passed_to B c t d certificate (record {
-      outer = record { id = p.outer.id; decision = p.outer.decision; shards = p.outer.shards; counts = p.outer.counts; accepted = m p.outer.accepted };
-      conflicts = p.conflicts;
-      ids = p.ids;
-      decisions = p.decisions;
-      shards = p.shards;
-      counts = p.counts;
-    })
-
 -- ---- tallies
 
-pub tallied_exactly : (A : Accepted) (c : Setting) (t : TransactionValue) (d : Decision) (tallies : List TallyValue) → IsSetting c → FitsTallies (bounds_of c) tallies → HasGoodForm t → (tallies_refusal A c t d tallies ≡ None) ↔ Tallied A c t d tallies
+pub tallied_exactly : (A : Accepted) (c : Setting) (t : TransactionValue) (d : Decision) (tallies : List TallyValue) → IsSetting c
+    → FitsTallies (bounds_of c) tallies → HasGoodForm t → (tallies_refusal A c t d tallies ≡ None) ↔ Tallied A c t d tallies
 tallied_exactly A c t Commit tallies i fits f =
     let id = transactions.id t in (
       λ h. let first = split_none _ _ h in
@@ -309,7 +336,8 @@ tallied_exactly A c t Commit tallies i fits f =
     )
 tallied_exactly A c t Abort tallies i fits f = (λ h. abort_from A c t tallies i fits f h, λ k. abort_to A c t tallies fits k)
   where
-    abort_from : (A : Accepted) (c : Setting) (t : TransactionValue) (tallies : List TallyValue) → IsSetting c → FitsTallies (bounds_of c) tallies → HasGoodForm t → tallies_refusal A c t Abort tallies ≡ None → AbortTallied A c t tallies
+    abort_from : (A : Accepted) (c : Setting) (t : TransactionValue) (tallies : List TallyValue) → IsSetting c
+        → FitsTallies (bounds_of c) tallies → HasGoodForm t → tallies_refusal A c t Abort tallies ≡ None → AbortTallied A c t tallies
     abort_from A c t tallies i fits f h =
         let first = split_none _ _ h in
         let second = split_none _ _ first.1 in
@@ -326,7 +354,8 @@ tallied_exactly A c t Abort tallies i fits f = (λ h. abort_from A c t tallies i
           accepted = AllPass-from_list_all (accepts A) (tallies_signed (transactions.id t) Abort tallies) all;
         }
 
-    abort_to : (A : Accepted) (c : Setting) (t : TransactionValue) (tallies : List TallyValue) → FitsTallies (bounds_of c) tallies → AbortTallied A c t tallies → tallies_refusal A c t Abort tallies ≡ None
+    abort_to : (A : Accepted) (c : Setting) (t : TransactionValue) (tallies : List TallyValue) → FitsTallies (bounds_of c) tallies
+        → AbortTallied A c t tallies → tallies_refusal A c t Abort tallies ≡ None
     abort_to A c t tallies fits k =
         let all = all_to A (tallies_signed (transactions.id t) Abort tallies) k.accepted in
         let fits_one = subst (λ (ts : List TallyValue). AreItems (FitsTally (bounds_of c)) after_tally 0 ts) k.alone fits.each in
@@ -339,7 +368,9 @@ tallied_exactly A c t Abort tallies i fits f = (λ h. abort_from A c t tallies i
 
 -- ---- how many signatures there may be
 
-few_in_commit : (c : Setting) (id : List ℕ) (b : values.CommitBody) → FitsCertificate (bounds_of c) (record { id = id; body = values.Commits b }) → length (certificate_signed (record { id = id; body = values.Commits b })) ≤ 65025
+few_in_commit : (c : Setting) (id : List ℕ) (b : values.CommitBody)
+    → FitsCertificate (bounds_of c) (record { id = id; body = values.Commits b })
+    → length (certificate_signed (record { id = id; body = values.Commits b })) ≤ 65025
 few_in_commit c id (values.FastCommit tallies) fits =
     let many = length_tallies (bounds_of c) id Commit 0 tallies fits.body.each in
     let few_shards : length tallies < 256 = fits.body.count in
@@ -349,7 +380,8 @@ few_in_commit c id (values.Logged l) fits =
     let few_logs : length l.logs < 256 = fits.body.logs.count in
     omega arith
 
-few_in_body : (c : Setting) (id : List ℕ) (b : BodyValue) → FitsCertificate (bounds_of c) (record { id = id; body = b }) → length (certificate_signed (record { id = id; body = b })) < 2 ^ 64
+few_in_body : (c : Setting) (id : List ℕ) (b : BodyValue) → FitsCertificate (bounds_of c) (record { id = id; body = b })
+    → length (certificate_signed (record { id = id; body = b })) < 2 ^ 64
 few_in_body c id (values.Commits b) fits = let few_signed = few_in_commit c id b fits in omega arith
 few_in_body c id (values.FastAbort tally) fits =
     let same = length_tally id Abort tally in
@@ -359,10 +391,12 @@ few_in_body c id (values.ConflictAbort x) fits =
     let few_signed = few_in_commit c x.proof.id x.proof.body (record { id = fits.body.proof.id; body = fits.body.proof.body }) in
     omega arith
 
-pub few_signatures : (c : Setting) (certificate : CertificateValue) → FitsCertificate (bounds_of c) certificate → length (certificate_signed certificate) < 2 ^ 64
+pub few_signatures : (c : Setting) (certificate : CertificateValue) → FitsCertificate (bounds_of c) certificate
+    → length (certificate_signed certificate) < 2 ^ 64
 few_signatures c certificate fits = few_in_body c certificate.id certificate.body fits
 
-pub few_tally_signatures : (c : Setting) (id : List ℕ) (d : Decision) (tallies : List TallyValue) → FitsTallies (bounds_of c) tallies → length (tallies_signed id d tallies) < 2 ^ 64
+pub few_tally_signatures : (c : Setting) (id : List ℕ) (d : Decision) (tallies : List TallyValue) → FitsTallies (bounds_of c) tallies
+    → length (tallies_signed id d tallies) < 2 ^ 64
 few_tally_signatures c id d tallies fits =
     let many = length_tallies (bounds_of c) id d 0 tallies fits.each in
     let few_shards : length tallies < 256 = fits.count in
@@ -370,7 +404,8 @@ few_tally_signatures c id d tallies fits =
 
 -- ---- an answer and its refusal
 
-pub ok_exactly : (r : Result (Unit {0}) CertRefusal) (refusal : Option CertRefusal) (P : Type 0) → Refuses r refusal → (refusal ≡ None) ↔ P → IsOk r ↔ P
+pub ok_exactly : (r : Result (Unit {0}) CertRefusal) (refusal : Option CertRefusal) (P : Type 0) → Refuses r refusal → (refusal ≡ None) ↔ P
+    → IsOk r ↔ P
 ok_exactly (Ok u) refusal P h e = (λ _. e.0 h, λ _. refl)
 ok_exactly (Err r) refusal P h e = (λ i. absurd (let j = i in cc), λ p. absurd (some_none (sym h ∙ e.1 p)))
   where

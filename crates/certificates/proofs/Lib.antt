@@ -1,8 +1,8 @@
 pub mod ShardLaws
-pub mod WalkLaws
 pub mod PairLaws
 pub mod CountLaws
 pub mod DecideLaws
 pub mod QuorumLaws
+pub mod ConflictLaws
+pub mod RestLaws
 pub mod GrowthLaws
-pub mod AlikeLaws

@@ -1,5 +1,6 @@
 -- The eight shards that a cluster may have.
-use Rattle.std.proofs.Common.{◌≡◌, ℕ, zero, suc, ◌+◌, ◌<◌, ◌≤◌, ◌==◌, Bool, true, false, cond, not, ◌||◌, ◌&&◌, List, [], ◌∷◌, length, drop, set, Option, None, Some, refl, sym, ap, ◌∙◌, subst, arith, inl, inr, ◌%◌, sum}
+use Rattle.std.proofs.Common.{◌≡◌, ℕ, zero, suc, ◌+◌, ◌<◌, ◌≤◌, ◌==◌, Bool, true, false, cond, not, ◌||◌, ◌&&◌, List, [], ◌∷◌, length, drop}
+use Rattle.std.proofs.Common.{set, Option, None, Some, refl, sym, ap, ◌∙◌, subst, arith, inl, inr, ◌%◌, sum}
 use Rattle.std.specs.Prelude.{find, slice_get, option_map}
 use Rattle.std.specs.List.{list_any}
 use Rattle.std.proofs.lemmas.Bool.{cases_eq, cases_lt, eq-eqb, eqb-true, ne_eqb}
@@ -50,7 +51,8 @@ pub find_past : (p : ℕ → Bool) (s : ℕ) → 8 ≤ s → find p (drop s all_
 find_past p s h = ap (find p) (drop_past s h)
 
 -- tests that agree on the eight find the same
-find_same_from : (p q : ℕ → Bool) → ((s : ℕ) → s < 8 → p s ≡ q s) → (k s : ℕ) → s + k ≡ 8 → find p (drop s all_shards) ≡ find q (drop s all_shards)
+find_same_from : (p q : ℕ → Bool) → ((s : ℕ) → s < 8 → p s ≡ q s) → (k s : ℕ) → s + k ≡ 8
+    → find p (drop s all_shards) ≡ find q (drop s all_shards)
 find_same_from p q h zero s e = find_past p s (omega arith) ∙ sym (find_past q s (omega arith))
 find_same_from p q h (suc k) s e =
     let low : s < 8 = omega arith in
@@ -76,7 +78,8 @@ marked_involved c t (suc (suc (suc (suc (suc (suc (suc zero))))))) h = refl
 marked_involved c t (suc (suc (suc (suc (suc (suc (suc (suc s)))))))) h = absurd (omega arith)
 
 -- one mark more
-pub marked_more : (marks : List Bool) (shard s : ℕ) → shard < length marks → is_marked (set marks shard true) s ≡ ((shard == s) || is_marked marks s)
+pub marked_more : (marks : List Bool) (shard s : ℕ) → shard < length marks
+    → is_marked (set marks shard true) s ≡ ((shard == s) || is_marked marks s)
 marked_more marks shard s h = elim (cases_eq shard s) [
   | inl e ↦ subst (λ (k : ℕ). is_marked (set marks shard true) k ≡ ((shard == k) || is_marked marks k)) e (get_or-set_same marks shard true false h ∙ sym (ap (λ b. b || is_marked marks shard) (eq-eqb shard shard refl)))
   | inr e ↦ get_or-set_other marks shard s true false (λ k. e (sym k)) ∙ sym (ap (λ b. b || is_marked marks s) (ne_eqb shard s e))
@@ -151,7 +154,8 @@ neither true true h = refl
 neither true false h = absurd cc
 neither false b h = refl
 
-listed_low : (b : Bounds) (floor s : ℕ) (tallies : List TallyValue) → AreItems (FitsTally b) after_tally floor tallies → b.shards ≤ s → lists tallies s ≡ false
+listed_low : (b : Bounds) (floor s : ℕ) (tallies : List TallyValue) → AreItems (FitsTally b) after_tally floor tallies → b.shards ≤ s
+    → lists tallies s ≡ false
 listed_low b floor s [] h k = refl
 listed_low b floor s (t ∷ ts) h k =
     let low : t.shard < b.shards = h.0.below in
@@ -165,7 +169,8 @@ first_none : (o p : Option ℕ) → or_else o p ≡ None → (o ≡ None) × (p 
 first_none None p h = (refl, h)
 first_none (Some s) p h = absurd cc
 
-pub listed_exactly : (c : Setting) (t : TransactionValue) (tallies : List TallyValue) → IsSetting c → AreItems (FitsTally (bounds_of c)) after_tally 0 tallies → stray_listed c t tallies ≡ None → ListsInvolved c t tallies
+pub listed_exactly : (c : Setting) (t : TransactionValue) (tallies : List TallyValue) → IsSetting c
+    → AreItems (FitsTally (bounds_of c)) after_tally 0 tallies → stray_listed c t tallies ≡ None → ListsInvolved c t tallies
 listed_exactly c t tallies i fits h =
     let parts = first_none (find (λ s. lists tallies s && not (involves c t s)) all_shards) (find (λ s. involves c t s && not (lists tallies s)) all_shards) (no_refusal _ h) in
     λ s. elim (cases_lt s 8) [
@@ -173,7 +178,8 @@ listed_exactly c t tallies i fits h =
       | inr high ↦ listed_low (bounds_of c) 0 s tallies fits (omega (arith, i.few)) ∙ sym (involves_above c t s i (omega (arith, i.few)))
     ]
 
-pub none_stray : (c : Setting) (t : TransactionValue) (tallies : List TallyValue) → ListsInvolved c t tallies → stray_listed c t tallies ≡ None
+pub none_stray : (c : Setting) (t : TransactionValue) (tallies : List TallyValue) → ListsInvolved c t tallies
+    → stray_listed c t tallies ≡ None
 none_stray c t tallies h =
     ap (λ o. option_map NotInvolved (or_else o (find (λ s. involves c t s && not (lists tallies s)) all_shards))) (found_nowhere (λ s. lists tallies s && not (involves c t s)) all_shards (λ s. neither (lists tallies s) (involves c t s) (h s)))
     ∙ ap (option_map NotInvolved) (found_nowhere (λ s. involves c t s && not (lists tallies s)) all_shards (λ s. neither (involves c t s) (lists tallies s) (sym (h s))))
@@ -198,7 +204,8 @@ is_log_shard c t s h = by (s == log_shard c t) refl h where
 pub not_stray_logged : (c : Setting) (t : TransactionValue) (s : ℕ) → s ≡ log_shard c t → stray_logged c t s ≡ None
 not_stray_logged c t s h = ap (λ b. cond b None (Some (NotInvolved s))) (eq-eqb s (log_shard c t) h)
 
-pub one_alone : (c : Setting) (t : TransactionValue) (tallies : List TallyValue) → IsSetting c → form_fault t ≡ None → stray_alone c t tallies ≡ None → (tally : TallyValue) × (tallies ≡ tally ∷ []) × (involves c t tally.shard ≡ true)
+pub one_alone : (c : Setting) (t : TransactionValue) (tallies : List TallyValue) → IsSetting c → form_fault t ≡ None
+    → stray_alone c t tallies ≡ None → (tally : TallyValue) × (tallies ≡ tally ∷ []) × (involves c t tally.shard ≡ true)
 one_alone c t [] i f h = absurd (some_first c t i f (no_refusal _ h))
 one_alone c t (tally ∷ []) i f h = (tally, refl, is_involved c t tally.shard h)
 one_alone c t (tally ∷ other ∷ rest) i f h = absurd cc

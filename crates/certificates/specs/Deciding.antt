@@ -7,7 +7,7 @@ use Rattle.basil_types.specs.Transaction as transactions
 use Rattle.basil_types.specs.Transaction.{TransactionValue}
 use Rattle.frame_views.specs.Signed.{certificate_signed}
 use Rattle.frame_views.specs.Values as values
-use Rattle.frame_views.specs.Values.{LoggedValue, ConflictValue, BodyValue, CertificateValue, as_certificate}
+use Rattle.frame_views.specs.Values.{LoggedValue, ConflictValue, BodyValue, CertificateValue, PairValue, as_certificate}
 use Rattle.quorum_laws.specs.Numbers.{fast_commit, fast_abort}
 use Rattle.txn_meta.specs.Conflicts.{conflict}
 use Rattle.txn_meta.specs.Form.{form_fault}
@@ -20,7 +20,8 @@ abbrev pub HasGoodForm : TransactionValue → Type 0
 HasGoodForm t = form_fault t ≡ None
 
 -- this decision, logged by a log quorum of the log shard in one view
-pub record LoggedAs (A : Accepted) (c : Setting) (t : TransactionValue) (decision : Decision) (voted_on : List ℕ) (logged : LoggedValue) : Type 0 where
+pub record LoggedAs (A : Accepted) (c : Setting) (t : TransactionValue) (decision : Decision) (voted_on : List ℕ)
+    (logged : LoggedValue) : Type 0 where
   pub decides : logged.decision ≡ decision
   pub shard : logged.shard ≡ log_shard c t
   pub replies : Logged A c.f voted_on logged
@@ -63,3 +64,8 @@ pub record Aborts (A : Accepted) (c : Setting) (t : TransactionValue) (certifica
 abbrev pub Proves : Accepted → Setting → TransactionValue → Decision → CertificateValue → Type 0
 Proves A c t Commit certificate = Commits A c t certificate
 Proves A c t Abort certificate = Aborts A c t certificate
+
+-- a proof that a transaction may not commit: one that conflicts is committed
+pub record ProvesConflict (A : Accepted) (c : Setting) (t : TransactionValue) (p : PairValue) : Type 0 where
+  pub conflicts : conflict t p.transaction ≡ true
+  pub committed : Commits A c p.transaction p.certificate

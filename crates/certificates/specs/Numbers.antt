@@ -1,7 +1,8 @@
 -- The numbers of refusals.
 use Rattle.std.specs.Prelude.{ℕ}
 use Rattle.certificates.specs.declared.refusal.CertRefusal.{CertRefusal}
-use Rattle.certificates.specs.declared.refusal.CertRefusal.TheVariants.{WrongId, Mixed, NotInvolved, Few, NoConflict, BadSignature}
+use Rattle.certificates.specs.declared.refusal.CertRefusal.TheVariants.{WrongId, Mixed, NotInvolved, Few}
+use Rattle.certificates.specs.declared.refusal.CertRefusal.TheVariants.{NoConflict, BadSignature}
 
 abbrev pub number_of : CertRefusal → ℕ
 number_of WrongId = 1

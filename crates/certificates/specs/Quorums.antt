@@ -25,16 +25,24 @@ vote_words t shard replica d = VoteWords (record { shard = shard; replica = repl
 
 abbrev pub log_words : TransactionValue → (shard replica : ℕ) → Decision → (decided current : ℕ) → SignedWords
 log_words t shard replica d decided current =
-    LogReplyWords (record { shard = shard; replica = replica; id = id t; decision = d; decided = decided; current = current })
+    LogReplyWords (record {
+      shard = shard;
+      replica = replica;
+      id = id t;
+      decision = d;
+      decided = decided;
+      current = current;
+    })
 
 -- votes of so many replicas of a shard
 abbrev pub VoteQuorum : Accepted → Setting → TransactionValue → (shard : ℕ) → Decision → (needed : ℕ) → Type 0
 VoteQuorum A c t shard d needed = Quorum (replicas c.f) needed (λ r. Says A shard r (vote_words t shard r d))
 
--- log replies of a log quorum of the log shard with one decision and one decided view, whatever views their replicas are in
+-- log replies of a log quorum of the log shard, with one decision and one decided view, in whatever views
 abbrev pub LogReplyQuorum : Accepted → Setting → TransactionValue → Decision → (decided : ℕ) → Type 0
 LogReplyQuorum A c t d decided =
-    Quorum (replicas c.f) (log_quorum c.f) (λ r. (current : ℕ) × Says A (log_shard c t) r (log_words t (log_shard c t) r d decided current))
+    Quorum (replicas c.f) (log_quorum c.f)
+    (λ r. (current : ℕ) × Says A (log_shard c t) r (log_words t (log_shard c t) r d decided current))
 
 abbrev pub VotesInAll : Accepted → Setting → TransactionValue → (needed : ℕ) → Type 0
 VotesInAll A c t needed = (shard : ℕ) → involves c t shard ≡ true → VoteQuorum A c t shard Commit needed
@@ -49,16 +57,18 @@ IsLogged A c t d = (decided : ℕ) × LogReplyQuorum A c t d decided
 abbrev pub CanCommit : Accepted → Setting → TransactionValue → Type 0
 CanCommit A c t = VotesInAll A c t (fast_commit c.f) ⊎ IsLogged A c t Commit
 
--- one vote to abort, and a transaction that conflicts and can commit
-pub record LosesConflict (A : Accepted) (c : Setting) (t : TransactionValue) : Type 0 where
+-- one vote to abort, and a rival that conflicts and can commit
+pub record LosesTo (A : Accepted) (c : Setting) (t rival : TransactionValue) : Type 0 where
   pub shard : ℕ
   pub voter : ℕ
   pub involved : involves c t shard ≡ true
   pub in_range : voter < replicas c.f
   pub voted : Says A shard voter (vote_words t shard voter Abort)
-  pub rival : TransactionValue
   pub conflicts : conflict t rival ≡ true
   pub commits : CanCommit A c rival
+
+abbrev pub LosesConflict : Accepted → Setting → TransactionValue → Type 0
+LosesConflict A c t = (rival : TransactionValue) × LosesTo A c t rival
 
 abbrev pub CanAbort : Accepted → Setting → TransactionValue → Type 0
 CanAbort A c t = VotesInOne A c t (fast_abort c.f) ⊎ (IsLogged A c t Abort ⊎ LosesConflict A c t)
@@ -68,7 +78,7 @@ abbrev pub CanLog : Accepted → Setting → TransactionValue → Decision → T
 CanLog A c t Commit = VotesInAll A c t (commit_tally c.f)
 CanLog A c t Abort = VotesInOne A c t (abort_tally c.f)
 
--- ---- what each kind of certificate shows
+-- ---- what each kind of certificate shows; a conflict abort names the rival, which is the transaction that it carries
 
 abbrev pub CommitShown : Accepted → Setting → TransactionValue → BodyValue → Type 0
 CommitShown A c t (values.Commits (values.FastCommit tallies)) = VotesInAll A c t (fast_commit c.f)
@@ -80,4 +90,4 @@ abbrev pub AbortShown : Accepted → Setting → TransactionValue → BodyValue 
 AbortShown A c t (values.Commits (values.FastCommit tallies)) = ⊥
 AbortShown A c t (values.Commits (values.Logged logged)) = LogReplyQuorum A c t Abort logged.decided
 AbortShown A c t (values.FastAbort tally) = VotesInOne A c t (fast_abort c.f)
-AbortShown A c t (values.ConflictAbort x) = LosesConflict A c t
+AbortShown A c t (values.ConflictAbort x) = LosesTo A c t x.other

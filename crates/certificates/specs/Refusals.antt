@@ -1,21 +1,25 @@
 -- Which refusal comes first.
-use Rattle.std.specs.Prelude.{◌≡◌, ℕ, List, [], ◌∷◌, length, Bool, not, ◌==◌, ◌&&◌, nat_lt, if◌then◌else◌, Option, Some, None, is_none, option_map, option_and_then, slice_get, Result, MatchResult, find}
+use Rattle.std.specs.Prelude.{◌≡◌, ℕ, List, [], ◌∷◌, length, not, ◌==◌, ◌&&◌, nat_lt, if◌then◌else◌}
+use Rattle.std.specs.Prelude.{Option, Some, None, option_map, option_and_then, slice_get, Result, MatchResult, find}
 use Rattle.std.specs.Str.{bytes_eq}
 use Rattle.basil_types.specs.Built.{or_else}
 use Rattle.basil_types.specs.declared.party.Decision.{Decision}
 use Rattle.basil_types.specs.declared.party.Decision.TheVariants.{Commit, Abort}
+use Rattle.basil_types.specs.Decision.{same_decision}
 use Rattle.basil_types.specs.Setting.{Setting}
 use Rattle.basil_types.specs.Transaction as transactions
 use Rattle.basil_types.specs.Transaction.{TransactionValue}
 use Rattle.frame_views.specs.Signed.{SignedBy, certificate_signed, tallies_signed}
 use Rattle.frame_views.specs.Values as values
 use Rattle.frame_views.specs.Values.{TallyValue, BodyValue, CertificateValue, as_certificate}
+pub use Rattle.frame_views.specs.Values.{PairValue}
 use Rattle.quorum_laws.specs.Numbers.{fast_commit, fast_abort, commit_tally, abort_tally, log_quorum}
 use Rattle.txn_meta.specs.Conflicts.{conflict}
-use Rattle.txn_meta.specs.Form.{form_fault}
+use Rattle.txn_meta.specs.Form.{has_good_form}
 use Rattle.txn_meta.specs.Places.{involves, involved, log_shard}
 use Rattle.certificates.specs.declared.refusal.CertRefusal.{CertRefusal}
-use Rattle.certificates.specs.declared.refusal.CertRefusal.TheVariants.{WrongId, Mixed, NotInvolved, Few, NoConflict, BadSignature}
+use Rattle.certificates.specs.declared.refusal.CertRefusal.TheVariants.{WrongId, Mixed, NotInvolved, Few}
+use Rattle.certificates.specs.declared.refusal.CertRefusal.TheVariants.{NoConflict, BadSignature}
 use Rattle.certificates.specs.Accepted.{Accepted, first_refused}
 use Rattle.certificates.specs.Tallies.{lists}
 
@@ -24,12 +28,6 @@ abbrev pub Refuses : Result (Unit {0}) CertRefusal → Option CertRefusal → Ty
 Refuses result refusal = MatchResult result (λ _. refusal ≡ None) (λ r. refusal ≡ Some r)
 
 -- ---- parts of tests
-
-abbrev pub same_decision : Decision → Decision → Bool
-same_decision Commit Commit = Bool.true
-same_decision Commit Abort = Bool.false
-same_decision Abort Commit = Bool.false
-same_decision Abort Abort = Bool.true
 
 abbrev pub all_shards : List ℕ
 all_shards = 0 ∷ 1 ∷ 2 ∷ 3 ∷ 4 ∷ 5 ∷ 6 ∷ 7 ∷ []
@@ -46,23 +44,21 @@ stray_logged c t shard = if shard == log_shard c t then None else Some (NotInvol
 abbrev pub stray_listed : Setting → TransactionValue → List TallyValue → Option CertRefusal
 stray_listed c t tallies =
     option_map NotInvolved
-    (or_else (find (λ s. lists tallies s && not (involves c t s)) all_shards) (find (λ s. involves c t s && not (lists tallies s)) all_shards))
+    (or_else (find (λ s. lists tallies s && not (involves c t s)) all_shards)
+    (find (λ s. involves c t s && not (lists tallies s)) all_shards))
 
 abbrev pub few : (count needed : ℕ) → Option CertRefusal
 few count needed = if nat_lt count needed then Some (Few count needed) else None
 
 -- the first listed shard with too few votes
 abbrev pub few_listed : (needed : ℕ) → List TallyValue → Option CertRefusal
-few_listed needed tallies = option_map (λ t. Few (length t.votes) needed) (find (λ t. nat_lt (length t.votes) needed) tallies)
+few_listed needed tallies =
+    option_map (λ t. Few (length t.votes) needed) (find (λ t. nat_lt (length t.votes) needed) tallies)
 
 abbrev pub bad_signature : Accepted → List SignedBy → Option CertRefusal
 bad_signature A signed = option_map BadSignature (first_refused A signed)
 
 -- ---- tests of a transaction and a certificate
-
-pub record PairValue : Type 0 where
-  pub transaction : TransactionValue
-  pub certificate : CertificateValue
 
 abbrev pub decision_of : BodyValue → Decision
 decision_of (values.Commits (values.FastCommit tallies)) = Commit
@@ -98,7 +94,8 @@ too_few c p = too_few_by c p.certificate.body
 abbrev pub no_conflict_by : TransactionValue → BodyValue → Option CertRefusal
 no_conflict_by t (values.Commits body) = None
 no_conflict_by t (values.FastAbort tally) = None
-no_conflict_by t (values.ConflictAbort x) = if is_none (form_fault x.other) && conflict t x.other then None else Some NoConflict
+no_conflict_by t (values.ConflictAbort x) =
+    if has_good_form x.other && conflict t x.other then None else Some NoConflict
 
 abbrev pub no_conflict : PairValue → Option CertRefusal
 no_conflict p = no_conflict_by p.transaction p.certificate.body
@@ -108,7 +105,8 @@ abbrev pub nested_in : BodyValue → Option PairValue
 nested_in (values.Commits body) = None
 nested_in (values.FastAbort tally) = None
 nested_in (values.ConflictAbort x) =
-    if is_none (form_fault x.other) then Some (record { transaction = x.other; certificate = as_certificate x.proof }) else None
+    if has_good_form x.other
+    then Some (record { transaction = x.other; certificate = as_certificate x.proof }) else None
 
 abbrev pub nested : PairValue → Option PairValue
 nested p = nested_in p.certificate.body
@@ -143,6 +141,32 @@ refusal_of A c decision p =
 -- of a certificate for this decision on a transaction
 abbrev pub refusal : Accepted → Setting → TransactionValue → Decision → CertificateValue → Option CertRefusal
 refusal A c t decision certificate = refusal_of A c decision (record { transaction = t; certificate = certificate })
+
+-- ---- the proof of a vote to abort
+
+-- a transaction without a good form conflicts with none
+abbrev pub ill_formed : TransactionValue → Option CertRefusal
+ill_formed t = if has_good_form t then None else Some NoConflict
+
+abbrev pub no_rival : TransactionValue → PairValue → Option CertRefusal
+no_rival t p = if conflict t p.transaction then None else Some NoConflict
+
+-- that nothing conflicts comes before the signatures
+abbrev pub no_rival_signed : Accepted → TransactionValue → PairValue → List SignedBy → Option CertRefusal
+no_rival_signed A t p signed = or_else (no_rival t p) (bad_signature A signed)
+
+-- of a rival with a good form
+abbrev pub rival_refusal : Accepted → Setting → TransactionValue → PairValue → Option CertRefusal
+rival_refusal A c t p =
+    or_else (wrong_id p)
+    (or_else (mixed Commit p)
+    (or_else (not_involved c p)
+    (or_else (too_few c p)
+    (no_rival_signed A t p (certificate_signed p.certificate)))))
+
+-- the form comes before all else
+abbrev pub proof_refusal : Accepted → Setting → TransactionValue → PairValue → Option CertRefusal
+proof_refusal A c t p = or_else (ill_formed p.transaction) (rival_refusal A c t p)
 
 -- ---- tallies
 

@@ -20,12 +20,14 @@ abbrev pub ListsInvolved : Setting → TransactionValue → List TallyValue → 
 ListsInvolved c t tallies = (shard : ℕ) → lists tallies shard ≡ involves c t shard
 
 -- commit votes of so many replicas of each involved shard, and of no other shard
-pub record VotedInAll (A : Accepted) (c : Setting) (t : TransactionValue) (voted_on : List ℕ) (needed : ℕ) (tallies : List TallyValue) : Type 0 where
+pub record VotedInAll (A : Accepted) (c : Setting) (t : TransactionValue) (voted_on : List ℕ) (needed : ℕ)
+    (tallies : List TallyValue) : Type 0 where
   pub shards : ListsInvolved c t tallies
   pub votes : All (Voted A c.f voted_on Commit needed) tallies
 
 -- abort votes of so many replicas of one involved shard
-pub record VotedInOne (A : Accepted) (c : Setting) (t : TransactionValue) (voted_on : List ℕ) (needed : ℕ) (tally : TallyValue) : Type 0 where
+pub record VotedInOne (A : Accepted) (c : Setting) (t : TransactionValue) (voted_on : List ℕ) (needed : ℕ)
+    (tally : TallyValue) : Type 0 where
   pub shard : involves c t tally.shard ≡ true
   pub votes : Voted A c.f voted_on Abort needed tally
 

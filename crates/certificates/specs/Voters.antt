@@ -18,7 +18,8 @@ Voted A f id d needed tally = needed ≤ size (voters A id d tally) (replicas f)
 
 -- the replicas of which a log reply with the listed decision and decided view is listed and accepted
 abbrev pub loggers : Accepted → (id : List ℕ) → LoggedValue → ℕ → Bool
-loggers A id l r = list_any (λ reply. (reply.replica == r) && accepts A (one_logged l.shard id l.decision l.decided reply)) l.logs
+loggers A id l r =
+    list_any (λ reply. (reply.replica == r) && accepts A (one_logged l.shard id l.decision l.decided reply)) l.logs
 
 -- they are a log quorum
 abbrev pub Logged : Accepted → (f : ℕ) → (id : List ℕ) → LoggedValue → Type 0

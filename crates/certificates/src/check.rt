@@ -60,7 +60,8 @@ fn refuse_certificate<V: Verifier>(
 ) -> Result<(), CertRefusal>
     requires form { HasGoodForm (transaction_of t) }
     requires fits { FitsCertificate (bounds_of cluster.now) (certificate_of c.now) }
-    ensures { Refuses result (refusal (V.accepted keys.now) cluster.now (transaction_of t.entry) decision (certificate_of c.now)) }
+    ensures { Refuses result
+        (refusal (V.accepted keys.now) cluster.now (transaction_of t.entry) decision (certificate_of c.now)) }
 {
     let outer = Pair::of(t, c);
     let message = MessageView::Writeback(WritebackView {
@@ -83,9 +84,11 @@ pub fn check_commit<V: Verifier>(
     requires form { HasGoodForm (transaction_of t) }
     requires fits { FitsCertificate (bounds_of cluster.now) (certificate_of c.now) }
     // Every listed signature is accepted, and enough replicas of the right shards stand there.
-    ensures accepted { IsOk result ↔ Commits (V.accepted keys.now) cluster.now (transaction_of t.entry) (certificate_of c.now) }
+    ensures accepted { IsOk result ↔
+        Commits (V.accepted keys.now) cluster.now (transaction_of t.entry) (certificate_of c.now) }
     // The first refusal, and none exactly at Ok.
-    ensures exact { Refuses result (refusal (V.accepted keys.now) cluster.now (transaction_of t.entry) decisions.Commit (certificate_of c.now)) }
+    ensures exact { Refuses result
+        (refusal (V.accepted keys.now) cluster.now (transaction_of t.entry) decisions.Commit (certificate_of c.now)) }
 {
     let _ = cluster.n();
     refuse_certificate(keys, cluster, Decision::Commit, t, c)
@@ -106,9 +109,11 @@ pub fn check_abort<V: Verifier>(
     requires fits { FitsCertificate (bounds_of cluster.now) (certificate_of c.now) }
     // Every listed signature is accepted, and enough replicas of the right shard stand there, or a transaction that
     // conflicts is committed.
-    ensures accepted { IsOk result ↔ Aborts (V.accepted keys.now) cluster.now (transaction_of t.entry) (certificate_of c.now) }
+    ensures accepted { IsOk result ↔
+        Aborts (V.accepted keys.now) cluster.now (transaction_of t.entry) (certificate_of c.now) }
     // The first refusal, and none exactly at Ok.
-    ensures exact { Refuses result (refusal (V.accepted keys.now) cluster.now (transaction_of t.entry) decisions.Abort (certificate_of c.now)) }
+    ensures exact { Refuses result
+        (refusal (V.accepted keys.now) cluster.now (transaction_of t.entry) decisions.Abort (certificate_of c.now)) }
 {
     let _ = cluster.n();
     refuse_certificate(keys, cluster, Decision::Abort, t, c)

@@ -35,7 +35,7 @@ pub(crate) fn enough_each(tallies: &TalliesView<'_>, needed: u8) -> Result<(), C
 }
 
 /// Refuses a certificate with too few votes or log replies.
-fn enough_of(cluster: &Cluster, pair: &Pair<'_>) -> Result<(), CertRefusal>
+pub(crate) fn enough_of(cluster: &Cluster, pair: &Pair<'_>) -> Result<(), CertRefusal>
     ensures { Refuses result (too_few cluster.now (pair_of pair.now)) }
 {
     match pair.body {

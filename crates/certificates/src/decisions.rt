@@ -8,17 +8,8 @@ ghost use Rattle.certificates.specs.Shown.{pair_of};
 
 use crate::pair::Pair;
 use crate::refusal::CertRefusal;
-use basil_types::party::Decision;
+use basil_types::party::{Decision, same_decision};
 use frame_views::certificates::CertBody;
-
-fn same_decision(a: Decision, b: Decision) -> bool
-    ensures { result ≡ refusals.same_decision a b }
-{
-    match (a, b) {
-        (Decision::Commit, Decision::Commit) | (Decision::Abort, Decision::Abort) => true,
-        (Decision::Commit, Decision::Abort) | (Decision::Abort, Decision::Commit) => false,
-    }
-}
 
 /// The decision that a certificate with this body is for. Takes no memory.
 pub fn decision_of(body: &CertBody<'_>) -> Decision
@@ -32,7 +23,7 @@ pub fn decision_of(body: &CertBody<'_>) -> Decision
 }
 
 /// Refuses a certificate for the other decision.
-fn decides(decision: Decision, pair: &Pair<'_>) -> Result<(), CertRefusal>
+pub(crate) fn decides(decision: Decision, pair: &Pair<'_>) -> Result<(), CertRefusal>
     ensures { Refuses result (mixed decision (pair_of pair.now)) }
 {
     if same_decision(decision_of(&pair.body), decision) {

@@ -9,7 +9,7 @@ use crate::refusal::CertRefusal;
 use basil_types::bytes::id_of;
 
 /// Refuses a certificate of another id than the transaction's.
-fn own_id(pair: &Pair<'_>) -> Result<(), CertRefusal>
+pub(crate) fn own_id(pair: &Pair<'_>) -> Result<(), CertRefusal>
     ensures { Refuses result (wrong_id (pair_of pair.now)) }
 {
     let id = id_of(pair.transaction.bytes());

@@ -5,17 +5,19 @@ mod check;
 mod conflicts;
 mod counts;
 mod decisions;
+pub mod fault;
 mod ids;
 pub mod laws;
 mod pair;
+mod proof;
 pub mod refusal;
 mod shards;
 mod signatures;
 mod tallies;
-#[cfg(test)]
-mod tests;
 
 pub use check::{check_abort, check_commit};
 pub use decisions::decision_of;
+pub use fault::FrameFault;
+pub use proof::check_proof;
 pub use refusal::CertRefusal;
 pub use tallies::check_tallies;

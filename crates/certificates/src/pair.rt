@@ -1,9 +1,8 @@
 //! A transaction and a certificate.
 
-ghost use Rattle.std.specs.Prelude.{◌≡◌, IfSome, option_map, is_none};
+ghost use Rattle.std.specs.Prelude.{◌≡◌, IfSome, option_map};
 ghost use Rattle.basil_types.specs.Shown.{transaction_of};
 ghost use Rattle.frame_views.specs.Shown.{HoldsCommit, certificate_of};
-ghost use Rattle.txn_meta.specs.Form.{form_fault};
 ghost use Rattle.certificates.specs.Deciding.{HasGoodForm};
 ghost use Rattle.certificates.specs.Refusals.{nested};
 ghost use Rattle.certificates.specs.Shown.{pair_of};
@@ -13,7 +12,7 @@ use frame_views::certificates::{CertBody, CertificateView};
 use txn_meta::form::check_form;
 
 /// A transaction, and the id and the body of a certificate.
-#[derive(Clone, Copy, Debug)]
+#[derive(Clone, Copy)]
 pub(crate) struct Pair<'a> {
     pub(crate) transaction: TransactionView<'a>,
     pub(crate) id: [u8; 32],
@@ -23,7 +22,8 @@ pub(crate) struct Pair<'a> {
 impl<'a> Pair<'a> {
     /// The pair of a transaction and a certificate.
     pub(crate) fn of(t: TransactionView<'a>, c: &CertificateView<'a>) -> Pair<'a>
-        ensures value { pair_of result ≡ record { transaction = transaction_of t.entry; certificate = certificate_of c.now } }
+        ensures value { pair_of result ≡
+            record { transaction = transaction_of t.entry; certificate = certificate_of c.now } }
         ensures transaction { transaction_of result.transaction ≡ transaction_of t.entry }
         ensures commits { HoldsCommit result.body }
     {
@@ -32,16 +32,6 @@ impl<'a> Pair<'a> {
             id: c.id(),
             body: c.body(),
         }
-    }
-}
-
-/// Whether a transaction has a good form.
-pub(crate) fn has_good_form(t: TransactionView<'_>) -> bool
-    ensures { result ≡ is_none (form_fault (transaction_of t.entry)) }
-{
-    match check_form(t) {
-        Ok(()) => true,
-        Err(_) => false,
     }
 }
 

@@ -7,7 +7,8 @@ ghost use Rattle.txn_meta.specs.Places.{marks_of};
 ghost use Rattle.certificates.specs.Marks.{is_marked};
 ghost use Rattle.certificates.specs.Deciding.{HasGoodForm};
 ghost use Rattle.certificates.specs.Refusals as refusals;
-ghost use Rattle.certificates.specs.Refusals.{Refuses, all_shards, stray, stray_listed, stray_logged, stray_alone, not_involved, strays};
+ghost use Rattle.certificates.specs.Refusals.{Refuses, all_shards, stray, stray_listed, stray_logged, stray_alone};
+ghost use Rattle.certificates.specs.Refusals.{not_involved, strays};
 ghost use Rattle.certificates.specs.Shown.{pair_of};
 ghost use Rattle.certificates.specs.Tallies.{lists};
 
@@ -119,7 +120,7 @@ fn is_log_shard(cluster: &Cluster, t: TransactionView<'_>, shard: u8) -> Result<
 }
 
 /// Refuses a certificate of shards that don't decide its transaction.
-fn from_its_shards(cluster: &Cluster, pair: &Pair<'_>) -> Result<(), CertRefusal>
+pub(crate) fn from_its_shards(cluster: &Cluster, pair: &Pair<'_>) -> Result<(), CertRefusal>
     requires { HasGoodForm (transaction_of pair.now.transaction) }
     ensures { Refuses result (not_involved cluster.now (pair_of pair.now)) }
 {

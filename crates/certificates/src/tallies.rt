@@ -55,7 +55,8 @@ fn signatures_of<'a>(
     decision: Decision,
     tallies: &TalliesView<'a>,
 ) -> Signatures<'a>
-    ensures { signed_left result ≡ tallies_signed (transactions.id (transaction_of t.entry)) decision (tallies_of tallies.now) }
+    ensures { signed_left result ≡
+        tallies_signed (transactions.id (transaction_of t.entry)) decision (tallies_of tallies.now) }
 {
     let message = MessageView::St2(St2View {
         transaction: t,
@@ -78,7 +79,8 @@ fn refuse_tallies<V: Verifier>(
 ) -> Result<(), CertRefusal>
     requires form { HasGoodForm (transaction_of t) }
     requires fits { FitsTallies (bounds_of cluster.now) (tallies_of tallies.now) }
-    ensures { Refuses result (tallies_refusal (V.accepted keys.now) cluster.now (transaction_of t.entry) decision (tallies_of tallies.now)) }
+    ensures { Refuses result
+        (tallies_refusal (V.accepted keys.now) cluster.now (transaction_of t.entry) decision (tallies_of tallies.now)) }
 {
     from_its_shards(cluster, t, decision, tallies)?;
     enough_each(tallies, needed(cluster, decision))?;
@@ -99,9 +101,11 @@ pub fn check_tallies<V: Verifier>(
     requires form { HasGoodForm (transaction_of t) }
     requires fits { FitsTallies (bounds_of cluster.now) (tallies_of tallies.now) }
     // Every listed signature is accepted, and enough replicas of the right shards stand there.
-    ensures accepted { IsOk result ↔ Tallied (V.accepted keys.now) cluster.now (transaction_of t.entry) decision (tallies_of tallies.now) }
+    ensures accepted { IsOk result ↔
+        Tallied (V.accepted keys.now) cluster.now (transaction_of t.entry) decision (tallies_of tallies.now) }
     // The first refusal, and none exactly at Ok.
-    ensures exact { Refuses result (tallies_refusal (V.accepted keys.now) cluster.now (transaction_of t.entry) decision (tallies_of tallies.now)) }
+    ensures exact { Refuses result
+        (tallies_refusal (V.accepted keys.now) cluster.now (transaction_of t.entry) decision (tallies_of tallies.now)) }
 {
     let _ = cluster.n();
     refuse_tallies(keys, cluster, t, decision, tallies)

@@ -1,25 +1,29 @@
 -- There is no fault exactly where a reply is valid.
-use Rattle.std.proofs.Common.{◌≡◌, Bool, true, false, cond, ◌&&◌, Option, None, Some, refl, sym, ap, subst, ◌∙◌}
-use Rattle.std.specs.Prelude.{◌==◌, ◌↔◌, option_map, option_and_then, IfSome, IfErr, Result, Ok, Err, IsOk}
+use Rattle.std.proofs.Common.{◌≡◌, Bool, true, false, cond, ◌&&◌, List, [], ◌∷◌, Option, None, Some, refl, sym, ap, subst, ◌∙◌}
+use Rattle.std.specs.Prelude.{◌==◌, ◌↔◌, option_map, option_and_then, IfSome, IfErr, Result, Ok, Err, IsOk, Contains}
 use Rattle.std.specs.Str.{bytes_eq}
 use Rattle.std.proofs.lemmas.Bool.{and_parts, and_from, eqb-true, eq-eqb}
+use Rattle.std.proofs.lemmas.List.Elements.{Contains-append_left, Contains-append_right}
 use Rattle.std.proofs.lemmas.Slice.Eq.{bytes_eq-Decides}
+use Rattle.basil_types.proofs.MemberLaws.{in_head}
 use Rattle.basil_types.specs.Built.{or_else}
 use Rattle.basil_types.specs.declared.party.Decision.TheVariants.{Commit}
 use Rattle.basil_types.specs.Setting.{Setting, IsSetting}
 use Rattle.frame_views.specs.Fitting.{FitsPart, FitsCommitted, FitsReadReply, bounds_of}
-use Rattle.frame_views.specs.Signed.{reply_signed}
-use Rattle.frame_views.specs.Values.{CommittedValue, ReadValue, ReadReplyValue}
+use Rattle.frame_views.specs.Signed.{SignedBy, committed_signed, reply_signed, signed_in}
+use Rattle.frame_views.specs.Values.{CommittedValue, ReadValue, ReadReplyValue, ReadReply}
 use Rattle.txn_meta.specs.Places.{shard_of}
 use Rattle.certificates.specs.declared.refusal.CertRefusal.{CertRefusal}
 use Rattle.certificates.specs.Accepted.{Accepted, accepts}
-use Rattle.certificates.specs.Laws.{CertificatesExactly, ProofsGrow, AcceptsMore}
+use Rattle.certificates.specs.Laws.{CertificatesExactly, ProofsGrow, AcceptsMore, AgreeOn, AcceptsMoreOf, CertificatesAlike}
+use Rattle.certificates.specs.Laws.{CertificatesCarry}
 use Rattle.certificates.specs.Refusals.{refusal}
-use Rattle.client_reads.specs.declared.fault.FrameFault.{FrameFault}
-use Rattle.client_reads.specs.declared.fault.FrameFault.TheVariants.{NotMine, BadSignature, BadVersion, BadCertificate}
+use Rattle.certificates.specs.declared.fault.FrameFault.{FrameFault}
+use Rattle.certificates.specs.declared.fault.FrameFault.TheVariants.{NotMine, BadSignature, BadVersion, BadCertificate}
 use Rattle.client_reads.specs.Faults.{Refuses, IsOfContents}
-use Rattle.client_reads.specs.Laws.{RepliesExactly, RepliesGrow}
-use Rattle.client_reads.specs.Replies.{IsSeenCommitted, IsValidReply, answers, is_missing_or_seen, sees_all, bad_proof, reply_fault}
+use Rattle.client_reads.specs.Laws.{RepliesExactly, RepliesGrow, RepliesAlike, RepliesCarry}
+use Rattle.client_reads.specs.Replies.{IsSeenCommitted, IsValidReply, answers, is_missing_or_seen, sees_all, not_mine, bad_signature}
+use Rattle.client_reads.specs.Replies.{bad_version, bad_proof, bad_certificate, reply_fault}
 use Rattle.client_reads.proofs.SeenLaws.{seen_fact, seen_test, prepared_fact, prepared_test}
 
 -- ---- chains of tests
@@ -38,7 +42,10 @@ no_refusal (Some r) h = absurd cc
 
 -- ---- committed transactions
 
-committed_fact : CertificatesExactly → (A : Accepted) (c : Setting) (read : ReadValue) (o : Option CommittedValue) → IsSetting c → FitsPart true (FitsCommitted (bounds_of c)) o → is_missing_or_seen read (option_map (λ (part : CommittedValue). part.transaction) o) ≡ true → option_and_then (bad_proof A c) o ≡ None → IfSome o (IsSeenCommitted A c read)
+committed_fact : CertificatesExactly → (A : Accepted) (c : Setting) (read : ReadValue) (o : Option CommittedValue) → IsSetting c
+    → FitsPart true (FitsCommitted (bounds_of c)) o
+    → is_missing_or_seen read (option_map (λ (part : CommittedValue). part.transaction) o) ≡ true → option_and_then (bad_proof A c) o ≡ None
+    → IfSome o (IsSeenCommitted A c read)
 committed_fact exactly A c read None i fits h k = tt
 committed_fact exactly A c read (Some part) i fits h k =
     let seen = seen_fact read part.transaction h in
@@ -47,18 +54,21 @@ committed_fact exactly A c read (Some part) i fits h k =
       commits = (exactly A c part.transaction Commit part.certificate i fits.1.certificate seen.form).0 (no_refusal (refusal A c part.transaction Commit part.certificate) k);
     }
 
-committed_seen : (A : Accepted) (c : Setting) (read : ReadValue) (o : Option CommittedValue) → IfSome o (IsSeenCommitted A c read) → is_missing_or_seen read (option_map (λ (part : CommittedValue). part.transaction) o) ≡ true
+committed_seen : (A : Accepted) (c : Setting) (read : ReadValue) (o : Option CommittedValue) → IfSome o (IsSeenCommitted A c read)
+    → is_missing_or_seen read (option_map (λ (part : CommittedValue). part.transaction) o) ≡ true
 committed_seen A c read None k = refl
 committed_seen A c read (Some part) k = seen_test read part.transaction k.seen
 
-committed_proved : CertificatesExactly → (A : Accepted) (c : Setting) (read : ReadValue) (o : Option CommittedValue) → IsSetting c → FitsPart true (FitsCommitted (bounds_of c)) o → IfSome o (IsSeenCommitted A c read) → option_and_then (bad_proof A c) o ≡ None
+committed_proved : CertificatesExactly → (A : Accepted) (c : Setting) (read : ReadValue) (o : Option CommittedValue) → IsSetting c
+    → FitsPart true (FitsCommitted (bounds_of c)) o → IfSome o (IsSeenCommitted A c read) → option_and_then (bad_proof A c) o ≡ None
 committed_proved exactly A c read None i fits k = refl
 committed_proved exactly A c read (Some part) i fits k =
     ap (option_map BadCertificate) ((exactly A c part.transaction Commit part.certificate i fits.1.certificate k.seen.form).1 k.commits)
 
 -- ---- replies
 
-valid_from : CertificatesExactly → (A : Accepted) (c : Setting) (read : ReadValue) (reply : ReadReplyValue) → IsSetting c → FitsReadReply (bounds_of c) reply → reply_fault A c read reply ≡ None → IsValidReply A c read reply
+valid_from : CertificatesExactly → (A : Accepted) (c : Setting) (read : ReadValue) (reply : ReadReplyValue) → IsSetting c
+    → FitsReadReply (bounds_of c) reply → reply_fault A c read reply ≡ None → IsValidReply A c read reply
 valid_from exactly A c read reply i fits h =
     let mine = tested (answers c read reply) NotMine _ h in
     let signed = tested (accepts A (reply_signed reply)) BadSignature _ mine.1 in
@@ -77,7 +87,8 @@ valid_from exactly A c read reply i fits h =
       prepared = prepared_fact read reply.prepared both.1;
     }
 
-valid_to : CertificatesExactly → (A : Accepted) (c : Setting) (read : ReadValue) (reply : ReadReplyValue) → IsSetting c → FitsReadReply (bounds_of c) reply → IsValidReply A c read reply → reply_fault A c read reply ≡ None
+valid_to : CertificatesExactly → (A : Accepted) (c : Setting) (read : ReadValue) (reply : ReadReplyValue) → IsSetting c
+    → FitsReadReply (bounds_of c) reply → IsValidReply A c read reply → reply_fault A c read reply ≡ None
 valid_to exactly A c read reply i fits k =
     let mine : answers c read reply ≡ true =
     and_from _ _ (and_from _ _ (and_from _ _ (eq-eqb reply.shard (shard_of c read.key) k.shard) ((bytes_eq-Decides reply.key read.key).1 k.key))
@@ -92,7 +103,9 @@ replies_exactly exactly A c read reply i fits = (valid_from exactly A c read rep
 
 -- ---- more is accepted
 
-committed_grows : ProofsGrow → (A B : Accepted) (c : Setting) (read : ReadValue) (o : Option CommittedValue) → IsSetting c → FitsPart true (FitsCommitted (bounds_of c)) o → AcceptsMore A B → IfSome o (IsSeenCommitted A c read) → IfSome o (IsSeenCommitted B c read)
+committed_grows : ProofsGrow → (A B : Accepted) (c : Setting) (read : ReadValue) (o : Option CommittedValue) → IsSetting c
+    → FitsPart true (FitsCommitted (bounds_of c)) o → AcceptsMore A B → IfSome o (IsSeenCommitted A c read)
+    → IfSome o (IsSeenCommitted B c read)
 committed_grows grow A B c read None i fits m k = tt
 committed_grows grow A B c read (Some part) i fits m k = record {
   seen = k.seen;
@@ -115,7 +128,8 @@ replies_grow grow A B c read reply i fits m k = record {
 some_is : {X : Type 0} (x y : X) → Some x ≡ Some y → x ≡ y
 some_is x y e = cc
 
-pub ok_exactly : (r : Result (Unit {0}) FrameFault) (fault : Option FrameFault) (P : Type 0) → Refuses r fault → (fault ≡ None) ↔ P → IsOk r ↔ P
+pub ok_exactly : (r : Result (Unit {0}) FrameFault) (fault : Option FrameFault) (P : Type 0) → Refuses r fault → (fault ≡ None) ↔ P
+    → IsOk r ↔ P
 ok_exactly (Ok u) fault P h e = (λ _. e.0 h, λ _. refl)
 ok_exactly (Err f) fault P h e = (λ i. absurd (let j = i in cc), λ p. absurd (some_none (sym h ∙ e.1 p)))
   where
@@ -123,7 +137,8 @@ ok_exactly (Err f) fault P h e = (λ i. absurd (let j = i in cc), λ p. absurd (
     some_none e = cc
 
 -- each fault is of the contents
-chained : (t : Bool) (f : FrameFault) (later : Option FrameFault) → IsOfContents f → IfSome later IsOfContents → IfSome (or_else (cond t None (Some f)) later) IsOfContents
+chained : (t : Bool) (f : FrameFault) (later : Option FrameFault) → IsOfContents f → IfSome later IsOfContents
+    → IfSome (or_else (cond t None (Some f)) later) IsOfContents
 chained true f later p q = q
 chained false f later p q = p
 
@@ -146,17 +161,43 @@ told (Ok u) fault h k = tt
 told (Err f) None h k = absurd cc
 told (Err f) (Some g) h k = let e : g ≡ f = some_is g f h in subst IsOfContents e k
 
-pub only_contents : (A : Accepted) (c : Setting) (read : ReadValue) (reply : ReadReplyValue) (r : Result (Unit {0}) FrameFault) → Refuses r (reply_fault A c read reply) → IfErr r IsOfContents
+pub only_contents : (A : Accepted) (c : Setting) (read : ReadValue) (reply : ReadReplyValue) (r : Result (Unit {0}) FrameFault)
+    → Refuses r (reply_fault A c read reply) → IfErr r IsOfContents
 only_contents A c read reply r h = told r (reply_fault A c read reply) h (of_contents A c read reply)
 
--- ---- the same question has the same answer
+-- ---- what a fault rests on
 
-answers_alike : (r s : Result (Unit {0}) FrameFault) (o p : Option FrameFault) → Refuses r o → Refuses s p → o ≡ p → r ≡ s
-answers_alike (Ok u) (Ok v) o p f g e = refl
-answers_alike (Ok u) (Err y) o p f g e = absurd cc
-answers_alike (Err x) (Ok v) o p f g e = absurd cc
-answers_alike (Err x) (Err y) o p f g e = ap (λ (z : FrameFault). Err z) (some_is x y (sym f ∙ e ∙ g))
+-- the signatures of the certificate inside, and the reply's own
+own_in : (reply : ReadReplyValue) → Contains (signed_in (ReadReply reply)) (reply_signed reply)
+own_in reply = Contains-append_right (committed_signed reply.committed) (reply_signed reply ∷ []) (reply_signed reply) (in_head (reply_signed reply) [])
 
--- a question asks of what is accepted and of a reply
-pub alike : (ask : Accepted → ReadReplyValue → Option FrameFault) (A B : Accepted) (m n : ReadReplyValue) (r s : Result (Unit {0}) FrameFault) → A ≡ B → m ≡ n → Refuses r (ask A m) → Refuses s (ask B n) → r ≡ s
-alike ask A B m n r s a e f g = answers_alike r s (ask A m) (ask B n) f g (ap (λ (C : Accepted). ask C m) a ∙ ap (ask B) e)
+certificate_in : (reply : ReadReplyValue) (s : SignedBy) → Contains (committed_signed reply.committed) s
+    → Contains (signed_in (ReadReply reply)) s
+certificate_in reply s i = Contains-append_left (committed_signed reply.committed) (reply_signed reply ∷ []) s i
+
+same_proof : CertificatesAlike → (A B : Accepted) (c : Setting) (o : Option CommittedValue) → AgreeOn A B (committed_signed o)
+    → option_and_then (bad_proof A c) o ≡ option_and_then (bad_proof B c) o
+same_proof alike A B c None h = refl
+same_proof alike A B c (Some part) h = ap (option_map BadCertificate) (alike A B c part.transaction Commit part.certificate h)
+
+pub replies_alike : CertificatesAlike → RepliesAlike
+replies_alike alike A B c read reply h =
+    ap (λ (t : Bool). or_else (not_mine c read reply) (or_else (cond t None (Some BadSignature)) (or_else (bad_version read reply) (bad_certificate A c reply)))) (h (reply_signed reply) (own_in reply))
+    ∙ ap (λ (o : Option FrameFault). or_else (not_mine c read reply) (or_else (bad_signature B reply) (or_else (bad_version read reply) o)))
+    (same_proof alike A B c reply.committed (λ s i. h s (certificate_in reply s i)))
+
+proof_carries : CertificatesCarry → (A B : Accepted) (c : Setting) (o : Option CommittedValue) → AcceptsMoreOf A B (committed_signed o)
+    → option_and_then (bad_proof A c) o ≡ None → option_and_then (bad_proof B c) o ≡ None
+proof_carries carry A B c None m h = refl
+proof_carries carry A B c (Some part) m h =
+    ap (option_map BadCertificate) (carry A B c part.transaction Commit part.certificate m (no_refusal (refusal A c part.transaction Commit part.certificate) h))
+
+pub replies_carry : CertificatesCarry → RepliesCarry
+replies_carry carry A B c read reply m h =
+    let mine = tested (answers c read reply) NotMine _ h in
+    let signed = tested (accepts A (reply_signed reply)) BadSignature _ mine.1 in
+    let sees = tested (sees_all read reply) BadVersion _ signed.1 in
+    passed (answers c read reply) NotMine _ mine.0
+    (passed (accepts B (reply_signed reply)) BadSignature _ (m (reply_signed reply) (own_in reply) signed.0)
+    (passed (sees_all read reply) BadVersion _ sees.0
+    (proof_carries carry A B c reply.committed (λ s i. m s (certificate_in reply s i)) sees.1)))

@@ -1,4 +1,3 @@
-pub mod WalkLaws
 pub mod SeenLaws
 pub mod FaultLaws
 pub mod OrderLaws

@@ -1,18 +1,12 @@
--- The greatest of a list in a total order, and the order of versions.
-use Rattle.std.proofs.Common.{◌≡◌, ◌⊎◌, inl, inr, ℕ, zero, suc, ◌≤◌, Bool, true, false, cond, List, [], ◌∷◌, refl, sym, ap, ◌∙◌, subst, arith}
-use Rattle.std.specs.Prelude.{fold, filter, replicate, ◌==◌, ◌&&◌, ◌↔◌}
+-- The greatest of a list in a total order.
+use Rattle.std.proofs.Common.{◌≡◌, ◌⊎◌, inl, inr, Bool, true, false, cond, List, [], ◌∷◌, refl, ap, ◌∙◌, subst}
+use Rattle.std.specs.Prelude.{fold, filter}
 use Rattle.std.specs.List.{list_any, list_all}
-use Rattle.std.specs.Ordering.{ord_max, is_lt, is_gt, ordering_reverse, ordering_then, nat_cmp}
-use Rattle.std.specs.Cmp.{IsTotalOrder, tied_itself, upto, then_total, on_total, nat_cmp_total, nat_cmp_is}
-use Rattle.std.specs.Cmp.Lexicographic.{slice_cmp, nat_list_cmp_total}
-use Rattle.std.specs.Str.{bytes_eq}
+use Rattle.std.specs.Ordering.{ord_max, is_lt, is_gt, ordering_reverse}
+use Rattle.std.specs.Cmp.{IsTotalOrder, tied_itself, upto}
 use Rattle.std.specs.declared.cmp.Ordering.{Ordering}
 use Rattle.std.specs.declared.cmp.Ordering.TheVariants.{Less, Equal, Greater}
-use Rattle.std.proofs.lemmas.Bool.{and_parts, and_from, or_cases, eqb-true, eq-eqb}
-use Rattle.std.proofs.lemmas.Slice.Eq.{bytes_eq-Decides}
-use Rattle.basil_types.specs.declared.version.Version.{Version}
-use Rattle.basil_types.specs.Version.{genesis, version_cmp, below}
-use Rattle.client_reads.specs.Choosing.{is_same}
+use Rattle.std.proofs.lemmas.Bool.{and_parts, or_cases}
 
 turned : (r : Ordering) → is_gt (ordering_reverse r) ≡ is_lt r
 turned Less = refl
@@ -50,11 +44,13 @@ module _ {K : Type 0} {R : K → K → Ordering} (o : IsTotalOrder R) where
   start_within [] a = itself_within a
   start_within (x ∷ xs) a = upto o a (ord_max R a x) (fold (ord_max R) (ord_max R a x) xs) (first_within a x) (start_within xs (ord_max R a x))
 
-  pub each_within : (test : K → Bool) (x : K) → ((y : K) → test y ≡ true → y ≡ x) → (xs : List K) (a : K) → list_any test xs ≡ true → is_gt (R x (fold (ord_max R) a xs)) ≡ false
+  pub each_within : (test : K → Bool) (x : K) → ((y : K) → test y ≡ true → y ≡ x) → (xs : List K) (a : K) → list_any test xs ≡ true
+      → is_gt (R x (fold (ord_max R) a xs)) ≡ false
   each_within test x only [] a h = absurd cc
   each_within test x only (y ∷ ys) a h = by (each_within test x only ys (ord_max R a y)) (or_cases (test y) (list_any test ys) h)
     where
-      by : (list_any test ys ≡ true → is_gt (R x (fold (ord_max R) (ord_max R a y) ys)) ≡ false) → (test y ≡ true) ⊎ (list_any test ys ≡ true) → is_gt (R x (fold (ord_max R) (ord_max R a y) ys)) ≡ false
+      by : (list_any test ys ≡ true → is_gt (R x (fold (ord_max R) (ord_max R a y) ys)) ≡ false)
+          → (test y ≡ true) ⊎ (list_any test ys ≡ true) → is_gt (R x (fold (ord_max R) (ord_max R a y) ys)) ≡ false
       by later (inl e) =
           upto o x (ord_max R a y) (fold (ord_max R) (ord_max R a y) ys)
           (subst (λ z. is_gt (R z (ord_max R a y)) ≡ false) (only y e) (second_within a y)) (start_within ys (ord_max R a y))
@@ -69,12 +65,14 @@ module _ {K : Type 0} {R : K → K → Ordering} (o : IsTotalOrder R) where
       either true e = h
       either false e = e
 
-      by : ((b : K) → p b ≡ true → p (fold (ord_max R) b (filter p xs)) ≡ true) → (t : Bool) → p x ≡ t → p (fold (ord_max R) a (cond t (x ∷ filter p xs) (filter p xs))) ≡ true
+      by : ((b : K) → p b ≡ true → p (fold (ord_max R) b (filter p xs)) ≡ true) → (t : Bool) → p x ≡ t
+          → p (fold (ord_max R) a (cond t (x ∷ filter p xs) (filter p xs))) ≡ true
       by later true e = later (ord_max R a x) (either (is_lt (R x a)) e)
       by later false e = later a h
 
   -- and one that each of more passes
-  pub all_pass : (p kept : K → Bool) (xs : List K) (a : K) → p a ≡ true → list_all p xs ≡ true → p (fold (ord_max R) a (filter kept xs)) ≡ true
+  pub all_pass : (p kept : K → Bool) (xs : List K) (a : K) → p a ≡ true → list_all p xs ≡ true
+      → p (fold (ord_max R) a (filter kept xs)) ≡ true
   all_pass p kept [] a h all = h
   all_pass p kept (x ∷ xs) a h all = by (and_parts (p x) (list_all p xs) all) (all_pass p kept xs) (kept x)
     where
@@ -82,41 +80,8 @@ module _ {K : Type 0} {R : K → K → Ordering} (o : IsTotalOrder R) where
       either true e = h
       either false e = e
 
-      by : (p x ≡ true) × (list_all p xs ≡ true) → ((b : K) → p b ≡ true → list_all p xs ≡ true → p (fold (ord_max R) b (filter kept xs)) ≡ true) → (t : Bool) → p (fold (ord_max R) a (cond t (x ∷ filter kept xs) (filter kept xs))) ≡ true
+      by : (p x ≡ true) × (list_all p xs ≡ true)
+          → ((b : K) → p b ≡ true → list_all p xs ≡ true → p (fold (ord_max R) b (filter kept xs)) ≡ true) → (t : Bool)
+          → p (fold (ord_max R) a (cond t (x ∷ filter kept xs) (filter kept xs))) ≡ true
       by both later true = later (ord_max R a x) (either (is_lt (R x a)) both.0) both.1
       by both later false = later a h both.1
-
--- ---- versions
-
-pub version_total : IsTotalOrder version_cmp
-version_total =
-    then_total (on_total (λ (v : Version). v.time) nat_cmp_total)
-    (then_total (on_total (λ (v : Version). v.client) nat_cmp_total) (on_total (λ (v : Version). v.id) nat_list_cmp_total))
-
-same_parts : (a b : Version) → a.time ≡ b.time → a.client ≡ b.client → a.id ≡ b.id → a ≡ b
-same_parts a b e f g = λ i. record { time = e i; client = f i; id = g i }
-
-pub same_exactly : (a b : Version) → (is_same a b ≡ true) ↔ (a ≡ b)
-same_exactly a b = (to, from)
-  where
-    to : is_same a b ≡ true → a ≡ b
-    to h =
-        let p = and_parts ((a.time == b.time) && (a.client == b.client)) (bytes_eq a.id b.id) h in
-        let q = and_parts (a.time == b.time) (a.client == b.client) p.0 in
-        same_parts a b (eqb-true a.time b.time q.0) (eqb-true a.client b.client q.1) ((bytes_eq-Decides a.id b.id).0 p.1)
-
-    from : a ≡ b → is_same a b ≡ true
-    from e =
-        and_from _ _ (and_from _ _ (eq-eqb a.time b.time (ap (λ (v : Version). v.time) e)) (eq-eqb a.client b.client (ap (λ (v : Version). v.client) e)))
-        ((bytes_eq-Decides a.id b.id).1 (ap (λ (v : Version). v.id) e))
-
-less_first : (o p : Ordering) → Less ≡ o → is_lt (ordering_then o p) ≡ true
-less_first o p e = ap (λ r. is_lt (ordering_then r p)) (sym e)
-
-genesis_first : (time client : ℕ) (id : List ℕ) → 1 ≤ client → below genesis (record { time = time; client = client; id = id }) ≡ true
-genesis_first zero client id h = less_first (nat_cmp 0 client) (slice_cmp nat_cmp (replicate 32 0) id) (nat_cmp_is 0 client Less (omega (arith, h)))
-genesis_first (suc time) client id h =
-    less_first (nat_cmp 0 (suc time)) (ordering_then (nat_cmp 0 client) (slice_cmp nat_cmp (replicate 32 0) id)) (nat_cmp_is 0 (suc time) Less (omega arith))
-
-pub genesis_below : (v : Version) → 1 ≤ v.client → below genesis v ≡ true
-genesis_below v h = genesis_first v.time v.client v.id h

@@ -2,10 +2,9 @@
 use Rattle.std.proofs.Common.{◌≡◌, true, Option, None, Some, refl, ap}
 use Rattle.std.specs.Prelude.{is_none, IfSome, option_map, ◌&&◌}
 use Rattle.std.proofs.lemmas.Bool.{and_parts, and_from}
-use Rattle.basil_types.specs.Transaction.{TransactionValue, version_of}
+use Rattle.basil_types.specs.Transaction.{TransactionValue, version_of, writes_key}
 use Rattle.basil_types.specs.Version.{below}
 use Rattle.frame_views.specs.Values.{CommittedValue, ReadValue}
-use Rattle.txn_meta.specs.Conflicts.{writes_key}
 use Rattle.txn_meta.specs.Form.{form_fault}
 use Rattle.certificates.specs.Deciding.{HasGoodForm}
 use Rattle.client_reads.specs.Replies.{IsSeen, is_seen, is_missing_or_seen}
@@ -33,6 +32,8 @@ prepared_test read None k = refl
 prepared_test read (Some t) k = seen_test read t k
 
 -- the committed transaction has a good form
-pub committed_form : (read : ReadValue) (o : Option CommittedValue) → is_missing_or_seen read (option_map (λ (part : CommittedValue). part.transaction) o) ≡ true → IfSome o (λ part. HasGoodForm part.transaction)
+pub committed_form : (read : ReadValue) (o : Option CommittedValue)
+    → is_missing_or_seen read (option_map (λ (part : CommittedValue). part.transaction) o) ≡ true
+    → IfSome o (λ part. HasGoodForm part.transaction)
 committed_form read None h = tt
 committed_form read (Some part) h = (seen_fact read part.transaction h).form

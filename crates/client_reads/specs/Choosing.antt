@@ -1,35 +1,33 @@
 -- Which version a client reads, by the versions that replies carry (Basil, reads).
-use Rattle.std.specs.Prelude.{◌≡◌, ◌==◌, ◌&&◌, ◌||◌, ℕ, ◌+◌, ◌≤◌, ◌⊎◌, Bool, false, not, List, ◌++◌, map, filter, fold, count_by, nat_le, Any, MatchBool}
+use Rattle.std.specs.Prelude.{◌≡◌, ◌||◌, ℕ, ◌≤◌, ◌⊎◌, Bool, false, not, List, ◌++◌, map, filter, fold, count_by, nat_le}
+use Rattle.std.specs.Prelude.{Any}
+use Rattle.std.specs.Prelude.{MatchBool}
 use Rattle.std.specs.List.{list_any}
 use Rattle.std.specs.Ordering.{ord_max}
-use Rattle.std.specs.Str.{bytes_eq}
 use Rattle.basil_types.specs.declared.version.Version.{Version}
 use Rattle.basil_types.specs.Setting.{Setting}
-use Rattle.basil_types.specs.Version.{genesis, version_cmp, below}
+use Rattle.basil_types.specs.Version.{genesis, same_version, version_cmp, below}
+use Rattle.quorum_laws.specs.Numbers.{one_correct}
 use Rattle.client_reads.specs.declared.choice.Choice.{Choice}
 use Rattle.client_reads.specs.declared.versions.ReplyVersions.{ReplyVersions}
-
--- the same time, client and id
-abbrev pub is_same : Version → Version → Bool
-is_same a b = (a.time == b.time) && (a.client == b.client) && bytes_eq a.id b.id
 
 -- ---- which versions count
 
 -- some reply carries it as committed
 abbrev pub carries_committed : List ReplyVersions → Version → Bool
-carries_committed replies v = list_any (λ r. is_same r.committed v) replies
+carries_committed replies v = list_any (λ r. same_version r.committed v) replies
 
 -- genesis needs no reply
 abbrev pub is_committed : List ReplyVersions → Version → Bool
-is_committed replies v = is_same v genesis || carries_committed replies v
+is_committed replies v = same_version v genesis || carries_committed replies v
 
 -- how many replies carry it as prepared
 abbrev pub prepared_by : List ReplyVersions → Version → ℕ
-prepared_by replies v = count_by (λ r. is_same r.prepared v) replies
+prepared_by replies v = count_by (λ r. same_version r.prepared v) replies
 
--- at least f + 1 replies do; of as many replicas one is correct
+-- so many replies do that one is of a correct replica
 abbrev pub is_prepared : Setting → List ReplyVersions → Version → Bool
-is_prepared c replies v = nat_le (c.f + 1) (prepared_by replies v)
+is_prepared c replies v = nat_le (one_correct c.f) (prepared_by replies v)
 
 abbrev pub counts : Setting → List ReplyVersions → Version → Bool
 counts c replies v = is_committed replies v || is_prepared c replies v
@@ -57,11 +55,12 @@ abbrev pub IsCommitted : List ReplyVersions → Version → Type 0
 IsCommitted replies v = (v ≡ genesis) ⊎ Any (λ r. r.committed ≡ v) replies
 
 abbrev pub IsPrepared : Setting → List ReplyVersions → Version → Type 0
-IsPrepared c replies v = c.f + 1 ≤ prepared_by replies v
+IsPrepared c replies v = one_correct c.f ≤ prepared_by replies v
 
--- a dependency is prepared at f + 1 replies; any other choice is genesis, or committed at some reply
+-- a dependency is prepared at so many replies; any other choice is genesis, or committed at some reply
 abbrev pub IsCarried : Setting → List ReplyVersions → Choice → Type 0
-IsCarried c replies choice = MatchBool choice.dependency (IsPrepared c replies choice.version) (IsCommitted replies choice.version)
+IsCarried c replies choice =
+    MatchBool choice.dependency (IsPrepared c replies choice.version) (IsCommitted replies choice.version)
 
 -- no version that counts stands above this one
 abbrev pub NoneAbove : Setting → List ReplyVersions → Version → Type 0

@@ -1,7 +1,8 @@
 -- What answering with a fault says.
 use Rattle.std.specs.Prelude.{◌≡◌, Option, None, Some, Result, MatchResult, ⊤}
-use Rattle.client_reads.specs.declared.fault.FrameFault.{FrameFault}
-use Rattle.client_reads.specs.declared.fault.FrameFault.TheVariants.{BadFrame, NotMine, BadSignature, BadVersion, BadCertificate, NoMemory}
+use Rattle.certificates.specs.declared.fault.FrameFault.{FrameFault}
+use Rattle.certificates.specs.declared.fault.FrameFault.TheVariants.{BadFrame, NotMine, BadSignature, BadVersion}
+use Rattle.certificates.specs.declared.fault.FrameFault.TheVariants.{BadCertificate, NoMemory}
 
 -- Ok exactly where there is no fault, and otherwise that one
 abbrev pub Refuses : Result (Unit {0}) FrameFault → Option FrameFault → Type 0

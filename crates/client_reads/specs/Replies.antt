@@ -1,22 +1,22 @@
 -- Which read replies a client takes, and which fault comes first.
-use Rattle.std.specs.Prelude.{◌≡◌, ◌==◌, ◌&&◌, Bool, true, Option, Some, None, is_none, option_map, option_and_then, IfSome, if◌then◌else◌}
+use Rattle.std.specs.Prelude.{◌≡◌, ◌==◌, ◌&&◌, Bool, true, Option, Some, None, option_map, option_and_then, IfSome}
+use Rattle.std.specs.Prelude.{if◌then◌else◌}
 use Rattle.std.specs.Option.{option_map_or}
 use Rattle.std.specs.Str.{bytes_eq}
 use Rattle.basil_types.specs.Built.{or_else}
 use Rattle.basil_types.specs.declared.party.Decision.TheVariants.{Commit}
 use Rattle.basil_types.specs.Setting.{Setting}
-use Rattle.basil_types.specs.Transaction.{TransactionValue, version_of}
+use Rattle.basil_types.specs.Transaction.{TransactionValue, version_of, writes_key}
 use Rattle.basil_types.specs.Version.{below}
 use Rattle.frame_views.specs.Signed.{reply_signed}
 use Rattle.frame_views.specs.Values.{CommittedValue, ReadValue, ReadReplyValue}
-use Rattle.txn_meta.specs.Conflicts.{writes_key}
-use Rattle.txn_meta.specs.Form.{form_fault}
+use Rattle.txn_meta.specs.Form.{has_good_form}
 use Rattle.txn_meta.specs.Places.{shard_of}
 use Rattle.certificates.specs.Accepted.{Accepted, accepts}
 use Rattle.certificates.specs.Deciding.{HasGoodForm, Commits}
 use Rattle.certificates.specs.Refusals.{refusal}
-use Rattle.client_reads.specs.declared.fault.FrameFault.{FrameFault}
-use Rattle.client_reads.specs.declared.fault.FrameFault.TheVariants.{NotMine, BadSignature, BadVersion, BadCertificate}
+use Rattle.certificates.specs.declared.fault.FrameFault.{FrameFault}
+use Rattle.certificates.specs.declared.fault.FrameFault.TheVariants.{NotMine, BadSignature, BadVersion, BadCertificate}
 use Rattle.client_reads.specs.Versions.{limit_of}
 
 -- ---- which replies are valid
@@ -46,17 +46,19 @@ pub record IsValidReply (A : Accepted) (c : Setting) (read : ReadValue) (reply :
 
 abbrev pub answers : Setting → ReadValue → ReadReplyValue → Bool
 answers c read reply =
-    (reply.shard == shard_of c read.key) && bytes_eq reply.key read.key && (reply.time == read.time) && (reply.client == read.client)
+    (reply.shard == shard_of c read.key) && bytes_eq reply.key read.key
+    && (reply.time == read.time) && (reply.client == read.client)
 
 abbrev pub is_seen : ReadValue → TransactionValue → Bool
-is_seen read t = is_none (form_fault t) && writes_key t read.key && below (version_of t) (limit_of read)
+is_seen read t = has_good_form t && writes_key t read.key && below (version_of t) (limit_of read)
 
 abbrev pub is_missing_or_seen : ReadValue → Option TransactionValue → Bool
 is_missing_or_seen read t = option_map_or (is_seen read) t true
 
 abbrev pub sees_all : ReadValue → ReadReplyValue → Bool
 sees_all read reply =
-    is_missing_or_seen read (option_map (λ part. part.transaction) reply.committed) && is_missing_or_seen read reply.prepared
+    is_missing_or_seen read (option_map (λ part. part.transaction) reply.committed)
+    && is_missing_or_seen read reply.prepared
 
 abbrev pub not_mine : Setting → ReadValue → ReadReplyValue → Option FrameFault
 not_mine c read reply = if answers c read reply then None else Some NotMine

@@ -7,9 +7,8 @@ ghost use Rattle.certificates.specs.Deciding.{HasGoodForm};
 ghost use Rattle.client_reads.specs.Faults.{Refuses};
 ghost use Rattle.client_reads.specs.Replies.{bad_certificate};
 
-use crate::fault::FrameFault;
 use basil_types::cluster::Cluster;
-use certificates::check_commit;
+use certificates::{FrameFault, check_commit};
 use frame_views::frames::ReadReplyView;
 use keyring::verifier::Verifier;
 

@@ -7,12 +7,12 @@ ghost use Rattle.client_reads.specs.Faults.{Refuses, IsOfContents};
 ghost use Rattle.client_reads.specs.Replies.{IsValidReply, reply_fault};
 
 use crate::certificate::check_certificate;
-use crate::fault::FrameFault;
 use crate::laws::replies_exactly;
 use crate::mine::check_mine;
 use crate::seen::check_versions;
 use crate::signature::check_signature;
 use basil_types::cluster::Cluster;
+use certificates::FrameFault;
 use frame_views::frames::{ReadReplyView, ReadView};
 use keyring::verifier::Verifier;
 
@@ -24,7 +24,8 @@ fn refuse<V: Verifier>(
     reply: &ReadReplyView<'_>,
 ) -> Result<(), FrameFault>
     requires { FitsReadReply (bounds_of cluster.now) (read_reply_of reply.now) }
-    ensures { Refuses result (reply_fault (V.accepted keys.now) cluster.now (read_of read.now) (read_reply_of reply.now)) }
+    ensures { Refuses result
+        (reply_fault (V.accepted keys.now) cluster.now (read_of read.now) (read_reply_of reply.now)) }
 {
     check_mine(cluster, read, reply)?;
     check_signature(keys, cluster, reply)?;
@@ -36,8 +37,9 @@ fn refuse<V: Verifier>(
 /// BadSignature, BadVersion and BadCertificate, in this order. Takes no memory.
 ///
 /// It is for a reply that fits the cluster, as each that a frame of the cluster carries. A reply is taken where it
-/// answers this read, the replica that it names signed it, each transaction that it carries has a good form and wrote or
-/// deleted the key below the reader's time and client, and the committed one has a commit certificate (Basil, reads).
+/// answers this read, the replica that it names signed it, each transaction that it carries has a good form and wrote
+/// or deleted the key below the reader's time and client, and the committed one has a commit certificate (Basil,
+/// reads).
 pub fn check_reply<V: Verifier>(
     keys: &V,
     cluster: &Cluster,
@@ -48,9 +50,11 @@ pub fn check_reply<V: Verifier>(
 ) -> Result<(), FrameFault>
     requires { FitsReadReply (bounds_of cluster.now) (read_reply_of reply.now) }
     // The reply is signed, is to this read, and carries only what the read sees.
-    ensures valid { IsOk result ↔ IsValidReply (V.accepted keys.now) cluster.now (record { key = key.now; time = time; client = client }) (read_reply_of reply.now) }
+    ensures valid { IsOk result ↔ IsValidReply (V.accepted keys.now) cluster.now
+        (record { key = key.now; time = time; client = client }) (read_reply_of reply.now) }
     // The first fault, and none exactly at Ok.
-    ensures exact { Refuses result (reply_fault (V.accepted keys.now) cluster.now (record { key = key.now; time = time; client = client }) (read_reply_of reply.now)) }
+    ensures exact { Refuses result (reply_fault (V.accepted keys.now) cluster.now
+        (record { key = key.now; time = time; client = client }) (read_reply_of reply.now)) }
     // Neither BadFrame nor NoMemory.
     ensures only { IfErr result IsOfContents }
 {

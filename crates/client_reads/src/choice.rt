@@ -9,7 +9,7 @@ use basil_types::cluster::Cluster;
 use basil_types::version::Version;
 
 /// What a client makes of the replies to a read.
-#[derive(Clone, Copy, Debug, PartialEq, Eq)]
+#[derive(Clone, Copy, PartialEq, Eq)]
 pub struct Choice {
     /// The version that it reads.
     pub version: Version,

@@ -4,16 +4,13 @@
 mod certificate;
 mod check;
 mod choice;
-mod fault;
 pub mod laws;
 mod mine;
 mod seen;
 mod signature;
-#[cfg(test)]
-mod tests;
 mod versions;
 
+pub use certificates::FrameFault;
 pub use check::check_reply;
 pub use choice::{Choice, choose};
-pub use fault::FrameFault;
 pub use versions::{ReplyVersions, versions_of};

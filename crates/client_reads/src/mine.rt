@@ -4,8 +4,8 @@ ghost use Rattle.frame_views.specs.Shown.{read_of, read_reply_of};
 ghost use Rattle.client_reads.specs.Faults.{Refuses};
 ghost use Rattle.client_reads.specs.Replies.{not_mine};
 
-use crate::fault::FrameFault;
 use basil_types::cluster::Cluster;
+use certificates::FrameFault;
 use frame_views::frames::{ReadReplyView, ReadView};
 use txn_meta::shards::shard_of;
 

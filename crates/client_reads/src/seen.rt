@@ -1,47 +1,20 @@
 //! Which transactions a read may see.
 
-ghost use Rattle.std.specs.Prelude.{◌≡◌, option_map, is_none, OnOk, IfSome};
+ghost use Rattle.std.specs.Prelude.{◌≡◌, option_map, OnOk, IfSome};
 ghost use Rattle.basil_types.specs.Shown.{transaction_of};
 ghost use Rattle.frame_views.specs.Shown.{committed_of, read_of, read_reply_of};
-ghost use Rattle.txn_meta.specs.Conflicts as conflicts;
-ghost use Rattle.txn_meta.specs.Form.{form_fault};
 ghost use Rattle.certificates.specs.Deciding.{HasGoodForm};
 ghost use Rattle.client_reads.specs.Replies as replies;
 ghost use Rattle.client_reads.specs.Faults.{Refuses};
 ghost use Rattle.client_reads.specs.Replies.{bad_version};
 ghost use Rattle.client_reads.specs.Versions as versions;
 
-use crate::fault::FrameFault;
 use basil_types::transaction::TransactionView;
 use basil_types::version::Version;
+use certificates::FrameFault;
 use frame_views::frames::{CommittedView, ReadReplyView, ReadView};
-use txn_meta::form::{check_form, version_of};
-
-/// Whether a transaction has a good form.
-fn has_good_form(t: TransactionView<'_>) -> bool
-    ensures { result ≡ is_none (form_fault (transaction_of t.entry)) }
-{
-    match check_form(t) {
-        Ok(()) => true,
-        Err(_) => false,
-    }
-}
-
-/// Whether a transaction writes or deletes this key.
-fn writes_key(t: TransactionView<'_>, key: &[u8]) -> bool
-    ensures { result ≡ conflicts.writes_key (transaction_of t.entry) key.now }
-{
-    let _ = t.bytes();
-    for place in 0..32usize {
-        let Some(item) = t.write_at(place) else {
-            return false;
-        };
-        if item.key == key {
-            return true;
-        }
-    }
-    false
-}
+use txn_meta::conflicts::writes_key;
+use txn_meta::form::{has_good_form, version_of};
 
 /// The version that stands above all that a read sees.
 fn limit_of(read: &ReadView<'_>) -> Version
@@ -73,7 +46,8 @@ fn is_missing_or_seen(read: &ReadView<'_>, t: Option<TransactionView<'_>>) -> bo
 
 /// The transaction of a committed one, which may be missing.
 fn transaction_in<'a>(committed: Option<CommittedView<'a>>) -> Option<TransactionView<'a>>
-    ensures { option_map transaction_of result ≡ option_map (λ part. part.transaction) (option_map committed_of committed.entry) }
+    ensures { option_map transaction_of result
+        ≡ option_map (λ part. part.transaction) (option_map committed_of committed.entry) }
 {
     committed.map(|part| part.transaction)
 }

@@ -5,11 +5,11 @@ ghost use Rattle.frame_views.specs.Shown.{read_reply_of};
 ghost use Rattle.client_reads.specs.Faults.{Refuses};
 ghost use Rattle.client_reads.specs.Replies.{bad_signature};
 
-use crate::fault::FrameFault;
 use crate::versions::versions_of;
 use basil_types::cluster::Cluster;
 use basil_types::party::Party;
 use basil_types::words::Words;
+use certificates::FrameFault;
 use frame_views::frames::ReadReplyView;
 use keyring::verifier::Verifier;
 

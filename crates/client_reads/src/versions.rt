@@ -12,7 +12,7 @@ use frame_views::frames::{CommittedView, ReadReplyView};
 use txn_meta::form::version_of;
 
 /// The versions of a key that a read reply carries; a missing one is genesis.
-#[derive(Clone, Copy, Debug, PartialEq, Eq)]
+#[derive(Clone, Copy, PartialEq, Eq)]
 pub struct ReplyVersions {
     /// Of the latest committed transaction that wrote the key.
     pub committed: Version,

@@ -7,7 +7,7 @@ use std::alloc::{AllocError, AllocFailed};
 /// One event of a run: a call of a client, or a message that is delivered.
 /// `tx` is a transaction's number, from 0, in the order of the `Begin` events that answered Ok; of one that isn't begun
 /// nothing happens.
-#[derive(Clone, Copy, Debug)]
+#[derive(Clone, Copy)]
 pub enum Event<'a> {
     /// A client, 1 to 16, begins a transaction.
     Begin {
@@ -37,7 +37,7 @@ pub enum Event<'a> {
 }
 
 /// A message that is neither delivered nor lost, and its receiver.
-#[derive(Clone, Copy, Debug)]
+#[derive(Clone, Copy)]
 pub struct Waiting {
     pub message: u64,
     pub to: Party,

@@ -21,7 +21,7 @@ use std::alloc::Global;
 use std::marker::Model;
 
 /// The state of a run over a cluster of one replica.
-#[derive(Debug, Drop)]
+#[derive(Drop)]
 pub(crate) struct Core {
     pub(crate) cluster: Cluster,
     moment: u64,

@@ -10,7 +10,5 @@ mod events;
 pub mod laws;
 mod replica;
 mod state;
-#[cfg(test)]
-mod tests;
 pub mod world;
 mod writes;

@@ -5,7 +5,7 @@ use basil_types::party::{Decision, Party};
 use basil_types::transaction::Transaction;
 
 /// A certificate of this world: its one replica's vote decides.
-#[derive(Clone, Copy, Debug)]
+#[derive(Clone, Copy)]
 pub struct Certificate {
     pub id: [u8; 32],
     pub decision: Decision,
@@ -13,7 +13,7 @@ pub struct Certificate {
 }
 
 /// A message of this world.
-#[derive(Debug, Drop)]
+#[derive(Drop)]
 pub enum Message {
     St1 {
         transaction: Transaction,
@@ -31,7 +31,7 @@ pub enum Message {
 }
 
 /// A message in the pool, with its sender, its receiver, and whether it was delivered.
-#[derive(Debug, Drop)]
+#[derive(Drop)]
 pub struct Posted {
     pub from: Party,
     pub to: Party,
@@ -40,7 +40,7 @@ pub struct Posted {
 }
 
 /// A transaction that its client has formed and signed, and the certificate by which the client decided.
-#[derive(Debug, Drop)]
+#[derive(Drop)]
 pub struct Formed {
     pub id: [u8; 32],
     pub transaction: Transaction,
@@ -49,7 +49,7 @@ pub struct Formed {
 }
 
 /// A transaction that a client has begun.
-#[derive(Debug, Drop)]
+#[derive(Drop)]
 pub struct Begun {
     pub client: u8,
     pub time: u64,
@@ -58,14 +58,14 @@ pub struct Begun {
 }
 
 /// A vote that the replica signed.
-#[derive(Clone, Copy, Debug)]
+#[derive(Clone, Copy)]
 pub struct StoredVote {
     pub decision: Decision,
     pub signature: [u8; 32],
 }
 
 /// A transaction in the replica's book.
-#[derive(Debug, Drop)]
+#[derive(Drop)]
 pub struct Known {
     pub id: [u8; 32],
     pub transaction: Transaction,
@@ -74,7 +74,7 @@ pub struct Known {
 }
 
 /// A transaction and a certificate that a seen message carried.
-#[derive(Debug, Drop)]
+#[derive(Drop)]
 pub struct Pair {
     pub transaction: Transaction,
     pub certificate: Certificate,

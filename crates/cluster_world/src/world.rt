@@ -24,7 +24,7 @@ use std::marker::Model;
 use txn_meta::form::version_of;
 
 /// A simulated cluster. A world that hasn't ended stands for the run of some list of events, and is safe.
-#[derive(Debug, Drop)]
+#[derive(Drop)]
 pub struct World {
     core: Core,
     clock: u64,

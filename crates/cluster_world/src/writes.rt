@@ -12,7 +12,7 @@ use std::cmp::Ordering;
 use std::marker::Model;
 
 /// Writes in the order of their keys, each key once.
-#[derive(Debug, Drop)]
+#[derive(Drop)]
 pub struct Writes {
     vec: Vec<WritePart>,
 }
@@ -62,7 +62,7 @@ impl Writes {
 }
 
 /// Where a key stands, or before which place it belongs.
-#[derive(Clone, Copy, Debug)]
+#[derive(Clone, Copy)]
 enum Place {
     At(usize),
     Before(usize),

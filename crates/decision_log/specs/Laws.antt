@@ -12,5 +12,7 @@ OneDecisionPerDecidedView =
 
 -- neither view falls
 pub record ViewsNeverFall : Type 0 where
-  pub current : (start : Option LogCell) (steps : List CellStep) → IsNonDecreasingBy (λ c. c.current) (cells_of start steps)
-  pub decided : (start : Option LogCell) (steps : List CellStep) → IsNonDecreasingBy (λ c. c.decided) (cells_of start steps)
+  pub current : (start : Option LogCell) (steps : List CellStep) →
+      IsNonDecreasingBy (λ c. c.current) (cells_of start steps)
+  pub decided : (start : Option LogCell) (steps : List CellStep) →
+      IsNonDecreasingBy (λ c. c.decided) (cells_of start steps)

@@ -7,7 +7,7 @@ ghost use Rattle.decision_log.specs.Runs.{Enter, Adopt, after};
 use basil_types::party::Decision;
 
 /// What a replica of the log shard has logged for a transaction.
-#[derive(Clone, Copy, Debug, PartialEq, Eq)]
+#[derive(Clone, Copy, PartialEq, Eq)]
 pub struct LogCell {
     /// The logged decision.
     pub decision: Decision,
@@ -62,7 +62,8 @@ pub fn adopt(cell: Option<LogCell>, decision: Decision, view: u64) -> Result<Log
     // what layers above rest on
     ensures ordered { IfOk result IsOrdered }
     ensures one_decision_per_view { IfOk result (λ new. IfSome cell (λ old. old.decided < new.decided)) }
-    ensures step { MatchResult result (λ new. after cell (Adopt decision view) ≡ Some new) (λ _. after cell (Adopt decision view) ≡ cell) }
+    ensures step { MatchResult result
+        (λ new. after cell (Adopt decision view) ≡ Some new) (λ _. after cell (Adopt decision view) ≡ cell) }
 {
     if let Some(cell) = cell {
         if view < cell.current {

@@ -3,7 +3,5 @@
 
 pub mod cell;
 pub mod laws;
-#[cfg(test)]
-mod tests;
 
 pub use cell::{LogCell, LogFault, adopt, enter, log_first};

@@ -1,2 +1,5 @@
 pub mod WordLaws
+pub mod PlaceLaws
+pub mod IndexLaws
 pub mod OrderLaws
+pub mod MadeLaws

@@ -1,30 +1,22 @@
 -- The words for one view of one transaction, among all that are kept.
-use Rattle.std.proofs.Common.{◌≡◌, ℕ, ◌+◌, ◌<◌, ◌⊎◌, inl, inr, Bool, true, false, cond, List, [], ◌∷◌, ◌++◌, length, get_or, take, map, refl, sym, ap, subst, ◌∙◌, append-nil}
-use Rattle.std.specs.Prelude.{filter, count_by, ◌&&◌, ◌||◌, ◌==◌}
+use Rattle.std.proofs.Common.{◌≡◌, ℕ, ◌⊎◌, inl, inr, Bool, true, false, cond, List, [], ◌∷◌, ◌++◌, map, refl, sym, ap, subst, ◌∙◌, append-nil}
+use Rattle.std.specs.Prelude.{filter, ◌&&◌, ◌||◌, ◌==◌}
 use Rattle.std.specs.List.{list_any, IsDistinct, AllByRecursion}
 use Rattle.std.specs.Cmp.{on_equiv, nat_eq_equiv}
 use Rattle.std.specs.Cmp.Lexicographic.{same_text, nat_list_eq_equiv}
 use Rattle.std.specs.Str.{bytes_eq}
 use Rattle.std.proofs.lemmas.Bool.{cases_Bool, and_parts, eqb-true, eq-eqb}
-use Rattle.std.proofs.lemmas.List.{map-append, take_more}
+use Rattle.std.proofs.lemmas.List.{map-append}
 use Rattle.std.proofs.lemmas.List.Elements.{filter-append}
-use Rattle.std.proofs.lemmas.List.Sums.{length-filter}
 use Rattle.std.proofs.lemmas.Map.Keys.{IsDistinct-push}
-use Rattle.std.proofs.Math.ListN.{length-map}
-use Rattle.fallback_leader.specs.declared.words.ElectWord.{ElectWord}
+use Rattle.frame_values.specs.declared.owned.parts.ElectPart.{ElectPart}
 use Rattle.fallback_leader.specs.declared.words.KeptWord.{KeptWord}
-use Rattle.fallback_leader.specs.Elections.{is_of, words_of, has_word, AreApart}
+use Rattle.fallback_leader.specs.Elections.{is_of, words_of, has_word, is_heard, AreApart}
 
--- ---- counted and searched
+-- ---- searched
 
-pub length-words_of : (kept : List KeptWord) (id : List ℕ) (view : ℕ) → length (words_of kept id view) ≡ count_by (is_of id view) kept
-length-words_of kept id view = length-map (filter (is_of id view) kept) (λ k. k.word) ∙ length-filter (is_of id view) kept
-
--- whether a word is of a replica
-abbrev pub is_heard : List ElectWord → ℕ → Bool
-is_heard words replica = list_any (λ w. w.replica == replica) words
-
-pub is_heard-words_of : (kept : List KeptWord) (id : List ℕ) (view replica : ℕ) → is_heard (words_of kept id view) replica ≡ has_word kept id view replica
+pub is_heard-words_of : (kept : List KeptWord) (id : List ℕ) (view replica : ℕ) →
+    is_heard (words_of kept id view) replica ≡ has_word kept id view replica
 is_heard-words_of [] id view replica = refl
 is_heard-words_of (k ∷ kept) id view replica = by (is_of id view k) (is_heard-words_of kept id view replica)
   where
@@ -34,7 +26,8 @@ is_heard-words_of (k ∷ kept) id view replica = by (is_of id view k) (is_heard-
 
 -- ---- one more
 
-pub words_of-append : (kept more : List KeptWord) (id : List ℕ) (view : ℕ) → words_of (kept ++ more) id view ≡ words_of kept id view ++ words_of more id view
+pub words_of-append : (kept more : List KeptWord) (id : List ℕ) (view : ℕ) →
+    words_of (kept ++ more) id view ≡ words_of kept id view ++ words_of more id view
 words_of-append kept more id view =
     ap (map (λ k. k.word)) (filter-append (is_of id view) kept more) ∙ map-append (λ k. k.word) (filter (is_of id view) kept) (filter (is_of id view) more)
 
@@ -49,25 +42,13 @@ is_of-itself k =
     let ids : bytes_eq k.id k.id ≡ true = nat_list_eq_equiv.refl k.id in
     ap (λ b. b && (k.view == k.view)) ids ∙ eq-eqb k.view k.view refl
 
--- the first words of a list, and the next one
-pub words_of-more : (kept : List KeptWord) (i : ℕ) (k : KeptWord) (id : List ℕ) (view : ℕ) → i < length kept → k ≡ get_or kept i k → words_of (take (i + 1) kept) id view ≡ words_of (take i kept) id view ++ words_of (k ∷ []) id view
-words_of-more kept i k id view h is =
-    ap (λ kept. words_of kept id view) (take_more kept i k h ∙ ap (λ n. take i kept ++ n ∷ []) (sym is)) ∙ words_of-append (take i kept) (k ∷ []) id view
-
-pub words_of-takes : (kept : List KeptWord) (i : ℕ) (k : KeptWord) (id : List ℕ) (view : ℕ) → i < length kept → k ≡ get_or kept i k → is_of id view k ≡ true → words_of (take (i + 1) kept) id view ≡ words_of (take i kept) id view ++ k.word ∷ []
-words_of-takes kept i k id view h is e = words_of-more kept i k id view h is ∙ ap (λ more. words_of (take i kept) id view ++ more) (words_of-one k id view e)
-
-pub words_of-skips : (kept : List KeptWord) (i : ℕ) (k : KeptWord) (id : List ℕ) (view : ℕ) → i < length kept → k ≡ get_or kept i k → is_of id view k ≡ false → words_of (take (i + 1) kept) id view ≡ words_of (take i kept) id view
-words_of-skips kept i k id view h is e =
-    words_of-more kept i k id view h is ∙ ap (λ more. words_of (take i kept) id view ++ more) (words_of-none k id view e) ∙ append-nil (words_of (take i kept) id view)
-
 -- ---- no replica twice
 
 all_front : {X : Type 0} (P : X → Type 0) (xs ys : List X) → AllByRecursion P (xs ++ ys) → AllByRecursion P xs
 all_front P [] ys h = tt
 all_front P (x ∷ xs) ys h = (h.0, all_front P xs ys h.1)
 
-distinct_front : (eq : ElectWord → ElectWord → Bool) (xs ys : List ElectWord) → IsDistinct eq (xs ++ ys) → IsDistinct eq xs
+distinct_front : (eq : ElectPart → ElectPart → Bool) (xs ys : List ElectPart) → IsDistinct eq (xs ++ ys) → IsDistinct eq xs
 unfolding IsDistinct
 distinct_front eq [] ys h = tt
 distinct_front eq (x ∷ xs) ys h = (all_front (λ y. eq x y ≡ false) xs ys h.0, distinct_front eq xs ys h.1)
@@ -81,19 +62,21 @@ apart_front kept more h id view =
     distinct_front (λ v w. v.replica == w.replica) (words_of kept id view) (words_of more id view)
     (subst (IsDistinct (λ v w. v.replica == w.replica)) (words_of-append kept more id view) (h id view))
 
-turned : (words : List ElectWord) (w : ElectWord) → list_any (λ v. w.replica == v.replica) words ≡ is_heard words w.replica
+turned : (words : List ElectPart) (w : ElectPart) → list_any (λ v. w.replica == v.replica) words ≡ is_heard words w.replica
 turned [] w = refl
 turned (v ∷ words) w =
     let back : (w.replica == v.replica) ≡ (v.replica == w.replica) = nat_eq_equiv.symm w.replica v.replica in
     ap (λ b. b || list_any (λ v. w.replica == v.replica) words) back ∙ ap (λ b. (v.replica == w.replica) || b) (turned words w)
 
-pub distinct_push : (words : List ElectWord) (w : ElectWord) → IsDistinct (λ v w. v.replica == w.replica) words → is_heard words w.replica ≡ false → IsDistinct (λ v w. v.replica == w.replica) (words ++ w ∷ [])
-distinct_push words w h free = IsDistinct-push (on_equiv (λ (w : ElectWord). w.replica) nat_eq_equiv) words w h (turned words w ∙ free)
+pub distinct_push : (words : List ElectPart) (w : ElectPart) → IsDistinct (λ v w. v.replica == w.replica) words →
+    is_heard words w.replica ≡ false → IsDistinct (λ v w. v.replica == w.replica) (words ++ w ∷ [])
+distinct_push words w h free = IsDistinct-push (on_equiv (λ (w : ElectPart). w.replica) nat_eq_equiv) words w h (turned words w ∙ free)
 
-pub apart_push : (kept : List KeptWord) (k : KeptWord) → AreApart kept → has_word kept k.id k.view k.word.replica ≡ false → AreApart (kept ++ k ∷ [])
+pub apart_push : (kept : List KeptWord) (k : KeptWord) → AreApart kept → has_word kept k.id k.view k.word.replica ≡ false →
+    AreApart (kept ++ k ∷ [])
 apart_push kept k h free id view = subst (IsDistinct same) (sym (words_of-append kept (k ∷ []) id view)) (by (cases_Bool (is_of id view k)))
   where
-    same : ElectWord → ElectWord → Bool
+    same : ElectPart → ElectPart → Bool
     same v w = v.replica == w.replica
 
     by : (is_of id view k ≡ true) ⊎ (is_of id view k ≡ false) → IsDistinct same (words_of kept id view ++ words_of (k ∷ []) id view)

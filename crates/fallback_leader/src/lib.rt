@@ -2,10 +2,12 @@
 #![tactic(auto)]
 
 pub mod collector;
+pub mod deciding;
 mod election;
-#[cfg(test)]
-mod tests;
+mod index;
+pub mod laws;
 pub mod words;
 
 pub use collector::Collector;
+pub use deciding::Naming;
 pub use words::{ElectWord, Proposal};

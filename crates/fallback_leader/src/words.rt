@@ -1,7 +1,6 @@
 //! Election words and proposals.
 
 ghost use Rattle.std.specs.Prelude.{◌≡◌, IfOk};
-ghost use Rattle.fallback_leader.specs.Elections.{is_of};
 
 use basil_types::bytes::Bytes;
 use basil_types::list::List;
@@ -9,17 +8,12 @@ use basil_types::memory::NoMemory;
 use basil_types::party::Decision;
 use std::alloc::Global;
 
-/// What a replica that enters a view sends to the view's leader: the decision that it has logged, with its signature.
-#[derive(Debug, Drop)]
-pub struct ElectWord {
-    /// The replica's index in the log shard.
-    pub replica: u8,
-    pub decision: Decision,
-    pub signature: Bytes,
-}
+/// What a replica that enters a view sends to the view's leader: the decision that it has logged, with its signature. A
+/// decide frame carries words in this form.
+pub use frame_values::owned::ElectPart as ElectWord;
 
 /// What a leader proposes: the elected decision, and the words that elected it.
-#[derive(Debug, Drop)]
+#[derive(Drop)]
 pub struct Proposal {
     pub decision: Decision,
     /// 4f+1 words, ascending by replica.
@@ -27,7 +21,7 @@ pub struct Proposal {
 }
 
 /// A word that a leader keeps, and the transaction and the view that it is for.
-#[derive(Debug, Drop)]
+#[derive(Drop)]
 pub struct KeptWord {
     /// The transaction's id.
     pub id: [u8; 32],
@@ -35,25 +29,14 @@ pub struct KeptWord {
     pub word: ElectWord,
 }
 
-impl ElectWord {
-    /// A copy of the word, or want of memory.
-    pub(crate) fn copy(&self, alloc: Global) -> Result<ElectWord, NoMemory>
-        ensures { IfOk result (λ word. word ≡ self.now) }
-    {
-        let signature = Bytes::copy_of(alloc, self.signature.as_slice())?;
-        Ok(ElectWord {
-            replica: self.replica,
-            decision: self.decision,
-            signature,
-        })
-    }
-}
-
-impl KeptWord {
-    /// Whether the word is for this view of this transaction.
-    pub(crate) fn is_of(&self, id: &[u8; 32], view: u64) -> bool
-        ensures { result ≡ is_of id.now view self.now }
-    {
-        self.id == *id && self.view == view
-    }
+/// A copy of a word, or want of memory.
+pub(crate) fn copy_of(word: &ElectWord, alloc: Global) -> Result<ElectWord, NoMemory>
+    ensures { IfOk result (λ copy. copy ≡ word.now) }
+{
+    let signature = Bytes::copy_of(alloc, word.signature.as_slice())?;
+    Ok(ElectWord {
+        replica: word.replica,
+        decision: word.decision,
+        signature,
+    })
 }

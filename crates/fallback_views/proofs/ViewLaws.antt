@@ -1,10 +1,13 @@
 -- The greatest of the views that pass a test, and how many reports count for a lower view.
 use Rattle.std.proofs.Common.{◌≡◌, ℕ, ◌+◌, ◌-◌, ◌<◌, ◌≤◌, ◌⊎◌, inl, inr, Bool, true, cond, max, min, List, [], ◌∷◌, Option, Some, None, refl, subst, arith}
-use Rattle.std.specs.Prelude.{filter, fold, nat_le, nat_lt, unwrap_or}
+use Rattle.std.specs.Prelude.{filter, fold, nat_le, nat_lt, unwrap_or, ◌^◌}
 use Rattle.std.specs.List.{AllByRecursion}
-use Rattle.std.proofs.lemmas.Bool.{cases_lt, cond_both, leb-true, ltb-true, le-leb}
+use Rattle.std.proofs.lemmas.Bool.{cases_lt, cond_both, leb-true, ltb-true, le-leb, lt-ltb}
 use Rattle.std.proofs.lemmas.List.Sums.{sum_by-cons}
-use Rattle.fallback_views.specs.Views.{count, reached_by, greatest, caught_up}
+use Rattle.std.proofs.lemmas.List.Elements.{recursion_from_All}
+use Rattle.std.specs.Option.{option_map_or}
+use Rattle.quorum_laws.specs.Numbers.{catch_up, view_over}
+use Rattle.fallback_views.specs.Views.{count, reached_by, greatest, caught_up, next, IsView, RaisedIsView}
 
 -- ---- the greatest
 
@@ -86,3 +89,28 @@ caught_up-backed many views current = by (greatest (filter (nat_lt current) (rea
         let reached = above_reached_many many views current v e in
         let below : v - 1 ≤ v = omega arith in
         omega (arith, count_lower views (v - 1) v below)
+
+-- ---- views of 64 bits
+
+abbrev has_view : ℕ → Bool
+has_view view = nat_lt view (2 ^ 64)
+
+all_have : (views : List ℕ) → AllByRecursion IsView views → AllByRecursion (λ v. has_view v ≡ true) views
+all_have [] h = tt
+all_have (v ∷ views) h = (lt-ltb v (2 ^ 64) h.0, all_have views h.1)
+
+pub raised_is_view : RaisedIsView
+raised_is_view f views current all fits = by (greatest (reached_by (view_over f) views)) (greatest higher) refl
+  where
+    higher : List ℕ
+    higher = filter (nat_lt current) (reached_by (catch_up f) views)
+
+    each : AllByRecursion (λ v. has_view v ≡ true) higher
+    each =
+        all_kept has_view (nat_lt current) (reached_by (catch_up f) views)
+        (all_kept has_view (λ v. nat_le (catch_up f) (count views v)) views (all_have views (recursion_from_All IsView views all)))
+
+    by : (over caught : Option ℕ) → greatest higher ≡ caught → IsView (option_map_or (λ over. max (next over) current) over (unwrap_or caught current))
+    by (Some over) caught e = omega (arith, fits)
+    by None None e = fits
+    by None (Some v) e = ltb-true v (2 ^ 64) (among has_view higher v each e)

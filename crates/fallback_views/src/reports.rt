@@ -1,6 +1,7 @@
 //! The views that replicas report, and the view that these raise a replica to.
 
 ghost use Rattle.std.specs.Prelude.{◌≡◌, ◌<◌, ◌≤◌, ◌+◌, ◌-◌, filter, nat_lt};
+ghost use Rattle.quorum_laws.specs.Numbers.{catch_up};
 ghost use Rattle.fallback_views.specs.Views.{count, reached_by, greatest, raised};
 
 use basil_types::cluster::Cluster;
@@ -18,7 +19,7 @@ pub fn raise(cluster: &Cluster, views: &[u64], current: u64) -> u64
     ensures never_falls { current ≤ result }
 
     // f+1 reports count for the view below the new one, so a correct replica reached it
-    ensures backed { current < result → cluster.now.f + 1 ≤ count views.now (result - 1) }
+    ensures backed { current < result → catch_up cluster.now.f ≤ count views.now (result - 1) }
 {
     let faulty = usize::from(cluster.f);
     if let Some(over) = greatest_reached(views, 3 * faulty + 1) {

@@ -1,2 +1,4 @@
+pub mod LengthLaws
 pub mod RoomWalks
 pub mod RoomLaws
+pub mod WiderLaws

@@ -3,6 +3,7 @@ use Rattle.std.proofs.Common.{◌≡◌, ℕ, ◌+◌, ◌-◌, ◌<◌, ◌≤�
 use Rattle.std.specs.Prelude.{◌&&◌, ◌↔◌, option_and_then, ⊤, IsTrue, is_some, OnSome}
 use Rattle.std.specs.List.{flat_map}
 use Rattle.std.proofs.lemmas.Bool.{le-leb, leb-true, lt-ltb, ltb-true, eqb-true}
+use Rattle.basil_types.specs.Limits.{signature_limit}
 use Rattle.basil_types.specs.Lists.{AreItems}
 use Rattle.basil_types.specs.Texts.{IsBytes, IsKey}
 use Rattle.basil_types.specs.Transaction.{TransactionValue, IsTransaction, canonical, short_text, long_text}
@@ -101,7 +102,7 @@ id_takes id = tested (eqb (length id) 32) (IsId id) 32 (λ e. eqb-true _ _ e) (�
 
 signature_takes : (s : List ℕ) → Takes (signature_room s) (IsSignature s) (length s + 2)
 unfolding signature_room
-signature_takes s = tested (leb 1 (length s) && leb (length s) 8192) (IsSignature s) (length s + 2) (λ e. (let t = both-true _ _ e in record { some = leb-true _ _ t.0; short = leb-true _ _ t.1 })) (λ h. true-both _ _ (le-leb 1 (length s) h.some) (le-leb (length s) 8192 h.short))
+signature_takes s = tested (leb 1 (length s) && leb (length s) signature_limit) (IsSignature s) (length s + 2) (λ e. (let t = both-true _ _ e in record { some = leb-true _ _ t.0; short = leb-true _ _ t.1 })) (λ h. true-both _ _ (le-leb 1 (length s) h.some) (le-leb (length s) signature_limit h.short))
 
 key_takes : (k : List ℕ) → IsBytes k → Takes (key_room k) (IsKey k) (length k + 1)
 unfolding key_room

@@ -2,7 +2,9 @@
 use Rattle.std.specs.Prelude.{Option, Some, None, ⊤}
 use Rattle.basil_types.specs.Texts.{IsBytes}
 use Rattle.basil_types.specs.Transaction.{TransactionValue, IsTransaction}
-use Rattle.frame_views.specs.Values.{BodyValue, Commits, FastAbort, ConflictAbort, CommittedValue, ReadReplyValue, MessageValue, Read, ReadReply, St1, Vote, St2, LogReply, Writeback, Recover, Invoke, Elect, Decide}
+use Rattle.frame_views.specs.Values.{BodyValue, Commits, FastAbort, ConflictAbort, CommittedValue, ReadReplyValue}
+use Rattle.frame_views.specs.Values.{MessageValue, Read, ReadReply, St1, Vote, St2, LogReply, Writeback, Recover}
+use Rattle.frame_views.specs.Values.{Invoke, Elect, Decide}
 
 abbrev pub KnownBody : BodyValue → Type 0
 KnownBody (Commits body) = ⊤

@@ -1,2 +1,4 @@
+pub mod Lengths
 pub mod Room
 pub mod Known
+pub mod Wider

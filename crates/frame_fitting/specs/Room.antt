@@ -1,11 +1,18 @@
 -- The room that is left, of so many bytes, behind the spelling of what fits: none where it doesn't fit, and where the
 -- room is too small.
-use Rattle.std.specs.Prelude.{ℕ, ◌+◌, ◌-◌, ◌^◌, List, [], ◌∷◌, length, Option, Some, None, Bool, true, ◌&&◌, ◌==◌, nat_le, nat_lt, if◌then◌else◌, option_and_then}
+use Rattle.std.specs.Prelude.{ℕ, ◌+◌, ◌-◌, ◌^◌, List, [], ◌∷◌, length, Option, Some, None, Bool, true, ◌&&◌, ◌==◌}
+use Rattle.std.specs.Prelude.{nat_le, nat_lt, if◌then◌else◌, option_and_then}
+use Rattle.basil_types.specs.Limits.{signature_limit}
 use Rattle.basil_types.specs.Transaction.{TransactionValue, canonical}
 use Rattle.frame_views.specs.declared.bounds.Bounds.{Bounds}
 use Rattle.frame_views.specs.Fitting.{after_vote, after_tally, after_log, after_reply, after_word, is_abort, is_commit}
-use Rattle.frame_views.specs.Values.{VoteValue, TallyValue, LogValue, ReplyValue, WordValue, LoggedValue, CommitBody, FastCommit, Logged, CommitValue, ConflictValue, BodyValue, Commits, FastAbort, ConflictAbort, CertificateValue}
-use Rattle.frame_views.specs.Values.{ReadValue, CommittedValue, ReadReplyValue, SignedValue, VotedValue, St2Value, LogReplyValue, WritebackValue, InvokeValue, ElectValue, DecideValue, MessageValue, Read, ReadReply, St1, Vote, St2, LogReply, Writeback, Recover, Invoke, Elect, Decide}
+use Rattle.frame_views.specs.Values.{VoteValue, TallyValue, LogValue, ReplyValue, WordValue, LoggedValue, CommitBody}
+use Rattle.frame_views.specs.Values.{FastCommit, Logged, CommitValue, ConflictValue, BodyValue, Commits, FastAbort}
+use Rattle.frame_views.specs.Values.{ConflictAbort, CertificateValue}
+use Rattle.frame_views.specs.Values.{ReadValue, CommittedValue, ReadReplyValue, SignedValue, VotedValue, St2Value}
+use Rattle.frame_views.specs.Values.{LogReplyValue, WritebackValue, InvokeValue, ElectValue, DecideValue, MessageValue}
+use Rattle.frame_views.specs.Values.{Read, ReadReply, St1, Vote, St2, LogReply, Writeback, Recover, Invoke, Elect}
+use Rattle.frame_views.specs.Values.{Decide}
 
 -- ---- forms
 
@@ -49,7 +56,7 @@ unfoldable pub id_room : List ℕ → ℕ → Option ℕ
 id_room id = guarded (length id == 32) (spent 32)
 
 unfoldable pub signature_room : List ℕ → ℕ → Option ℕ
-signature_room s = guarded (nat_le 1 (length s) && nat_le (length s) 8192) (spent (length s + 2))
+signature_room s = guarded (nat_le 1 (length s) && nat_le (length s) signature_limit) (spent (length s + 2))
 
 unfoldable pub key_room : List ℕ → ℕ → Option ℕ
 key_room k = guarded (nat_le 1 (length k) && nat_le (length k) 64) (spent (length k + 1))
@@ -75,13 +82,15 @@ unfoldable pub tallies_room : Bounds → List TallyValue → ℕ → Option ℕ
 tallies_room b = counted_room (tally_room b) after_tally
 
 unfoldable pub log_room : Bounds → ℕ → ℕ → LogValue → ℕ → Option ℕ
-log_room b decided floor l = number_room b.replicas floor l.replica ⨾ long_room decided l.current ⨾ signature_room l.signature
+log_room b decided floor l =
+    number_room b.replicas floor l.replica ⨾ long_room decided l.current ⨾ signature_room l.signature
 
 unfoldable pub logs_room : Bounds → ℕ → List LogValue → ℕ → Option ℕ
 logs_room b decided = counted_room (log_room b decided) after_log
 
 unfoldable pub reply_room : Bounds → ℕ → ReplyValue → ℕ → Option ℕ
-reply_room b floor r = number_room b.replicas floor r.replica ⨾ spent 1 ⨾ long_room 0 r.decided ⨾ long_room r.decided r.current ⨾ signature_room r.signature
+reply_room b floor r =
+    number_room b.replicas floor r.replica ⨾ spent 1 ⨾ long_room 0 r.decided ⨾ long_room r.decided r.current ⨾ signature_room r.signature
 
 unfoldable pub replies_room : Bounds → List ReplyValue → ℕ → Option ℕ
 replies_room b = counted_room (reply_room b) after_reply
@@ -105,10 +114,12 @@ unfoldable pub commit_room : Bounds → CommitValue → ℕ → Option ℕ
 commit_room b c = id_room c.id ⨾ spent 1 ⨾ commit_body_room b c.body
 
 unfoldable pub conflict_vote_room : Bounds → ℕ → ℕ → List ℕ → ℕ → Option ℕ
-conflict_vote_room b shard replica signature = number_room b.shards 0 shard ⨾ number_room b.replicas 0 replica ⨾ signature_room signature
+conflict_vote_room b shard replica signature =
+    number_room b.shards 0 shard ⨾ number_room b.replicas 0 replica ⨾ signature_room signature
 
 unfoldable pub conflict_room : Bounds → ConflictValue → ℕ → Option ℕ
-conflict_room b c = conflict_vote_room b c.shard c.replica c.signature ⨾ transaction_room c.other ⨾ commit_room b c.proof
+conflict_room b c =
+    conflict_vote_room b c.shard c.replica c.signature ⨾ transaction_room c.other ⨾ commit_room b c.proof
 
 abbrev pub body_room : Bounds → BodyValue → ℕ → Option ℕ
 body_room b (Commits body) = commit_body_room b body
@@ -120,7 +131,8 @@ certificate_room b c = spent 1 ⨾ id_room c.id ⨾ body_room b c.body
 
 -- of a kind that may commit
 unfoldable pub committed_room : Bounds → CommittedValue → ℕ → Option ℕ
-committed_room b c = guarded (is_commit c.certificate.body) (transaction_room c.transaction ⨾ certificate_room b c.certificate)
+committed_room b c =
+    guarded (is_commit c.certificate.body) (transaction_room c.transaction ⨾ certificate_room b c.certificate)
 
 -- ---- messages
 
@@ -134,21 +146,24 @@ read_room m = key_room m.key ⨾ long_room 0 m.time ⨾ client_room m.client
 unfoldable pub read_reply_room : Bounds → ReadReplyValue → ℕ → Option ℕ
 read_reply_room b m =
     place_room b m.shard m.replica ⨾ key_room m.key ⨾ long_room 0 m.time ⨾ client_room m.client
-    ⨾ part_room true (committed_room b) m.committed ⨾ part_room true transaction_room m.prepared ⨾ signature_room m.signature
+    ⨾ part_room true (committed_room b) m.committed ⨾ part_room true transaction_room m.prepared
+    ⨾ signature_room m.signature
 
 unfoldable pub signed_room : SignedValue → ℕ → Option ℕ
 signed_room m = transaction_room m.transaction ⨾ signature_room m.signature
 
 unfoldable pub voted_room : Bounds → VotedValue → ℕ → Option ℕ
 voted_room b m =
-    place_room b m.shard m.replica ⨾ id_room m.id ⨾ spent 1 ⨾ part_room (is_abort m.decision) (committed_room b) m.proof ⨾ signature_room m.signature
+    place_room b m.shard m.replica ⨾ id_room m.id ⨾ spent 1
+    ⨾ part_room (is_abort m.decision) (committed_room b) m.proof ⨾ signature_room m.signature
 
 unfoldable pub st2_room : Bounds → St2Value → ℕ → Option ℕ
 st2_room b m = transaction_room m.transaction ⨾ signature_room m.signature ⨾ spent 1 ⨾ tallies_room b m.tallies
 
 unfoldable pub log_reply_room : Bounds → LogReplyValue → ℕ → Option ℕ
 log_reply_room b m =
-    place_room b m.shard m.replica ⨾ id_room m.id ⨾ spent 1 ⨾ long_room 0 m.decided ⨾ long_room m.decided m.current ⨾ signature_room m.signature
+    place_room b m.shard m.replica ⨾ id_room m.id ⨾ spent 1 ⨾ long_room 0 m.decided ⨾ long_room m.decided m.current
+    ⨾ signature_room m.signature
 
 unfoldable pub writeback_room : Bounds → WritebackValue → ℕ → Option ℕ
 writeback_room b m = transaction_room m.transaction ⨾ certificate_room b m.certificate
@@ -158,11 +173,13 @@ invoke_room b m = id_room m.id ⨾ number_room b.shards 0 m.shard ⨾ replies_ro
 
 unfoldable pub elect_room : Bounds → ElectValue → ℕ → Option ℕ
 elect_room b m =
-    transaction_room m.transaction ⨾ place_room b m.shard m.replica ⨾ spent 1 ⨾ long_room 1 m.view ⨾ signature_room m.signature
+    transaction_room m.transaction ⨾ place_room b m.shard m.replica ⨾ spent 1 ⨾ long_room 1 m.view
+    ⨾ signature_room m.signature
 
 unfoldable pub decide_room : Bounds → DecideValue → ℕ → Option ℕ
 decide_room b m =
-    transaction_room m.transaction ⨾ place_room b m.shard m.replica ⨾ spent 1 ⨾ long_room 1 m.view ⨾ words_room b m.words ⨾ signature_room m.signature
+    transaction_room m.transaction ⨾ place_room b m.shard m.replica ⨾ spent 1 ⨾ long_room 1 m.view
+    ⨾ words_room b m.words ⨾ signature_room m.signature
 
 abbrev pub body_left : Bounds → MessageValue → ℕ → Option ℕ
 body_left b (Read m) = read_room m

@@ -5,7 +5,8 @@ ghost use Rattle.basil_types.specs.Transaction.{IsTransaction};
 ghost use Rattle.frame_views.specs.Fitting.{bounds_of, is_commit};
 ghost use Rattle.frame_views.specs.Values as values;
 ghost use Rattle.frame_fitting.specs.Known.{KnownBody, KnownCommitted, KnownPrepared};
-ghost use Rattle.frame_values.specs.Owned.{vote_value, log_value, body_value, commit_value, certificate_value, committed_value};
+ghost use Rattle.frame_values.specs.Owned.{vote_value, log_value, body_value, commit_value, certificate_value};
+ghost use Rattle.frame_values.specs.Owned.{committed_value};
 ghost use Rattle.frame_fitting.specs.Room as rooms;
 ghost use Rattle.frame_fitting.specs.Room.{part_room, ◌⨾◌};
 
@@ -28,7 +29,12 @@ fn logged_room(
     logs: &[LogPart],
     room: usize,
 ) -> Option<usize>
-    ensures { result ≡ rooms.logged_room (bounds_of cluster.now) (record { shard = shard; decision = decision; decided = decided; logs = map log_value logs.now }) room }
+    ensures { result ≡ rooms.logged_room (bounds_of cluster.now) (record {
+      shard = shard;
+      decision = decision;
+      decided = decided;
+      logs = map log_value logs.now;
+    }) room }
 {
     let room = number_room(cluster.shards, 0, shard, room)?;
     let room = decision_room(decision, room)?;
@@ -77,7 +83,10 @@ fn proof_room(
 /// Abort votes of one shard.
 #[tactic(auto, unfolding(crate::specs::Room::tally_room))]
 fn fast_abort_room(cluster: &Cluster, shard: u8, votes: &[VotePart], room: usize) -> Option<usize>
-    ensures { result ≡ rooms.tally_room (bounds_of cluster.now) 0 (record { shard = shard; votes = map vote_value votes.now }) room }
+    ensures { result ≡ rooms.tally_room (bounds_of cluster.now) 0 (record {
+      shard = shard;
+      votes = map vote_value votes.now;
+    }) room }
 {
     let room = number_room(cluster.shards, 0, shard, room)?;
     votes_room(cluster, votes, room)

@@ -9,6 +9,7 @@ ghost use Rattle.frame_views.specs.Fitting.{bounds_of};
 ghost use Rattle.frame_fitting.specs.Room as rooms;
 
 use basil_types::cluster::Cluster;
+use basil_types::limits::SIGNATURE_LIMIT;
 use basil_types::party::Decision;
 use basil_types::reading::in_range;
 use basil_types::transaction::TransactionView;
@@ -60,13 +61,13 @@ pub(super) fn decision_room(_decision: Decision, room: usize) -> Option<usize>
     spent(1, room)
 }
 
-/// A signature of 1 to 8,192 bytes.
+/// A signature of 1 to `SIGNATURE_LIMIT` bytes.
 #[tactic(auto, unfolding(crate::specs::Room::signature_room))]
 pub(super) fn signature_room(signature: &[u8], room: usize) -> Option<usize>
     ensures { result ≡ rooms.signature_room signature.now room }
 {
     let len = signature.len();
-    if 1 <= len && len <= 8192 {
+    if 1 <= len && len <= SIGNATURE_LIMIT {
         spent(len + 2, room)
     } else {
         None

@@ -4,13 +4,13 @@ ghost use Rattle.std.specs.Prelude.{◌≡◌, ◌≤◌, ◌↔◌, length, IsT
 ghost use Rattle.basil_types.specs.Shown.{transaction_of};
 ghost use Rattle.basil_types.specs.Texts.{IsBytes};
 ghost use Rattle.basil_types.specs.Transaction.{IsTransaction};
-ghost use Rattle.frame_views.specs.Fitting.{bounds_of, FitsMessage};
-ghost use Rattle.frame_views.specs.Frames.{frame_limit};
+ghost use Rattle.frame_views.specs.Fitting.{bounds_of};
 ghost use Rattle.frame_views.specs.Shown.{read_of, log_reply_of, elect_message_of};
-ghost use Rattle.frame_views.specs.Spelling.{spelling};
+ghost use Rattle.frame_fitting.specs.Wider.{IsFit};
 ghost use Rattle.frame_fitting.specs.Known.{Known, KnownBody, KnownCommitted, KnownReply};
 ghost use Rattle.frame_values.specs.Owned.{message_value};
-ghost use Rattle.frame_values.specs.Parts.{read_reply_parts, vote_parts, st2_parts, writeback_parts, invoke_parts, decide_parts, message_parts};
+ghost use Rattle.frame_values.specs.Parts.{read_reply_parts, vote_parts, st2_parts, writeback_parts, invoke_parts};
+ghost use Rattle.frame_values.specs.Parts.{decide_parts, message_parts};
 ghost use Rattle.frame_fitting.specs.Room as rooms;
 
 use super::certificates::{certificate_room, committed_room, prepared_room};
@@ -20,6 +20,7 @@ use super::fields::{
 };
 use super::lists::{replies_room, tallies_room, words_room};
 use basil_types::cluster::Cluster;
+use basil_types::limits::FRAME_LIMIT;
 use basil_types::party::Decision;
 use basil_types::transaction::TransactionView;
 use frame_values::lending::{
@@ -56,7 +57,10 @@ fn read_reply_room(cluster: &Cluster, m: &ReadReplyParts<'_>, room: usize) -> Op
 /// A transaction that its client signed.
 #[tactic(auto, unfolding(crate::specs::Room::signed_room))]
 fn signed_room(transaction: &TransactionView<'_>, signature: &[u8], room: usize) -> Option<usize>
-    ensures value { result ≡ rooms.signed_room (record { transaction = transaction_of transaction.now; signature = signature.now }) room }
+    ensures value { result ≡ rooms.signed_room (record {
+      transaction = transaction_of transaction.now;
+      signature = signature.now;
+    }) room }
     ensures known { IsTransaction (transaction_of transaction.now) }
 {
     let room = transaction_room(transaction, room)?;
@@ -172,10 +176,10 @@ fn message_room(cluster: &Cluster, m: &MessageParts<'_>, room: usize) -> Option<
     }
 }
 
-/// Whether a message breaks no rule for the cluster, and its frame has at most 1,048,576 bytes. Takes no
+/// Whether a message breaks no rule for the cluster, and its frame has at most `FRAME_LIMIT` bytes. Takes no
 /// memory.
 pub fn fits(m: &Message, cluster: &Cluster) -> bool
-    ensures { IsTrue result ↔ (FitsMessage (bounds_of cluster.now) (message_value m.now) × (length (spelling (message_value m.now)) ≤ frame_limit)) }
+    ensures { IsTrue result ↔ IsFit (bounds_of cluster.now) (message_value m.now) }
 {
-    message_room(cluster, &lent(m), 1_048_576).is_some()
+    message_room(cluster, &lent(m), FRAME_LIMIT).is_some()
 }

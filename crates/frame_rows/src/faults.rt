@@ -1,9 +1,8 @@
 //! The faults of a first stage of 53 bytes: the transaction of time 10 and client 1 that writes `x1` to `a`, and its
 //! client's plain signature.
 
+use basil_codec::{BadFrame, check};
 use basil_types::cluster::Cluster;
-use frame_views::fault::BadFrame;
-use frame_views::frames::check;
 use std::alloc::Global;
 use std::process::Abort;
 use std::test::Fail;

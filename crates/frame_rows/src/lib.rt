@@ -2,9 +2,13 @@
 #![tactic(auto)]
 
 #[cfg(test)]
+mod carried;
+#[cfg(test)]
 mod clients;
 #[cfg(test)]
 mod faults;
+#[cfg(test)]
+mod fitting;
 #[cfg(test)]
 mod longest;
 #[cfg(test)]
@@ -12,7 +16,11 @@ mod refusals;
 #[cfg(test)]
 mod replicas;
 #[cfg(test)]
+mod rules;
+#[cfg(test)]
 mod telling;
+#[cfg(test)]
+mod unsigned;
 #[cfg(test)]
 mod writebacks;
 #[cfg(test)]

@@ -1,38 +1,35 @@
 //! The longest frames.
 
-use basil_codec::encode_into;
+use basil_codec::lengths::{below_the_limit, longest_certificates, longest_transaction};
+use basil_codec::signed::Signatures;
+use basil_codec::wider::{fitting_may_be_written, may_be_written};
+use basil_codec::{
+    Certificate, CertificateBody, Message, ShardVotes, VotePart, WritebackMessage, check,
+    encode_into, fits, signatures,
+};
 use basil_types::bytes::{Bytes, id_of};
 use basil_types::cluster::Cluster;
 use basil_types::list::List;
 use basil_types::transaction::Transaction;
-use frame_fitting::fits;
-use frame_fitting::laws::fitting_may_be_written;
-use frame_laws::lengths::{below_the_limit, longest_certificates, longest_transaction};
-use frame_laws::wider::may_be_written;
-use frame_values::owned::{
-    Certificate, CertificateBody, Message, ShardVotes, VotePart, WritebackMessage,
-};
-use frame_views::frames::check;
-use frame_views::signed::{Signatures, signatures};
 use std::alloc::Global;
 use std::process::Abort;
 use std::test::Fail;
 
-/// Votes of all replicas of a shard with f = 6, of 2,508 bytes each.
-fn full_votes(alloc: Global) -> Result<List<VotePart>, Fail> {
+/// Votes of all replicas of a shard with f = 6, whose signatures have so many bytes each.
+fn full_votes(alloc: Global, size: usize) -> Result<List<VotePart>, Fail> {
     let mut votes = Vec::new(alloc);
     for replica in 0..31u8 {
-        let signature = Bytes::from_vec(vec![in alloc; replica; 2508]?);
+        let signature = Bytes::from_vec(vec![in alloc; replica; size]?);
         votes.push(VotePart { replica, signature })?;
     }
     Ok(List::from_vec(votes))
 }
 
 /// The votes of eight shards.
-fn full_tallies(alloc: Global) -> Result<List<ShardVotes>, Fail> {
+fn full_tallies(alloc: Global, size: usize) -> Result<List<ShardVotes>, Fail> {
     let mut tallies = Vec::new(alloc);
     for shard in 0..8u8 {
-        let votes = full_votes(alloc)?;
+        let votes = full_votes(alloc, size)?;
         tallies.push(ShardVotes { shard, votes })?;
     }
     Ok(List::from_vec(tallies))
@@ -53,6 +50,21 @@ fn count(all: Signatures<'_>) -> usize {
     count
 }
 
+/// The writeback of a fast commit with votes of all replicas of eight shards with f = 6.
+fn full_writeback(alloc: Global, size: usize) -> Result<Message, Fail> {
+    let transaction = Transaction::build(alloc, 10, 1, &[], &[])?;
+    let id = id_of(transaction.view().bytes());
+    let tallies = full_tallies(alloc, size)?;
+    let certificate = Certificate {
+        id,
+        body: CertificateBody::FastCommit { tallies },
+    };
+    Ok(Message::Writeback(WritebackMessage {
+        transaction,
+        certificate,
+    }))
+}
+
 /// The longest commit certificate has 622,778 bytes, and stands behind a kind and a transaction of 12 bytes.
 #[test]
 fn longest_commit_is_written(rt: HostRuntime) -> Result<(), Fail> {
@@ -61,18 +73,17 @@ fn longest_commit_is_written(rt: HostRuntime) -> Result<(), Fail> {
     longest_transaction();
     longest_certificates();
     let cluster = Cluster::new(6, 8, 7, 100)?;
-    let transaction = Transaction::build(rt.alloc(), 10, 1, &[], &[])?;
-    let id = id_of(transaction.view().bytes());
-    let tallies = full_tallies(rt.alloc())?;
-    let certificate = Certificate {
-        id,
-        body: CertificateBody::FastCommit { tallies },
-    };
-    let message = Message::Writeback(WritebackMessage {
-        transaction,
-        certificate,
-    });
+    let message = full_writeback(rt.alloc(), 2508)?;
     written(&rt, rt.alloc(), &cluster, &message)
+}
+
+/// The longest signatures make a frame that is too long.
+#[test]
+fn too_long_a_frame_does_not_fit(rt: HostRuntime) -> Result<(), Fail> {
+    let cluster = Cluster::new(6, 8, 7, 100)?;
+    let message = full_writeback(rt.alloc(), 8192)?;
+    assert!(&rt; !fits(&message, &cluster));
+    Ok(())
 }
 
 /// The writeback of the longest commit certificate is written, and 248 signatures are read in it.

@@ -1,40 +1,53 @@
 //! Frames of an independent program: read, owned, and spelled again.
 
 ghost use Rattle.std.specs.Prelude.{◌≡◌};
-ghost use Rattle.frame_views.specs.Fitting.{bounds_of, FitsMessage};
-ghost use Rattle.frame_views.specs.Shown.{message_of};
+ghost use Rattle.basil_codec.specs.Fitting.{bounds_of, FitsMessage};
+ghost use Rattle.basil_codec.specs.Shown.{message_of};
 
-use basil_codec::{encode_into, put_message};
+use crate::unsigned::put_in_two;
+use basil_codec::signed::Signatures;
+use basil_codec::wider::{checked_may_be_written, fitting_may_be_written};
+use basil_codec::{
+    BadFrame, Message, MessageView, SignedItem, check, decode, encode_into, fits, put_message,
+    signatures,
+};
 use basil_types::cluster::Cluster;
 use basil_types::party::Party;
-use frame_fitting::fits;
-use frame_fitting::laws::fitting_may_be_written;
-use frame_laws::wider::checked_may_be_written;
-use frame_values::decoding::decode;
-use frame_values::owned::Message;
-use frame_views::fault::BadFrame;
-use frame_views::frames::{MessageView, check};
-use frame_views::signed::{Signatures, SignedItem, signatures};
 use std::alloc::Global;
 use std::process::Abort;
 use std::test::Fail;
 
-pub(crate) fn replica(shard: u8, index: u8) -> Party {
-    Party::Replica { shard, index }
+/// Whose a signature is: the shard and the number of a replica, or the number of a client.
+pub(crate) enum By {
+    Replica(u8, u8),
+    Client(u8),
 }
 
-pub(crate) fn client(number: u8) -> Party {
-    Party::Client { number }
+/// A signature: whose it is, its words and its bytes, both in hex.
+pub(crate) type Signed = (By, &'static str, &'static str);
+
+/// A frame in hex of a cluster (its f, shards, reads of a quorum and delta), and its signatures in order of bytes.
+pub(crate) struct Sample {
+    pub(crate) cluster: [u8; 4],
+    pub(crate) frame: &'static str,
+    pub(crate) signed: &'static [Signed],
 }
 
-/// A signature, whose it is, and its words.
-pub(crate) type Signed = (Party, &'static str, &'static str);
+fn party(by: &By) -> Party {
+    match by {
+        By::Replica(shard, index) => Party::Replica {
+            shard: *shard,
+            index: *index,
+        },
+        By::Client(number) => Party::Client { number: *number },
+    }
+}
 
 fn is_told(alloc: Global, item: &SignedItem<'_>, told: &Signed) -> Result<bool, Fail> {
     let words = hex::decode(alloc, told.1)?;
     let signature = hex::decode(alloc, told.2)?;
     Ok(
-        item.party == told.0
+        item.party == party(&told.0)
             && item.words.bytes() == words.as_slice()
             && item.signature == signature.as_slice(),
     )
@@ -83,6 +96,10 @@ fn is_put(
     let mut out = Vec::new(alloc);
     put_message(message, &mut out)?;
     assert!(rt; out.as_slice() == frame);
+    out.truncate(0);
+    if put_in_two(message, &mut out)? {
+        assert!(rt; out.as_slice() == frame);
+    }
     Ok(())
 }
 
@@ -104,23 +121,22 @@ fn ends_exactly(
     Ok(())
 }
 
-/// The frame is read, its signatures are these, in order, and it is spelled again: as an owned message, and
-/// of its borrowed parts.
-pub(crate) fn told(
-    rt: &impl Abort,
-    alloc: Global,
-    cluster: &Cluster,
-    frame: &str,
-    signed: &[Signed],
-) -> Result<(), Fail> {
-    let bytes = hex::decode(alloc, frame)?;
-    ends_exactly(rt, alloc, cluster, &bytes)?;
-    match check(&bytes, cluster) {
+/// The frame is read, its signatures are these, in order, and it is spelled again: as an owned message, of its
+/// borrowed parts, and up to its signature.
+pub(crate) fn told(rt: &impl Abort, alloc: Global, row: &Sample) -> Result<(), Fail> {
+    let [f, shards, reads, delta] = row.cluster;
+    let cluster = Cluster::new(f, shards, reads, u64::from(delta))?;
+    let bytes = hex::decode(alloc, row.frame)?;
+    ends_exactly(rt, alloc, &cluster, &bytes)?;
+    match check(&bytes, &cluster) {
         Ok(message) => {
-            assert_eq!(rt; told_in(alloc, signatures(&message), signed)?, signed.len());
+            assert_eq!(rt;
+                told_in(alloc, signatures(&message), row.signed)?,
+                row.signed.len()
+            );
             let owned = decode(alloc, &message)?;
-            is_encoded(rt, alloc, cluster, &owned, &bytes)?;
-            is_put(rt, alloc, cluster, &message, &bytes)
+            is_encoded(rt, alloc, &cluster, &owned, &bytes)?;
+            is_put(rt, alloc, &cluster, &message, &bytes)
         }
         Err(_) => Err(Fail::from("refused")),
     }

@@ -1,11 +1,11 @@
 //! Certificates written of borrowed parts.
 
 use crate::writebacks::CONFLICT_ABORT;
-use basil_codec::put_certificate;
+use basil_codec::{
+    BodyParts, CertBody, CertificateParts, CertificateView, MessageView, check, own_certificate,
+    put_certificate, put_owned_certificate,
+};
 use basil_types::cluster::Cluster;
-use frame_values::lending::{BodyParts, CertificateParts};
-use frame_views::certificates::{CertBody, CertificateView};
-use frame_views::frames::{MessageView, check};
 use std::alloc::Global;
 use std::process::Abort;
 use std::test::Fail;
@@ -47,12 +47,29 @@ fn conflict_abort_again(
     }
 }
 
+/// An owned certificate of a view has the bytes of that view.
+fn owned_again(
+    rt: &impl Abort,
+    alloc: Global,
+    certificate: &CertificateView<'_>,
+) -> Result<(), Fail> {
+    let bytes = certificate.bytes();
+    let owned = own_certificate(alloc, certificate)?;
+    let mut out = Vec::new(alloc);
+    put_owned_certificate(&owned, &mut out)?;
+    assert!(rt; out.as_slice() == bytes);
+    Ok(())
+}
+
 #[test]
 fn conflict_abort_is_written(rt: HostRuntime) -> Result<(), Fail> {
     let cluster = Cluster::new(1, 1, 2, 100)?;
     let bytes = hex::decode(rt.alloc(), CONFLICT_ABORT)?;
     match check(&bytes, &cluster) {
-        Ok(MessageView::Writeback(m)) => conflict_abort_again(&rt, rt.alloc(), &m.certificate),
+        Ok(MessageView::Writeback(m)) => {
+            conflict_abort_again(&rt, rt.alloc(), &m.certificate)?;
+            owned_again(&rt, rt.alloc(), &m.certificate)
+        }
         _ => Err(Fail::from("refused")),
     }
 }

@@ -7,8 +7,12 @@ use Rattle.frame_values.specs.declared.owned.certificate.CertificateBody.TheVari
 use Rattle.frame_values.specs.declared.owned.message as messages
 use Rattle.frame_values.specs.declared.owned.message.Message.{Message}
 use Rattle.frame_values.specs.declared.owned.message.Message.TheVariants as message
-use Rattle.frame_views.specs.Values.{VoteValue, TallyValue, LogValue, ReplyValue, WordValue, FastCommit, Logged, CommitValue, BodyValue, Commits, FastAbort, ConflictAbort, CertificateValue}
-use Rattle.frame_views.specs.Values.{CommittedValue, ReadValue, ReadReplyValue, SignedValue, VotedValue, St2Value, LogReplyValue, WritebackValue, InvokeValue, ElectValue, DecideValue, MessageValue, Read, ReadReply, St1, Vote, St2, LogReply, Writeback, Recover, Invoke, Elect, Decide}
+use Rattle.frame_views.specs.Values.{VoteValue, TallyValue, LogValue, ReplyValue, WordValue, FastCommit, Logged}
+use Rattle.frame_views.specs.Values.{CommitValue, BodyValue, Commits, FastAbort, ConflictAbort, CertificateValue}
+use Rattle.frame_views.specs.Values.{CommittedValue, ReadValue, ReadReplyValue, SignedValue, VotedValue, St2Value}
+use Rattle.frame_views.specs.Values.{LogReplyValue, WritebackValue, InvokeValue, ElectValue, DecideValue, MessageValue}
+use Rattle.frame_views.specs.Values.{Read, ReadReply, St1, Vote, St2, LogReply, Writeback, Recover, Invoke, Elect}
+use Rattle.frame_views.specs.Values.{Decide}
 
 abbrev pub vote_value : parts.VotePart.VotePart → VoteValue
 vote_value v = record { replica = v.replica; signature = v.signature }
@@ -20,7 +24,14 @@ abbrev pub log_value : parts.LogPart.LogPart → LogValue
 log_value l = record { replica = l.replica; current = l.current; signature = l.signature }
 
 abbrev pub reply_value : parts.InvokePart.InvokePart → ReplyValue
-reply_value r = record { replica = r.replica; decision = r.decision; decided = r.decided; current = r.current; signature = r.signature }
+reply_value r =
+    record {
+      replica = r.replica;
+      decision = r.decision;
+      decided = r.decided;
+      current = r.current;
+      signature = r.signature;
+    }
 
 abbrev pub word_value : parts.ElectPart.ElectPart → WordValue
 word_value w = record { replica = w.replica; decision = w.decision; signature = w.signature }
@@ -29,16 +40,39 @@ word_value w = record { replica = w.replica; decision = w.decision; signature = 
 -- it has no spelling
 abbrev pub commit_value : List ℕ → CertificateBody → CommitValue
 commit_value id (owned.FastCommit tallies) = record { id = id; body = FastCommit (map tally_value tallies.items) }
-commit_value id (owned.Logged shard decision decided logs) = record { id = id; body = Logged (record { shard = shard; decision = decision; decided = decided; logs = map log_value logs.items }) }
+commit_value id (owned.Logged shard decision decided logs) =
+    record {
+      id = id;
+      body = Logged (record {
+        shard = shard;
+        decision = decision;
+        decided = decided;
+        logs = map log_value logs.items;
+      });
+    }
 commit_value id (owned.FastAbort shard votes) = record { id = []; body = FastCommit [] }
-commit_value id (owned.ConflictAbort' shard replica signature other at proof-id proof-body) = record { id = []; body = FastCommit [] }
+commit_value id (owned.ConflictAbort' shard replica signature other at proof-id proof-body) =
+    record { id = []; body = FastCommit [] }
 
 abbrev pub body_value : CertificateBody → BodyValue
 body_value (owned.FastCommit tallies) = Commits (FastCommit (map tally_value tallies.items))
-body_value (owned.Logged shard decision decided logs) = Commits (Logged (record { shard = shard; decision = decision; decided = decided; logs = map log_value logs.items }))
+body_value (owned.Logged shard decision decided logs) =
+    Commits (Logged (record {
+      shard = shard;
+      decision = decision;
+      decided = decided;
+      logs = map log_value logs.items;
+    }))
 body_value (owned.FastAbort shard votes) = FastAbort (record { shard = shard; votes = map vote_value votes.items })
 body_value (owned.ConflictAbort' shard replica signature other at proof-id proof-body) =
-    ConflictAbort (record { shard = shard; replica = replica; signature = signature; other = other; proof = commit_value proof-id proof-body })
+    ConflictAbort (record {
+      shard =
+          shard;
+      replica = replica;
+      signature = signature;
+      other = other;
+      proof = commit_value proof-id proof-body;
+    })
 
 abbrev pub certificate_value : Certificate → CertificateValue
 certificate_value c = record { id = c.id; body = body_value c.body }
@@ -50,19 +84,52 @@ abbrev pub read_value : messages.ReadMessage.ReadMessage → ReadValue
 read_value m = record { key = m.key; time = m.time; client = m.client }
 
 abbrev pub read_reply_value : messages.ReadReplyMessage.ReadReplyMessage → ReadReplyValue
-read_reply_value m = record { shard = m.shard; replica = m.replica; key = m.key; time = m.time; client = m.client; committed = option_map committed_value m.committed; prepared = m.prepared; signature = m.signature }
+read_reply_value m =
+    record {
+      shard = m.shard;
+      replica = m.replica;
+      key = m.key;
+      time = m.time;
+      client = m.client;
+      committed = option_map committed_value m.committed;
+      prepared = m.prepared;
+      signature = m.signature;
+    }
 
 abbrev pub st1_value : messages.St1Message.St1Message → SignedValue
 st1_value m = record { transaction = m.transaction; signature = m.signature }
 
 abbrev pub voted_value : messages.VoteMessage.VoteMessage → VotedValue
-voted_value m = record { shard = m.shard; replica = m.replica; id = m.id; decision = m.decision; proof = option_map committed_value m.proof; signature = m.signature }
+voted_value m =
+    record {
+      shard = m.shard;
+      replica = m.replica;
+      id = m.id;
+      decision = m.decision;
+      proof = option_map committed_value m.proof;
+      signature = m.signature;
+    }
 
 abbrev pub st2_value : messages.St2Message.St2Message → St2Value
-st2_value m = record { transaction = m.transaction; signature = m.signature; decision = m.decision; tallies = map tally_value m.tallies.items }
+st2_value m =
+    record {
+      transaction = m.transaction;
+      signature = m.signature;
+      decision = m.decision;
+      tallies = map tally_value m.tallies.items;
+    }
 
 abbrev pub log_reply_value : messages.LogReplyMessage.LogReplyMessage → LogReplyValue
-log_reply_value m = record { shard = m.shard; replica = m.replica; id = m.id; decision = m.decision; decided = m.decided; current = m.current; signature = m.signature }
+log_reply_value m =
+    record {
+      shard = m.shard;
+      replica = m.replica;
+      id = m.id;
+      decision = m.decision;
+      decided = m.decided;
+      current = m.current;
+      signature = m.signature;
+    }
 
 abbrev pub writeback_value : messages.WritebackMessage.WritebackMessage → WritebackValue
 writeback_value m = record { transaction = m.transaction; certificate = certificate_value m.certificate }
@@ -74,10 +141,27 @@ abbrev pub invoke_value : messages.InvokeMessage.InvokeMessage → InvokeValue
 invoke_value m = record { id = m.id; shard = m.shard; replies = map reply_value m.replies.items }
 
 abbrev pub elect_value : messages.ElectMessage.ElectMessage → ElectValue
-elect_value m = record { transaction = m.transaction; shard = m.shard; replica = m.replica; decision = m.decision; view = m.view; signature = m.signature }
+elect_value m =
+    record {
+      transaction = m.transaction;
+      shard = m.shard;
+      replica = m.replica;
+      decision = m.decision;
+      view = m.view;
+      signature = m.signature;
+    }
 
 abbrev pub decide_value : messages.DecideMessage.DecideMessage → DecideValue
-decide_value m = record { transaction = m.transaction; shard = m.shard; replica = m.replica; decision = m.decision; view = m.view; words = map word_value m.words.items; signature = m.signature }
+decide_value m =
+    record {
+      transaction = m.transaction;
+      shard = m.shard;
+      replica = m.replica;
+      decision = m.decision;
+      view = m.view;
+      words = map word_value m.words.items;
+      signature = m.signature;
+    }
 
 abbrev pub message_value : Message → MessageValue
 message_value (message.Read m) = Read (read_value m)

@@ -1,18 +1,24 @@
 -- Which values have a spelling, in a cluster of so many shards and replicas of a shard.
-use Rattle.std.specs.Prelude.{◌≡◌, ℕ, ◌<◌, ◌≤◌, ◌+◌, ◌*◌, ◌^◌, List, [], length, Option, Some, None, Bool, true, false, ⊤}
+use Rattle.std.specs.Prelude.{◌≡◌, ℕ, ◌<◌, ◌≤◌, ◌+◌, ◌^◌, List, length, Option, Some, None, Bool, true, false, ⊤}
+use Rattle.quorum_laws.specs.Numbers as quorum
 use Rattle.basil_types.specs.Lists.{AreItems}
 use Rattle.basil_types.specs.Setting.{Setting}
 use Rattle.basil_types.specs.Texts.{IsKey}
 use Rattle.basil_types.specs.Transaction.{IsTransaction}
-use Rattle.basil_types.specs.declared.party.Decision.{Decision}
-use Rattle.basil_types.specs.declared.party.Decision.TheVariants.{Commit, Abort}
+pub use Rattle.basil_types.specs.Decision.{is_abort}
+use Rattle.basil_types.specs.Limits.{signature_limit}
 use Rattle.frame_views.specs.declared.bounds.Bounds.{Bounds}
-use Rattle.frame_views.specs.Values.{VoteValue, TallyValue, LogValue, ReplyValue, WordValue, LoggedValue, CommitBody, FastCommit, Logged, CommitValue, ConflictValue, BodyValue, Commits, FastAbort, ConflictAbort, CertificateValue}
-use Rattle.frame_views.specs.Values.{ReadValue, CommittedValue, ReadReplyValue, SignedValue, VotedValue, St2Value, LogReplyValue, WritebackValue, InvokeValue, ElectValue, DecideValue, MessageValue, Read, ReadReply, St1, Vote, St2, LogReply, Writeback, Recover, Invoke, Elect, Decide}
+use Rattle.frame_views.specs.Values.{VoteValue, TallyValue, LogValue, ReplyValue, WordValue, LoggedValue, CommitBody}
+use Rattle.frame_views.specs.Values.{FastCommit, Logged, CommitValue, ConflictValue, BodyValue, Commits, FastAbort}
+use Rattle.frame_views.specs.Values.{ConflictAbort, CertificateValue}
+use Rattle.frame_views.specs.Values.{ReadValue, CommittedValue, ReadReplyValue, SignedValue, VotedValue, St2Value}
+use Rattle.frame_views.specs.Values.{LogReplyValue, WritebackValue, InvokeValue, ElectValue, DecideValue, MessageValue}
+use Rattle.frame_views.specs.Values.{Read, ReadReply, St1, Vote, St2, LogReply, Writeback, Recover, Invoke, Elect}
+use Rattle.frame_views.specs.Values.{Decide}
 
--- shards and replicas are numbered from 0; a shard has 5f + 1 replicas
+-- shards and replicas are numbered from 0
 abbrev pub bounds_of : Setting → Bounds
-bounds_of c = record { shards = c.shards; replicas = 5 * c.f + 1 }
+bounds_of c = record { shards = c.shards; replicas = quorum.replicas c.f }
 
 -- what one byte can number
 abbrev pub widest : Bounds
@@ -26,7 +32,7 @@ pub record Within (b wide : Bounds) : Type 0 where
 
 pub record IsSignature (signature : List ℕ) : Type 0 where
   pub some : 1 ≤ length signature
-  pub short : length signature ≤ 8192
+  pub short : length signature ≤ signature_limit
 
 abbrev pub IsId : List ℕ → Type 0
 IsId id = length id ≡ 32
@@ -37,10 +43,6 @@ IsNumber n = n < 2 ^ 64
 pub record IsClient (client : ℕ) : Type 0 where
   pub someone : 1 ≤ client
   pub few : client ≤ 16
-
-abbrev pub is_abort : Decision → Bool
-is_abort Commit = false
-is_abort Abort = true
 
 -- a list behind a number of items of one byte
 pub record AreCounted {A : Type 0} (Fit : ℕ → A → Type 0) (next : A → ℕ) (items : List A) : Type 0 where

@@ -1,6 +1,7 @@
 -- Whole frames: which bytes are a frame of which message, and the first fault of bytes that are none.
 use Rattle.std.specs.Prelude.{◌≡◌, ℕ, ◌≤◌, ◌-◌, List, length, Result, Ok, Err, nat_lt, ◌==◌, if◌then◌else◌}
 use Rattle.basil_types.specs.declared.reading.Fault.{Fault}
+pub use Rattle.basil_types.specs.Limits.{frame_limit}
 use Rattle.basil_types.specs.Steps.{◌>>=◌}
 use Rattle.basil_types.specs.Setting.{Setting}
 use Rattle.basil_types.specs.Reading.{byte_at}
@@ -14,10 +15,6 @@ use Rattle.frame_views.specs.Values.{MessageValue}
 use Rattle.frame_views.specs.Spelling.{spelling}
 use Rattle.frame_views.specs.Fitting.{bounds_of, FitsMessage}
 use Rattle.frame_views.specs.Grammar.{message_at}
-
--- the greatest length of a frame
-abbrev pub frame_limit : ℕ
-frame_limit = 1048576
 
 -- these bytes are the frame of this message in this cluster
 pub record IsFrame (cluster : Setting) (frame : List ℕ) (m : MessageValue) : Type 0 where

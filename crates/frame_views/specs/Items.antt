@@ -30,7 +30,14 @@ abbrev pub log_of : LogItem → LogValue
 log_of l = record { replica = l.replica; current = l.current; signature = (l.signature).now }
 
 abbrev pub reply_of : InvokeItem → ReplyValue
-reply_of r = record { replica = r.replica; decision = r.decision; decided = r.decided; current = r.current; signature = (r.signature).now }
+reply_of r =
+    record {
+      replica = r.replica;
+      decision = r.decision;
+      decided = r.decided;
+      current = r.current;
+      signature = (r.signature).now;
+    }
 
 abbrev pub elect_of : ElectItem → WordValue
 elect_of w = record { replica = w.replica; decision = w.decision; signature = (w.signature).now }

@@ -4,10 +4,19 @@ pub mod Forms
 pub mod Fitting
 pub mod Grammar
 pub mod Placed
+pub mod Numbers
 pub mod Frames
 pub mod Lists
 pub mod Items
 pub mod Stored
 pub mod Shown
 pub mod Signed
+pub mod Carried
+pub mod CarriedWalks
 pub mod Walks
+-- what public clauses cite of lower crates
+pub use Rattle.basil_types.specs.Setting
+pub use Rattle.basil_types.specs.Texts
+pub use Rattle.basil_types.specs.Limits
+pub use Rattle.basil_types.specs.Decision
+pub use Rattle.basil_types.specs.Transaction

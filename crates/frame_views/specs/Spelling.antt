@@ -1,13 +1,18 @@
 -- The one spelling of each value.
-use Rattle.std.specs.Prelude.{ℕ, List, [], ◌∷◌, ◌++◌, length, Option, Some, None, Bool, true, false, if◌then◌else◌}
+use Rattle.std.specs.Prelude.{ℕ, List, [], ◌∷◌, ◌++◌, length, Option, Some, None}
 use Rattle.std.specs.List.{flat_map}
 use Rattle.std.specs.Int.{to_be_bytes, w64}
 use Rattle.basil_types.specs.Words.{decision_byte}
 use Rattle.basil_types.specs.Transaction.{canonical, short_text, long_text}
 use Rattle.frame_views.specs.declared.kind.Kind.{Kind}
 use Rattle.frame_views.specs.declared.kind.Kind.TheVariants as kind
-use Rattle.frame_views.specs.Values.{VoteValue, TallyValue, LogValue, ReplyValue, WordValue, LoggedValue, CommitBody, FastCommit, Logged, CommitValue, ConflictValue, BodyValue, Commits, FastAbort, ConflictAbort, CertificateValue}
-use Rattle.frame_views.specs.Values.{ReadValue, CommittedValue, ReadReplyValue, SignedValue, VotedValue, St2Value, LogReplyValue, WritebackValue, InvokeValue, ElectValue, DecideValue, MessageValue, Read, ReadReply, St1, Vote, St2, LogReply, Writeback, Recover, Invoke, Elect, Decide}
+use Rattle.frame_views.specs.Values.{VoteValue, TallyValue, LogValue, ReplyValue, WordValue, LoggedValue, CommitBody}
+use Rattle.frame_views.specs.Values.{FastCommit, Logged, CommitValue, ConflictValue, BodyValue, Commits, FastAbort}
+use Rattle.frame_views.specs.Values.{ConflictAbort, CertificateValue}
+use Rattle.frame_views.specs.Values.{ReadValue, CommittedValue, ReadReplyValue, SignedValue, VotedValue, St2Value}
+use Rattle.frame_views.specs.Values.{LogReplyValue, WritebackValue, InvokeValue, ElectValue, DecideValue, MessageValue}
+use Rattle.frame_views.specs.Values.{Read, ReadReply, St1, Vote, St2, LogReply, Writeback, Recover, Invoke, Elect}
+use Rattle.frame_views.specs.Values.{Decide}
 
 -- eight bytes, big-endian
 unfoldable pub u64_bytes : ℕ → List ℕ
@@ -35,7 +40,8 @@ abbrev pub log_bytes : LogValue → List ℕ
 log_bytes l = l.replica ∷ (u64_bytes l.current ++ long_text l.signature)
 
 abbrev pub reply_bytes : ReplyValue → List ℕ
-reply_bytes r = r.replica ∷ decision_byte r.decision ∷ (u64_bytes r.decided ++ (u64_bytes r.current ++ long_text r.signature))
+reply_bytes r =
+    r.replica ∷ decision_byte r.decision ∷ (u64_bytes r.decided ++ (u64_bytes r.current ++ long_text r.signature))
 
 abbrev pub word_bytes : WordValue → List ℕ
 word_bytes w = w.replica ∷ decision_byte w.decision ∷ long_text w.signature
@@ -82,20 +88,25 @@ read_bytes r = short_text r.key ++ (u64_bytes r.time ++ r.client ∷ [])
 
 abbrev pub read_reply_bytes : ReadReplyValue → List ℕ
 read_reply_bytes r =
-    r.shard ∷ r.replica ∷ (short_text r.key ++ (u64_bytes r.time ++ r.client ∷ (optional committed_bytes r.committed ++ (optional canonical r.prepared ++ long_text r.signature))))
+    r.shard ∷ r.replica ∷ (short_text r.key ++
+    (u64_bytes r.time ++ r.client ∷ (optional committed_bytes r.committed
+    ++ (optional canonical r.prepared ++ long_text r.signature))))
 
 abbrev pub signed_bytes : SignedValue → List ℕ
 signed_bytes s = canonical s.transaction ++ long_text s.signature
 
 abbrev pub voted_bytes : VotedValue → List ℕ
-voted_bytes v = v.shard ∷ v.replica ∷ (v.id ++ decision_byte v.decision ∷ (optional committed_bytes v.proof ++ long_text v.signature))
+voted_bytes v =
+    v.shard ∷ v.replica ∷ (v.id ++ decision_byte v.decision
+    ∷ (optional committed_bytes v.proof ++ long_text v.signature))
 
 abbrev pub st2_bytes : St2Value → List ℕ
 st2_bytes s = canonical s.transaction ++ (long_text s.signature ++ decision_byte s.decision ∷ tallies_bytes s.tallies)
 
 abbrev pub log_reply_bytes : LogReplyValue → List ℕ
 log_reply_bytes r =
-    r.shard ∷ r.replica ∷ (r.id ++ decision_byte r.decision ∷ (u64_bytes r.decided ++ (u64_bytes r.current ++ long_text r.signature)))
+    r.shard ∷ r.replica ∷ (r.id ++ decision_byte r.decision
+    ∷ (u64_bytes r.decided ++ (u64_bytes r.current ++ long_text r.signature)))
 
 abbrev pub writeback_bytes : WritebackValue → List ℕ
 writeback_bytes w = canonical w.transaction ++ certificate_bytes w.certificate
@@ -104,11 +115,14 @@ abbrev pub invoke_bytes : InvokeValue → List ℕ
 invoke_bytes i = i.id ++ i.shard ∷ counted reply_bytes i.replies
 
 abbrev pub elect_bytes : ElectValue → List ℕ
-elect_bytes e = canonical e.transaction ++ e.shard ∷ e.replica ∷ decision_byte e.decision ∷ (u64_bytes e.view ++ long_text e.signature)
+elect_bytes e =
+    canonical e.transaction ++ e.shard ∷ e.replica ∷ decision_byte e.decision
+    ∷ (u64_bytes e.view ++ long_text e.signature)
 
 abbrev pub decide_bytes : DecideValue → List ℕ
 decide_bytes d =
-    canonical d.transaction ++ d.shard ∷ d.replica ∷ decision_byte d.decision ∷ (u64_bytes d.view ++ (counted word_bytes d.words ++ long_text d.signature))
+    canonical d.transaction ++ d.shard ∷ d.replica ∷ decision_byte d.decision
+    ∷ (u64_bytes d.view ++ (counted word_bytes d.words ++ long_text d.signature))
 
 abbrev pub message_bytes : MessageValue → List ℕ
 message_bytes (Read m) = read_bytes m

@@ -87,6 +87,10 @@ pub record CommittedValue : Type 0 where
   pub transaction : TransactionValue
   pub certificate : CertificateValue
 
+-- a transaction with a certificate of any kind
+abbrev pub PairValue : Type 0
+PairValue = CommittedValue
+
 pub record ReadReplyValue : Type 0 where
   pub shard : ℕ
   pub replica : ℕ

@@ -15,7 +15,9 @@ abbrev pub signed_of : SignedItem → SignedBy
 signed_of s = record { party = s.party; words = s.words; signature = (s.signature).now }
 
 abbrev pub tallies_walk : TalliesRun → List SignedBy
-tallies_walk r = map (vote_signed r.shard r.id r.decision) (votes_left r.votes) ++ tallies_signed r.id r.decision (tallies_left r.tallies)
+tallies_walk r =
+    map (vote_signed r.shard r.id r.decision) (votes_left r.votes)
+    ++ tallies_signed r.id r.decision (tallies_left r.tallies)
 
 abbrev pub logs_walk : LogsRun → List SignedBy
 logs_walk r = map (one_logged r.shard r.id r.decision r.decided) (logs_left r.logs)

@@ -6,7 +6,7 @@ ghost use Rattle.frame_views.specs.Fitting.{Within, bounds_of, widest};
 use basil_types::cluster::Cluster;
 
 /// Shards and replicas of a shard, which are numbered from 0.
-#[derive(Clone, Copy, Debug)]
+#[derive(Clone, Copy)]
 pub struct Bounds {
     pub shards: u16,
     pub replicas: u16,

@@ -13,7 +13,7 @@ pub enum BadFrame {
     Short(usize),
     /// The first byte names no kind.
     Kind,
-    /// The frame has more than 1,048,576 bytes.
+    /// The frame has more than `FRAME_LIMIT` bytes.
     Length,
     /// The field at this offset isn't above the one before it in its list.
     Order(usize),
@@ -21,6 +21,24 @@ pub enum BadFrame {
     Range(usize),
     /// Bytes are left behind the body, the first of them at this offset.
     Trailing(usize),
+}
+
+impl BadFrame {
+    ghost use Rattle.frame_views.specs.Numbers.{number_of};
+
+    /// The number of the fault, from 1 to 6.
+    pub fn number(&self) -> u8
+        ensures { result ≡ number_of self.now }
+    {
+        match self {
+            BadFrame::Short(_) => 1,
+            BadFrame::Kind => 2,
+            BadFrame::Length => 3,
+            BadFrame::Order(_) => 4,
+            BadFrame::Range(_) => 5,
+            BadFrame::Trailing(_) => 6,
+        }
+    }
 }
 
 /// Where a field's fault lies in a frame of this length.

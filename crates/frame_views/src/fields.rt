@@ -6,31 +6,34 @@ ghost use Rattle.basil_types.specs.Steps.{Gives};
 ghost use Rattle.frame_views.specs.Forms.{allowed_flag_at};
 ghost use Rattle.frame_views.specs.Grammar.{signature_at, decision_at, number_from_at, next_number_at};
 
+use basil_types::limits::SIGNATURE_LIMIT;
 use basil_types::party::Decision;
 use basil_types::reading::{Fault, between, flag, run, u16_at, u64_at};
 
-/// A signature: its length in two bytes, 1 to 8,192, and its bytes.
+/// A signature: its length in two bytes, 1 to `SIGNATURE_LIMIT`, and its bytes.
 #[tactic(auto, unfolding(crate::specs::Grammar::signature_at))]
 pub(crate) fn signature(bytes: &[u8]) -> Result<(&[u8], &[u8]), Fault>
     ensures { Gives (λ x. (x.0.now, x.1.now)) result (signature_at bytes.now) }
 {
     let (count, rest) = u16_at(bytes)?;
-    if 1 <= count && count <= 8192 {
-        run(count as usize, rest)
+    let count = count as usize;
+    if 1 <= count && count <= SIGNATURE_LIMIT {
+        run(count, rest)
     } else {
         Err(Fault::Range(bytes.len()))
     }
 }
 
-/// A signature of a list, where most are as long as one another. Where this one is as long as `usual`, what stands behind it
-/// is known before its length has come from memory, and a processor that guesses so reads on meanwhile. `usual` decides
-/// nothing else.
+/// A signature of a list, where most are as long as one another. Where this one is as long as `usual`, what stands
+/// behind it is known before its length has come from memory, and a processor that guesses so reads on meanwhile.
+/// `usual` decides nothing else.
 #[tactic(auto, unfolding(crate::specs::Grammar::signature_at))]
 pub(crate) fn signature_like(usual: usize, bytes: &[u8]) -> Result<(&[u8], &[u8]), Fault>
     ensures { Gives (λ x. (x.0.now, x.1.now)) result (signature_at bytes.now) }
 {
     let (count, rest) = u16_at(bytes)?;
-    if 1 <= count && count <= 8192 && count as usize == usual {
+    let count = count as usize;
+    if 1 <= count && count <= SIGNATURE_LIMIT && count == usual {
         run(usual, rest)
     } else {
         other_signature(bytes)

@@ -1,7 +1,7 @@
 //! The kinds of frames.
 
 /// What a frame's first byte says.
-#[derive(Clone, Copy, Debug, PartialEq, Eq)]
+#[derive(Clone, Copy, PartialEq, Eq)]
 pub enum Kind {
     Read,
     ReadReply,

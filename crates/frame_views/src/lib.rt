@@ -2,6 +2,7 @@
 #![tactic(auto)]
 
 mod bounds;
+pub mod carried;
 pub mod certificates;
 pub mod fault;
 mod fields;

@@ -12,7 +12,7 @@ use Rattle.lms_sign.specs.Verifying.{Valid, number_at, set_in, first_refusal as 
 use Rattle.hss_sign.specs.declared.verifying.HssRefusal.{HssRefusal}
 use Rattle.hss_sign.specs.declared.verifying.HssRefusal.TheVariants.{Lms}
 use Rattle.hss_sign.specs.Verifying.{Level, spelled, Signs, HssValid, unless, size_under, signature_in, next_key_in, rest_after, refusal_at, refusal_above, refusal_last, refusal_from, first_refusal, answer_of}
-use Rattle.hss_sign.proofs.LmsLaws.{valid-unrefused, unrefused-valid}
+use Rattle.lms_sign.proofs.ValidLaws.{valid-unrefused, unrefused-valid}
 
 -- a test that refuses nothing was passed, and so were the later ones
 passed : (b : Bool) (refusal : HssRefusal) (later : Option HssRefusal) → unless b refusal later ≡ None → (b ≡ true) × (later ≡ None)

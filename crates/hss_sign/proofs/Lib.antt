@@ -1,4 +1,3 @@
-pub mod LmsLaws
 pub mod LevelLaws
 pub mod NumberLaws
 pub mod SigningLaws

@@ -1,5 +1,5 @@
 -- The two leaves of a number.
-use Rattle.std.proofs.Common.{◌≡◌, ℕ, ◌+◌, ◌*◌, ◌/◌, ◌%◌, ◌^◌, ◌<◌, arith}
+use Rattle.std.proofs.Common.{◌≡◌, ℕ, ◌+◌, ◌*◌, ◌/◌, ◌%◌, ◌<◌, arith}
 use Rattle.lms_sign.specs.declared.sets.LmsSet.{LmsSet}
 use Rattle.lms_sign.specs.declared.sets.LmsSet.TheVariants.{W4H5, W4H10, W8H5, W8H10}
 use Rattle.lms_sign.specs.Sets.{leaves_of}
@@ -35,8 +35,9 @@ bottom-below W4H10 n = omega arith
 bottom-below W8H5 n = omega arith
 bottom-below W8H10 n = omega arith
 
-pub leaves-fit : (set : LmsSet) → leaves_of set < 2 ^ 32
-leaves-fit W4H5 = omega arith
-leaves-fit W4H10 = omega arith
-leaves-fit W8H5 = omega arith
-leaves-fit W8H10 = omega arith
+-- behind the last bottom leaf comes the next top leaf
+pub top-behind : (set : LmsSet) (q leaf : ℕ) → leaf ≡ leaves_of set → (q * leaves_of set + leaf) / leaves_of set ≡ q + 1
+top-behind W4H5 q leaf e = omega arith
+top-behind W4H10 q leaf e = omega arith
+top-behind W8H5 q leaf e = omega arith
+top-behind W8H10 q leaf e = omega arith

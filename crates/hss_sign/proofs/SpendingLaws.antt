@@ -5,13 +5,13 @@ use Rattle.std.proofs.lemmas.Bool.{ltb-true}
 use Rattle.std.proofs.lemmas.List.{take_at, drop_at, drop-drop, length-append}
 use Rattle.std.proofs.lemmas.Nat.{from_be_bytes-to_be_bytes_4}
 use Rattle.lms_sign.specs.Sets.{leaves_of, size_of}
-use Rattle.lms_sign.specs.Tree.{Tree}
 use Rattle.lms_sign.specs.Signing.{signature_of}
 use Rattle.lms_sign.specs.Verifying.{number_at}
 use Rattle.hss_sign.specs.declared.material.Material.{Material}
-use Rattle.hss_sign.specs.Keys.{HssState, numbers_of, top_leaf_of, bottom_leaf_of, bottom_tree, bottom_key, top_signature, heading_of, hss_signature_of}
+use Rattle.hss_sign.specs.Keys.{HssState, numbers_of, after_signing, top_leaf_of, bottom_leaf_of, bottom_tree, bottom_key, top_signature, heading_of, hss_signature_of}
 use Rattle.hss_sign.specs.Laws.{signatures_of, signature_at, top_leaf_in, bottom_key_in, bottom_leaf_in, SignsOncePerNumber, OneKeyPerTopLeaf}
-use Rattle.hss_sign.proofs.NumberLaws.{same-number, top-below, bottom-below, leaves-fit}
+use Rattle.lms_sign.proofs.PartLaws.{leaves-fit, leaf-in_made}
+use Rattle.hss_sign.proofs.NumberLaws.{same-number, top-below, bottom-below}
 use Rattle.hss_sign.proofs.SizeLaws.{length-top_signature, length-bottom_key}
 
 -- the signature of some message with a number that is below the count of numbers
@@ -47,13 +47,10 @@ made-at : (key : HssState) (messages : List (List ℕ)) (i : ℕ) → i < length
     → Made key.material (key.next + i) (signature_at key messages i)
 made-at key [] i lt = absurd (omega arith)
 made-at key (message ∷ later) i lt =
-    made-head key message (signatures_of (record key { next = key.next + 1 }) later) (made-at (record key { next = key.next + 1 }) later)
+    made-head key message (signatures_of (after_signing key) later) (made-at (after_signing key) later)
     (nat_lt key.next (numbers_of key.material)) refl i lt
 
 -- the parts of a signature
-leaf-first : (tree : Tree) (leaf : ℕ) (message : List ℕ) → leaf < leaves_of tree.set → number_at (signature_of tree leaf message) 0 ≡ leaf
-leaf-first tree leaf message lt = from_be_bytes-to_be_bytes_4 leaf (omega (arith, lt, leaves-fit tree.set))
-
 top-leaf_headed : (m : Material) (q : ℕ) (rest : List ℕ) → q < leaves_of m.top → number_at (heading_of m q ++ rest) 4 ≡ q
 unfolding heading_of top_signature
 top-leaf_headed m q rest lt = from_be_bytes-to_be_bytes_4 q (omega (arith, lt, leaves-fit m.top))
@@ -93,7 +90,7 @@ bottom-leaf_made m number signature made =
     let q = top_leaf_of m number in
     let last = signature_of (bottom_tree m q) (bottom_leaf_of m number) made.message in
     ap (bottom_leaf_in m) made.is ∙ ap (λ (t : List ℕ). number_at t 0) (past-heading m q last)
-    ∙ leaf-first (bottom_tree m q) (bottom_leaf_of m number) made.message (bottom-below m.bottom number)
+    ∙ leaf-in_made (bottom_tree m q) (bottom_leaf_of m number) made.message (bottom-below m.bottom number)
 
 pub once_per_number : SignsOncePerNumber
 once_per_number key messages i j before inside top bottom =

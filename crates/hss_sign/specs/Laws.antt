@@ -3,14 +3,14 @@ use Rattle.std.specs.Prelude.{◌≡◌, ◌≢◌, ℕ, ◌+◌, ◌<◌, nat_l
 use Rattle.lms_sign.specs.Sets.{size_of}
 use Rattle.lms_sign.specs.Verifying.{number_at}
 use Rattle.hss_sign.specs.declared.material.Material.{Material}
-use Rattle.hss_sign.specs.Keys.{HssState, numbers_of, hss_signature_of}
+use Rattle.hss_sign.specs.Keys.{HssState, numbers_of, after_signing, hss_signature_of}
 
 -- the signatures that a key gives of some messages in turn, until no number is left
 abbrev pub signatures_of : HssState → List (List ℕ) → List (List ℕ)
 signatures_of key [] = []
 signatures_of key (message ∷ later) =
     if nat_lt key.next (numbers_of key.material)
-    then hss_signature_of key.material key.next message ∷ signatures_of (record key { next = key.next + 1 }) later
+    then hss_signature_of key.material key.next message ∷ signatures_of (after_signing key) later
     else []
 
 -- the signature with an index among them

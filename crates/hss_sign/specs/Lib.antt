@@ -1,4 +1,5 @@
 pub mod Verifying
+pub mod Numbers
 pub mod Keys
 pub mod Kept
 pub mod Laws

@@ -8,9 +8,9 @@ ghost use Rattle.lms_sign.specs.Verifying.{Valid};
 ghost use Rattle.hss_sign.specs.Keys.{top_tree};
 ghost use Rattle.hss_sign.specs.Kept.{IsUnder};
 
-use crate::bytes::put;
 use crate::material::Material;
 use basil_types::memory::NoMemory;
+use lms_ots::put;
 use lms_sign::LmsKey;
 use std::alloc::Global;
 

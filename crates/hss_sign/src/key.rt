@@ -1,14 +1,12 @@
 //! Keys.
-ghost use Rattle.std.specs.Prelude.{◌≡◌, ◌≤◌, ◌+◌, ◌-◌, ◌%◌, ◌↔◌, length, IfOk, OnOk, OnErr, Err};
-ghost use Rattle.lms_sign.specs.Sets.{leaves_of};
-ghost use Rattle.hss_sign.specs.Keys.{material_of, numbers_of, hss_signature_of, hss_public_of, hss_size_of};
+ghost use Rattle.std.specs.Prelude.{◌≡◌, ◌≢◌, ◌≤◌, ◌-◌, ◌↔◌, length, IfOk, OnOk, OnErr, Err};
+ghost use Rattle.hss_sign.specs.Keys.{material_of, made_before, after_signing, numbers_of, top_leaf_of, hss_signature_of, hss_public_of, hss_size_of};
 ghost use Rattle.hss_sign.specs.Verifying.{HssValid};
 
-use crate::bytes::put;
 use crate::levels::Levels;
 use crate::material::Material;
-use crate::sets::size_of_set;
 use basil_types::memory::NoMemory;
+use lms_ots::put;
 use lms_sign::LmsSet;
 use std::alloc::Global;
 use std::marker::Model;
@@ -34,8 +32,8 @@ impl From<NoMemory> for HssFault {
 }
 
 /// A key of two levels that signs once with each bottom leaf under each top leaf, in order. Contracts see
-/// its material, which never changes, and the number of its next signature. There is no way to copy a key
-/// or to set its next number back.
+/// its material, which never changes, the number of its next signature, and the top leaf whose bottom key
+/// it holds. There is no way to copy a key or to set its next number back.
 #[derive(Drop)]
 pub struct HssKey {
     alloc: Global,
@@ -43,12 +41,12 @@ pub struct HssKey {
 }
 
 impl Model for HssKey {
-    ghost use Rattle.hss_sign.specs.Keys.{HssState};
+    ghost use Rattle.hss_sign.specs.Keys.{HssState, state_of};
     ghost use Rattle.hss_sign.specs.Kept.{IsKept, number_of};
 
     ghost Value = { HssState };
 
-    ghost view = { λ k. record { material = k.levels.material; next = number_of k.levels } };
+    ghost view = { λ k. state_of k.levels.material (number_of k.levels) k.levels.top_leaf };
 
     ghost invariant = { λ k. IsKept k.levels };
 }
@@ -66,7 +64,7 @@ impl HssKey {
         first: u64,
     ) -> Result<HssKey, NoMemory>
         requires { first ≤ numbers_of (material_of seed.now ident.now top bottom) }
-        ensures { IfOk result (λ key. key ≡ record { material = material_of seed.now ident.now top bottom; next = first }) }
+        ensures { IfOk result (λ key. key ≡ made_before (material_of seed.now ident.now top bottom) first) }
     {
         let material = Material {
             seed: *seed,
@@ -101,19 +99,20 @@ impl HssKey {
         ensures { result ≡ hss_size_of self.now.material }
     {
         let material = &self.levels.material;
-        60 + size_of_set(material.top) + size_of_set(material.bottom)
+        60 + material.top.size() + material.bottom.size()
     }
 
     /// Signs a message with the next number, which is then spent, and writes the signature into `out`,
-    /// of `size` bytes. Exhausted exactly where no number is left. NoMemory only where the number is the
-    /// first under its top leaf, and spends nothing. After either, all is as before.
+    /// of `size` bytes. Exhausted exactly where no number is left. NoMemory only where the bottom key that
+    /// is held isn't the number's, and spends nothing. After either, all is as before.
     pub fn sign_into(&mut self, message: &[u8], out: &mut [u8]) -> Result<(), HssFault>
         requires { length out.old ≡ hss_size_of self.old.material }
         ensures exhausted { (result ≡ Err HssFault.Exhausted) ↔ (numbers_of self.old.material ≤ self.old.next) }
-        ensures memory { (result ≡ Err HssFault.NoMemory) → self.old.next % leaves_of self.old.material.bottom ≡ 0 }
+        ensures memory { (result ≡ Err HssFault.NoMemory)
+            → self.old.held ≢ top_leaf_of self.old.material self.old.next }
         ensures signature { OnOk result (out.new ≡ hss_signature_of self.old.material self.old.next message.now) }
         ensures valid { OnOk result (HssValid (hss_public_of self.old.material) message.now out.new) }
-        ensures spends { OnOk result (self.new ≡ record self.old { next = self.old.next + 1 }) }
+        ensures spends { OnOk result (self.new ≡ after_signing self.old) }
         ensures refused { OnErr result ((self.new ≡ self.old) × (out.new ≡ out.old)) }
     {
         self.levels.prepare(self.alloc)?;

@@ -1,13 +1,12 @@
 //! The two levels of a key.
 ghost use Rattle.std.specs.Prelude.{◌≡◌, ◌<◌, ◌≤◌, ◌+◌, ◌-◌, ◌*◌, ◌↔◌, IfOk, OnOk, OnErr, Err};
 ghost use Rattle.lms_sign.specs.Sets.{leaves_of};
-ghost use Rattle.hss_sign.specs.Keys.{numbers_of};
+ghost use Rattle.hss_sign.specs.Keys.{numbers_of, first_held};
 ghost use Rattle.hss_sign.specs.Kept.{IsKept, number_of};
 
 use crate::bottom::Bottom;
 use crate::key::HssFault;
 use crate::material::Material;
-use crate::sets::leaves_of_set;
 use basil_types::memory::NoMemory;
 use lms_sign::LmsKey;
 use std::alloc::Global;
@@ -28,6 +27,7 @@ impl Levels {
         ensures kept { IfOk result (λ levels. IsKept levels) }
         ensures material { IfOk result (λ levels. levels.material ≡ material) }
         ensures number { IfOk result (λ levels. number_of levels ≡ number) }
+        ensures held { IfOk result (λ levels. levels.top_leaf ≡ first_held material number) }
     {
         let (top_leaf, bottom_leaf) = leaves_at(&material, number);
         let mut top = LmsKey::make(
@@ -75,7 +75,7 @@ impl Levels {
         requires { IsKept self.now }
         ensures { result ≡ numbers_of self.now.material - number_of self.now }
     {
-        let under_each = u64::from(leaves_of_set(self.material.bottom));
+        let under_each = u64::from(self.material.bottom.leaves());
         self.top.left() * under_each + self.bottom.key.left()
     }
 }
@@ -87,9 +87,10 @@ fn leaves_at(material: &Material, number: u64) -> (u32, u32)
     ensures in_top { result.0 < leaves_of material.now.top }
     ensures in_bottom { result.1 ≤ leaves_of material.now.bottom }
     ensures number { result.0 * leaves_of material.now.bottom + result.1 ≡ number }
+    ensures held { result.0 ≡ first_held material.now number }
 {
-    let top_leaves = leaves_of_set(material.top);
-    let bottom_leaves = leaves_of_set(material.bottom);
+    let top_leaves = material.top.leaves();
+    let bottom_leaves = material.bottom.leaves();
     let under_each = u64::from(bottom_leaves);
     if number / under_each == u64::from(top_leaves) {
         return (top_leaves - 1, bottom_leaves);

@@ -11,14 +11,8 @@ mod key;
 mod laws;
 mod levels;
 mod material;
-mod sets;
 mod verifying;
 
 pub use key::{HssFault, HssKey};
 pub use laws::{one_key_per_top_leaf, signs_once_per_number};
 pub use verifying::{HssRefusal, hss_verify};
-
-#[cfg(test)]
-mod tests;
-#[cfg(test)]
-mod vectors;

@@ -1,10 +1,10 @@
 //! What a key of two levels is made of.
 ghost use Rattle.std.specs.Prelude.{◌≡◌, ◌≤◌, IfOk};
 ghost use Rattle.lms_sign.specs.Sets.{leaves_of};
-ghost use Rattle.hss_sign.specs.Keys.{bottom_seed, ident_of_seed, bottom_tree};
+ghost use Rattle.hss_sign.specs.Keys.{bottom_seed, bottom_tree};
 
 use basil_types::memory::NoMemory;
-use lms_sign::{LmsKey, LmsSet};
+use lms_sign::{LmsKey, LmsSet, ident_of_seed};
 use sha2::{Digest, Sha256};
 use std::alloc::Global;
 
@@ -44,18 +44,4 @@ impl Material {
         let seed = self.bottom_seed(top_leaf);
         LmsKey::make(alloc, &seed, &ident_of_seed(&seed), self.bottom, first)
     }
-}
-
-/// The identifier of the bottom key with a seed.
-#[tactic(auto, unfolding(crate::specs::Keys::ident_of_seed))]
-fn ident_of_seed(seed: &[u8; 32]) -> [u8; 16]
-    ensures { result ≡ ident_of_seed seed.now }
-{
-    let mut hasher = Sha256::new();
-    hasher.update([0x49]);
-    hasher.update(seed);
-    let digest = hasher.finalize();
-    let mut ident = [0u8; 16];
-    ident.copy_from_slice(&digest[..16]);
-    ident
 }

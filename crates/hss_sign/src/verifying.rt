@@ -1,10 +1,10 @@
 //! Verification.
 ghost use Rattle.std.specs.Prelude.{◌≡◌, ◌≤◌, ◌+◌, ◌-◌, ◌↔◌, length, IsOk, IfOk, OnOk, IfErr, Some, None};
+ghost use Rattle.hss_sign.specs.Numbers.{refusal_number};
 ghost use Rattle.hss_sign.specs.Verifying.{HssValid, first_refusal, answer_of, refusal_from, refusal_above, refusal_last, refusal_at, size_under};
 
-use crate::bytes::{read_key, read_number};
-use crate::sets::{set_of, size_of_set};
-use lms_sign::{LmsRefusal, verify};
+use crate::bytes::read_key;
+use lms_sign::{LmsRefusal, LmsSet, read_number, verify};
 
 /// Which test fails first of bytes that are no valid signature of a message under a public key.
 /// Levels are counted from 0, the level of the public key.
@@ -27,6 +27,22 @@ pub enum HssRefusal {
         /// The test that fails there.
         refusal: LmsRefusal,
     },
+}
+
+impl HssRefusal {
+    /// The number of the test, from 1 to 6.
+    pub fn number(&self) -> u8
+        ensures { result ≡ refusal_number self.now }
+    {
+        match self {
+            HssRefusal::KeyLength => 1,
+            HssRefusal::Levels => 2,
+            HssRefusal::Count => 3,
+            HssRefusal::SetType(_) => 4,
+            HssRefusal::Short(_) => 5,
+            HssRefusal::Lms { .. } => 6,
+        }
+    }
 }
 
 /// Whether a signature of a message is valid under a public key (RFC 8554, section 6.3). It takes
@@ -90,9 +106,9 @@ fn check_level(level: u8, key: &[u8; 56], rest: &[u8]) -> Result<usize, HssRefus
     ensures passed { OnOk result (refusal_above level key.now rest.now ≡ None) }
     ensures refused { IfErr result (λ refusal. refusal_above level key.now rest.now ≡ Some refusal) }
 {
-    let size = match set_of(key) {
+    let size = match LmsSet::of_key(key) {
         None => return Err(HssRefusal::SetType(level)),
-        Some(set) => size_of_set(set),
+        Some(set) => set.size(),
     };
     if rest.len() < size + 56 {
         return Err(HssRefusal::Short(level));
@@ -106,7 +122,7 @@ fn check_last(level: u8, key: &[u8; 56], message: &[u8], rest: &[u8]) -> Result<
     ensures passed { OnOk result (refusal_last level key.now message.now rest.now ≡ None) }
     ensures refused { IfErr result (λ refusal. refusal_last level key.now message.now rest.now ≡ Some refusal) }
 {
-    if set_of(key).is_none() {
+    if LmsSet::of_key(key).is_none() {
         return Err(HssRefusal::SetType(level));
     }
     check_signature(level, key, message, rest)

@@ -4,6 +4,4 @@
 pub mod laws;
 pub mod plain;
 pub mod signer;
-#[cfg(test)]
-mod tests;
 pub mod verifier;

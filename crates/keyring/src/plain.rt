@@ -32,7 +32,7 @@ fn plain_sign(party: Party, words: &[u8]) -> [u8; 32]
 }
 
 /// The plain keyring of a replay: it accepts by the rule of plain signatures alone.
-#[derive(Clone, Copy, Debug)]
+#[derive(Clone, Copy)]
 pub struct PlainKeys;
 
 impl PlainKeys {
@@ -53,7 +53,7 @@ impl Verifier for PlainKeys {
 }
 
 /// A plain signer of one party, with 2^64 - 1 signatures.
-#[derive(Debug, Drop)]
+#[derive(Drop)]
 pub struct PlainPen {
     party: Party,
     left: u64,

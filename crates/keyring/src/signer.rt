@@ -1,6 +1,7 @@
 //! Signers of one party.
 
 ghost use Rattle.std.specs.Prelude.{◌≡◌, ℕ, ◌+◌, ◌≤◌, ◌<◌, true, IsOk, OnOk, OnErr, length, ◌↔◌};
+ghost use Rattle.basil_types.specs.Limits.{signature_limit};
 ghost use Rattle.keyring.specs.Signing.{Signing};
 
 use basil_types::party::Party;
@@ -32,7 +33,7 @@ pub trait Signer {
     fn size(&self) -> usize
         ensures size { result ≡ (fixed self.now).size }
         ensures least { 1 ≤ result }
-        ensures most { result ≤ 8192 };
+        ensures most { result ≤ signature_limit };
 
     /// Writes the signature of these words into `out`, which has `size` bytes, and spends one. Exhausted exactly where
     /// none is left, and then nothing changes. Takes no memory.

@@ -1,3 +1,4 @@
 pub mod Parties
 pub mod Entries
+pub mod ListedLaws
 pub mod PenLaws

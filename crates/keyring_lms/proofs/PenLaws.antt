@@ -1,8 +1,7 @@
 -- What pens sign.
-use Rattle.std.proofs.Common.{◌≡◌, ℕ, ◌+◌, ◌&&◌, Bool, true, false, List, [], ◌∷◌, length, Option, Some, None, is_none, refl, arith}
+use Rattle.std.proofs.Common.{◌≡◌, ℕ, ◌+◌, ◌&&◌, Bool, true, false, List, [], ◌∷◌, Option, Some, None, is_none, refl, arith}
 use Rattle.std.proofs.lemmas.Bool.{eq-eqb}
 use Rattle.std.proofs.Math.Path.{fun_ext}
-use Rattle.sha2.proofs.Facts256.{length-sha256}
 use Rattle.basil_types.specs.declared.party.Party.{Party}
 use Rattle.basil_types.specs.declared.party.Party.TheVariants.{Replica, Client}
 use Rattle.keyring.specs.Plain.{seed_of}
@@ -10,10 +9,11 @@ use Rattle.lms_sign.specs.declared.verifying.LmsRefusal.{LmsRefusal}
 use Rattle.lms_sign.specs.Tree.{Tree, public_of}
 use Rattle.lms_sign.specs.Signing.{signature_of}
 use Rattle.lms_sign.specs.Verifying.{Valid, first_refusal, is_valid}
+use Rattle.lms_sign.proofs.PartLaws.{length-ident}
 use Rattle.lms_sign.proofs.ValidLaws.{made-valid, valid-told, unrefused-valid}
 use Rattle.keyring_lms.specs.Keys.{is_same, public_in, is_valid_under, lms_accepts}
 use Rattle.keyring_lms.specs.Pens.{tree_holds}
-use Rattle.keyring_lms.specs.Replay.{ident_of, tree_in_replay}
+use Rattle.keyring_lms.specs.Replay.{tree_in_replay}
 use Rattle.keyring_lms.specs.Laws.{AcceptedIsValid, PensAgreeWithKeys, OneKeyAgreesWithItsPen, ReplayPensAgreeWithKeys, ReplayPensAreAccepted}
 
 same-own : (p : Party) → is_same p p ≡ true
@@ -24,9 +24,6 @@ same-own (Client n) = eq-eqb n n refl
 pub signed-holds : (owner : Party) (tree : Tree) (words signature : List ℕ) → Valid (public_of tree) words signature
     → tree_holds owner tree owner words signature ≡ true
 signed-holds owner tree words signature v = rw (same-own owner, valid-told (public_of tree) words signature v) refl
-
-length-ident : (seed : List ℕ) → length (ident_of seed) ≡ 16
-length-ident seed = let long = length-sha256 (0x49 ∷ seed) in grind (arith, long)
 
 unrefused : (o : Option LmsRefusal) → is_none o ≡ true → o ≡ None
 unrefused None h = refl

@@ -1,8 +1,9 @@
 //! Keyrings.
 ghost use Rattle.std.specs.Prelude.{◌≡◌, IfOk};
 ghost use Rattle.keyring_lms.specs.Keys.{public_in, lms_accepts};
-ghost use Rattle.keyring_lms.specs.Replay.{replay_accepts};
+ghost use Rattle.keyring_lms.specs.Replay.{replay_accepts, listed_accepts};
 
+use crate::listed::parties_listed;
 use crate::replay::{parties_of, publics_of};
 use basil_types::cluster::Cluster;
 use basil_types::memory::NoMemory;
@@ -16,7 +17,7 @@ use std::marker::Model;
 /// (RFC 8554, section 5.4.2) under the public key of the party's first entry, and nothing of a party with no entry.
 #[derive(Drop)]
 pub struct LmsKeys {
-    publics: Vec<(Party, [u8; 56])>,
+    pub(crate) publics: Vec<(Party, [u8; 56])>,
 }
 
 impl Model for LmsKeys {
@@ -39,7 +40,24 @@ impl LmsKeys {
         Ok(LmsKeys { publics })
     }
 
-    /// The keyring of these parties and public keys of 56 bytes. Of a party that is listed twice the first entry counts.
+    /// The keyring of the listed parties in a replay over this cluster: of each that is listed it accepts what the
+    /// whole replay's keyring accepts, and nothing of any other. Makes the keys of the listed parties alone, each once.
+    pub fn replay_of(
+        alloc: Global,
+        cluster: &Cluster,
+        set: LmsSet,
+        listed: &[Party],
+    ) -> Result<LmsKeys, NoMemory>
+        ensures { IfOk result (λ keys.
+            ⟦<LmsKeys as Verifier>⟧.accepted keys ≡ listed_accepts cluster.now set listed.now) }
+    {
+        let parties = parties_listed(alloc, cluster, listed)?;
+        let publics = publics_of(alloc, set, &parties)?;
+        Ok(LmsKeys { publics })
+    }
+
+    /// The keyring of these parties and public keys of 56 bytes. Of a party that is listed twice the first entry
+    /// counts.
     pub fn from_publics(alloc: Global, list: &[(Party, [u8; 56])]) -> Result<LmsKeys, NoMemory>
         ensures list { IfOk result (λ keys. keys ≡ list.now) }
         ensures accepted { IfOk result (λ keys. ⟦<LmsKeys as Verifier>⟧.accepted keys ≡ lms_accepts list.now) }

@@ -6,8 +6,10 @@
 
 mod keys;
 mod laws;
+mod listed;
 mod pen;
 mod replay;
+mod replay_keys;
 
 pub use keys::LmsKeys;
 pub use laws::{
@@ -15,6 +17,4 @@ pub use laws::{
     replay_pens_agree_with_keys, replay_pens_are_accepted,
 };
 pub use pen::LmsPen;
-
-#[cfg(test)]
-mod tests;
+pub use replay_keys::ReplayKeys;

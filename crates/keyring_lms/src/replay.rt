@@ -1,33 +1,45 @@
 //! The parties and the keys of a replay.
 ghost use Rattle.std.specs.Prelude.{◌≡◌, ◌++◌, IfOk, OnOk, map};
 ghost use Rattle.lms_sign.specs.Tree.{public_of as key_in_replay};
-ghost use Rattle.keyring_lms.specs.Replay.{tree_in_replay, entry_of, replicas_of, clients};
+ghost use Rattle.keyring_lms.specs.Replay.{tree_in_replay, tree_entry, entry_of, replicas_of, clients};
 
-use basil_types::bytes::id_of;
 use basil_types::cluster::Cluster;
 use basil_types::memory::NoMemory;
 use basil_types::party::Party;
 use keyring::plain::seed_of;
-use lms_sign::{LmsKey, LmsSet};
+use lms_sign::{LmsKey, LmsSet, LmsTree, ident_of_seed};
 use std::alloc::Global;
-
-/// I of a party's key in a replay: the first 16 bytes of SHA-256 of 49 (hexadecimal) and the party's seed.
-fn ident_of(seed: &[u8; 32]) -> [u8; 16]
-    ensures { result ≡ Rattle.keyring_lms.specs.Replay.ident_of seed.now }
-{
-    let mut text = [0x49u8; 33];
-    text[1..].copy_from_slice(seed);
-    let mut ident = [0u8; 16];
-    ident.copy_from_slice(&id_of(&text)[..16]);
-    ident
-}
 
 /// The key of a party in a replay, from leaf 0 on.
 pub(crate) fn key_of(alloc: Global, set: LmsSet, party: Party) -> Result<LmsKey, NoMemory>
     ensures { IfOk result (λ key. key ≡ record { tree = tree_in_replay set party; next = 0 }) }
 {
     let seed = seed_of(party);
-    LmsKey::make(alloc, &seed, &ident_of(&seed), set, 0)
+    LmsKey::make(alloc, &seed, &ident_of_seed(&seed), set, 0)
+}
+
+/// The tree of a party in a replay.
+fn tree_of(alloc: Global, set: LmsSet, party: Party) -> Result<LmsTree, NoMemory>
+    ensures { IfOk result (λ tree. tree ≡ tree_in_replay set party) }
+{
+    let seed = seed_of(party);
+    LmsTree::make(alloc, &seed, &ident_of_seed(&seed), set)
+}
+
+/// The parties, each with its tree in a replay.
+pub(crate) fn trees_of(
+    alloc: Global,
+    set: LmsSet,
+    parties: &[Party],
+) -> Result<Vec<(Party, LmsTree)>, NoMemory>
+    ensures { IfOk result (λ trees. trees.items ≡ map (tree_entry set) parties.now) }
+{
+    let mut trees = Vec::new(alloc);
+    for party in parties {
+        let tree = tree_of(alloc, set, *party)?;
+        trees.push((*party, tree))?;
+    }
+    Ok(trees)
 }
 
 /// The public key of a party in a replay.

@@ -3,8 +3,8 @@ ghost use Rattle.std.specs.Prelude.{◌≡◌, ◌<◌, ◌≤◌, ◌*◌, ◌/
 ghost use Rattle.lms_ots.specs.Sets.{width_of, last_of};
 ghost use Rattle.lms_ots.specs.Digits.{coef, digit, missing, checksum as cksm, signed_string};
 
+use crate::bytes::put;
 use crate::sets::OtsSet;
-use crate::signatures::put;
 
 /// The digit `i` of a string (RFC 8554, section 3.1.3).
 pub(crate) fn digit_at(set: OtsSet, string: &[u8], i: u16) -> u8

@@ -5,6 +5,7 @@
 //! The chains of a leaf go side by side, eight at a time, each in a lane of the vector registers.
 #![tactic(auto)]
 
+mod bytes;
 mod chains;
 mod digits;
 mod lanes;
@@ -12,12 +13,6 @@ mod sets;
 mod signatures;
 mod tables;
 
+pub use bytes::put;
 pub use sets::OtsSet;
 pub use signatures::{OtsRefusal, ots_candidate, ots_public, ots_sign};
-
-#[cfg(test)]
-mod plain;
-#[cfg(test)]
-mod tests;
-#[cfg(test)]
-mod vectors;

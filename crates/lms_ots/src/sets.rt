@@ -1,9 +1,9 @@
 //! The parameter sets.
-ghost use Rattle.std.specs.Prelude.{◌≡◌};
+ghost use Rattle.std.specs.Prelude.{◌≡◌, ◌≤◌};
 ghost use Rattle.lms_ots.specs.Sets.{chains_of, last_of, type_of, signature_length};
 
 /// A parameter set of RFC 8554, section 4.1, with SHA-256 and n = 32.
-#[derive(Clone, Copy, Debug, PartialEq, Eq)]
+#[derive(Clone, Copy, PartialEq, Eq)]
 pub enum OtsSet {
     /// LMOTS_SHA256_N32_W4: digits of 4 bits, 67 chains.
     W4,
@@ -33,7 +33,7 @@ impl OtsSet {
     }
 
     /// The number of the type in keys and signatures.
-    pub(crate) fn type_number(self) -> u32
+    pub fn type_number(self) -> u32
         ensures { result ≡ type_of self }
     {
         match self {
@@ -43,8 +43,9 @@ impl OtsSet {
     }
 
     /// The bytes of a one-time signature, 4 + 32(p + 1).
-    pub(crate) fn signature_size(self) -> usize
-        ensures { result ≡ signature_length self }
+    pub fn signature_size(self) -> usize
+        ensures value { result ≡ signature_length self }
+        ensures bound { result ≤ 2180 }
     {
         match self {
             OtsSet::W4 => 2180,

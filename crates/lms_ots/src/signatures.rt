@@ -5,6 +5,7 @@ ghost use Rattle.lms_ots.specs.Chains.{leaf_of, public_of, key_of_ends};
 ghost use Rattle.lms_ots.specs.Lanes.{end_in};
 ghost use Rattle.lms_ots.specs.Signatures.{message_digest, signature_of, type_in, part_in, end_from, candidate_of};
 
+use crate::bytes::put;
 use crate::digits::with_checksum;
 use crate::lanes::run_all;
 use crate::sets::OtsSet;
@@ -131,12 +132,4 @@ pub(crate) fn part_of(signature: &[u8], i: u16) -> [u8; 32]
     let at = 36 + 32 * i as usize;
     part.copy_from_slice(&signature[at..at + 32]);
     part
-}
-
-/// Writes a piece at a place, and keeps what stands before it.
-pub(crate) fn put(out: &mut [u8], at: usize, piece: &[u8])
-    requires { at + length piece.now ≤ length out.old }
-    ensures { take (at + length piece.now) out.new ≡ take at out.old ++ piece.now }
-{
-    out[at..at + piece.len()].copy_from_slice(piece);
 }

@@ -1,9 +1,10 @@
 -- The parts of a key's public key and of its signatures.
-use Rattle.std.proofs.Common.{◌≡◌, ℕ, zero, suc, ◌+◌, ◌*◌, ◌<◌, ◌^◌, List, ◌++◌, length, take, drop, Some, refl, sym, ap, ◌∙◌, subst, append_assoc, arith}
+use Rattle.std.proofs.Common.{◌≡◌, ℕ, zero, suc, ◌+◌, ◌*◌, ◌<◌, ◌^◌, List, ◌++◌, length, take, drop, [], ◌∷◌, Some, refl, sym, ap, ◌∙◌, subst, append_assoc, arith}
 use Rattle.std.specs.Int.{w32, to_be_bytes, from_be_bytes}
-use Rattle.std.proofs.lemmas.List.{take_at, drop_at, take_all, drop-drop, length-append}
+use Rattle.std.proofs.lemmas.List.{take_at, drop_at, take_all, drop-drop, length-append, length-take-le}
 use Rattle.std.proofs.lemmas.Nat.{from_be_bytes-to_be_bytes_4}
 use Rattle.std.proofs.Math.Seq.{drop-append-add}
+use Rattle.sha2.specs.Sha256.{sha256}
 use Rattle.sha2.proofs.Facts256.{length-sha256}
 use Rattle.lms_ots.specs.Chains.{leaf_of, joined}
 use Rattle.lms_ots.proofs.ChainLaws.{joined-part, length-joined}
@@ -12,7 +13,7 @@ use Rattle.lms_sign.specs.declared.sets.LmsSet.{LmsSet}
 use Rattle.lms_sign.specs.declared.sets.LmsSet.TheVariants.{W4H5, W4H10, W8H5, W8H10}
 use Rattle.lms_sign.specs.Sets.{one_time_of, one_time_type_of, one_time_length, height_of, leaves_of, type_of, size_of, set_of_types}
 use Rattle.lms_sign.specs.Randomizer.{randomizer_of, stream_bytes}
-use Rattle.lms_sign.specs.Tree.{Tree, leaf_node, inner_node, node, root, public_of}
+use Rattle.lms_sign.specs.Tree.{Tree, ident_of_seed, leaf_node, inner_node, node, root, public_of}
 use Rattle.lms_sign.specs.Signing.{path_of, one_time_part, signature_of}
 use Rattle.lms_sign.specs.Verifying.{number_at, set_in, ident_in, root_in, leaf_in, one_time_type_in, one_time_in, type_in, path_in}
 
@@ -57,13 +58,19 @@ types-name W4H10 = refl
 types-name W8H5 = refl
 types-name W8H10 = refl
 
-leaves-fit : (set : LmsSet) → leaves_of set < 2 ^ 32
+pub leaves-fit : (set : LmsSet) → leaves_of set < 2 ^ 32
 leaves-fit W4H5 = omega arith
 leaves-fit W4H10 = omega arith
 leaves-fit W8H5 = omega arith
 leaves-fit W8H10 = omega arith
 
 -- the parts of a public key
+pub length-ident : (seed : List ℕ) → length (ident_of_seed seed) ≡ 16
+unfolding ident_of_seed
+length-ident seed =
+    let digest : length (sha256 (0x49 ∷ [] ++ seed)) ≡ 32 = length-sha256 (0x49 ∷ [] ++ seed) in
+    length-take-le 16 (sha256 (0x49 ∷ [] ++ seed)) (omega arith)
+
 pub length-public : (tree : Tree) → length tree.ident ≡ 16 → length (public_of tree) ≡ 56
 length-public tree len = omega (arith, len, length-node tree (height_of tree.set) 1, length-append tree.ident (root tree))
 

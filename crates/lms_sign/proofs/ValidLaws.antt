@@ -108,6 +108,10 @@ unrefused-valid public message signature none =
     let key = passed _ _ _ none in
     named (set_in public) public message signature (eqb-true _ _ key.0) refl key.1
 
+pub unrefused-is_valid : (public message signature : List ℕ)
+    → (first_refusal public message signature ≡ None) ↔ Valid public message signature
+unrefused-is_valid public message signature = (unrefused-valid public message signature, valid-unrefused public message signature)
+
 answers : (o : Option LmsRefusal) → IsOk (answer_of o) → o ≡ None
 answers None h = refl
 answers (Some e) h = cc

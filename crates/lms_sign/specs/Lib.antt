@@ -4,4 +4,5 @@ pub mod Tree
 pub mod Filled
 pub mod Signing
 pub mod Verifying
+pub mod Numbers
 pub mod Laws

@@ -12,6 +12,10 @@ pub record Key : Type 0 where
   pub tree : Tree
   pub next : ℕ
 
+-- the key of a tree from leaf 0 on
+abbrev pub first_key : Tree → Key
+first_key tree = record { tree = tree; next = 0 }
+
 -- the other child of the same node
 abbrev pub sibling : ℕ → ℕ
 sibling r = if r % 2 == 0 then r + 1 else r - 1

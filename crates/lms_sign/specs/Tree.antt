@@ -1,5 +1,5 @@
 -- The tree of one-time keys and its public key (RFC 8554, sections 5.2 and 5.3).
-use Rattle.std.specs.Prelude.{ℕ, zero, suc, ◌+◌, ◌-◌, ◌*◌, List, [], ◌∷◌, ◌++◌}
+use Rattle.std.specs.Prelude.{ℕ, zero, suc, ◌+◌, ◌-◌, ◌*◌, List, [], ◌∷◌, ◌++◌, take}
 use Rattle.std.specs.Int.{w32, to_be_bytes}
 use Rattle.sha2.specs.Sha256.{sha256}
 use Rattle.lms_ots.specs.Chains.{leaf_of, public_of as one_time_public_of}
@@ -14,6 +14,10 @@ pub record Tree : Type 0 where
 
 abbrev pub tree_of : LmsSet → List ℕ → List ℕ → Tree
 tree_of set ident seed = record { set = set; ident = ident; seed = seed }
+
+-- the I that is made of a seed: the first 16 bytes of SHA-256(49 ‖ seed), with the byte 49 hexadecimal
+unfoldable pub ident_of_seed : List ℕ → List ℕ
+ident_of_seed seed = take 16 (sha256 (0x49 ∷ [] ++ seed))
 
 -- the leaf with number r over a one-time key
 unfoldable pub leaf_node : List ℕ → ℕ → List ℕ → List ℕ
@@ -37,6 +41,8 @@ abbrev pub root : Tree → List ℕ
 root tree = node tree (height_of tree.set) 1
 
 -- the public key: u32 type ‖ u32 one-time type ‖ I ‖ T[1]
+abbrev pub public_with : LmsSet → List ℕ → List ℕ → List ℕ
+public_with set ident top = to_be_bytes w32 (type_of set) ++ to_be_bytes w32 (one_time_type_of set) ++ ident ++ top
+
 abbrev pub public_of : Tree → List ℕ
-public_of tree =
-    to_be_bytes w32 (type_of tree.set) ++ to_be_bytes w32 (one_time_type_of tree.set) ++ tree.ident ++ root tree
+public_of tree = public_with tree.set tree.ident (root tree)

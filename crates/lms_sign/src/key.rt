@@ -6,8 +6,8 @@ ghost use Rattle.lms_sign.specs.Signing.{Key, signature_of};
 ghost use Rattle.lms_sign.specs.Filled.{AreNodesFrom};
 ghost use Rattle.lms_sign.specs.Verifying.{Valid, leaf_in};
 
-use crate::bytes::put;
 use crate::nodes::nodes_of;
+use crate::public::public_with;
 use crate::sets::LmsSet;
 use crate::signing::write_signature;
 use basil_types::memory::NoMemory;
@@ -22,11 +22,11 @@ pub struct Exhausted;
 /// changes, and the next leaf. There is no way to copy a key or to set its next leaf back.
 #[derive(Drop)]
 pub struct LmsKey {
-    set: LmsSet,
-    ident: [u8; 16],
-    seed: [u8; 32],
-    next: u32,
-    nodes: Vec<[u8; 32]>,
+    pub(crate) set: LmsSet,
+    pub(crate) ident: [u8; 16],
+    pub(crate) seed: [u8; 32],
+    pub(crate) next: u32,
+    pub(crate) nodes: Vec<[u8; 32]>,
 }
 
 impl Model for LmsKey {
@@ -65,16 +65,7 @@ impl LmsKey {
     pub fn public(&self) -> [u8; 56]
         ensures { result ≡ public_of self.now.tree }
     {
-        let mut public = [0u8; 56];
-        put(&mut public, 0, &self.set.type_number().to_be_bytes());
-        put(
-            &mut public,
-            4,
-            &self.set.one_time_type_number().to_be_bytes(),
-        );
-        put(&mut public, 8, &self.ident);
-        put(&mut public, 24, &self.nodes[1]);
-        public
+        public_with(self.set, &self.ident, &self.nodes[1])
     }
 
     /// The number of leaves that are not spent.

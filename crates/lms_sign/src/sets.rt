@@ -1,7 +1,9 @@
 //! The parameter sets.
 ghost use Rattle.std.specs.Prelude.{◌≡◌, ◌≤◌};
 ghost use Rattle.lms_sign.specs.Sets.{one_time_of, one_time_type_of, one_time_length, height_of, leaves_of, type_of, size_of, set_of_types};
+ghost use Rattle.lms_sign.specs.Verifying.{set_in};
 
+use crate::bytes::read_number;
 use lms_ots::OtsSet;
 
 /// A parameter set of RFC 8554, section 5.1, with SHA-256 and m = 32, over one of section 4.1.
@@ -31,6 +33,13 @@ impl LmsSet {
         }
     }
 
+    /// The set of a public key, if its types are those of one.
+    pub fn of_key(key: &[u8; 56]) -> Option<LmsSet>
+        ensures { result ≡ set_in key.now }
+    {
+        LmsSet::of_types(read_number(key, 0), read_number(key, 4))
+    }
+
     /// The set of the one-time signatures.
     pub(crate) fn one_time(self) -> OtsSet
         ensures { result ≡ one_time_of self }
@@ -45,10 +54,7 @@ impl LmsSet {
     pub(crate) fn one_time_type_number(self) -> u32
         ensures { result ≡ one_time_type_of self }
     {
-        match self {
-            LmsSet::W4H5 | LmsSet::W4H10 => 3,
-            LmsSet::W8H5 | LmsSet::W8H10 => 4,
-        }
+        self.one_time().type_number()
     }
 
     /// The bytes of a one-time signature.
@@ -56,10 +62,7 @@ impl LmsSet {
         ensures value { result ≡ one_time_length self }
         ensures bound { result ≤ 2180 }
     {
-        match self {
-            LmsSet::W4H5 | LmsSet::W4H10 => 2180,
-            LmsSet::W8H5 | LmsSet::W8H10 => 1124,
-        }
+        self.one_time().signature_size()
     }
 
     /// The height of the tree.
@@ -74,7 +77,7 @@ impl LmsSet {
     }
 
     /// The number of leaves.
-    pub(crate) fn leaves(self) -> u32
+    pub fn leaves(self) -> u32
         ensures value { result ≡ leaves_of self }
         ensures bound { result ≤ 1024 }
     {
@@ -95,8 +98,9 @@ impl LmsSet {
     }
 
     /// The bytes of a signature, 12 + 32(p + 1) + 32h.
-    pub(crate) fn size(self) -> usize
-        ensures { result ≡ size_of self }
+    pub fn size(self) -> usize
+        ensures value { result ≡ size_of self }
+        ensures bound { result ≤ 2508 }
     {
         match self {
             LmsSet::W4H5 => 2348,

@@ -6,11 +6,10 @@ ghost use Rattle.lms_sign.specs.Tree.{tree_of};
 ghost use Rattle.lms_sign.specs.Filled.{AreNodesFrom};
 ghost use Rattle.lms_sign.specs.Signing.{path_of, signature_of, one_time_part};
 
-use crate::bytes::put;
 use crate::nodes::sibling_of;
 use crate::randomizer::randomizer;
 use crate::sets::LmsSet;
-use lms_ots::ots_sign;
+use lms_ots::{ots_sign, put};
 
 /// Writes the one-time signature of a message by leaf `q` behind the first four bytes.
 fn put_one_time(

@@ -2,6 +2,7 @@
 ghost use Rattle.std.specs.Prelude.{◌≡◌, ◌≤◌, ◌<◌, ◌+◌, ◌*◌, ◌↔◌, ℕ, List, length, take, drop, IsOk, is_ok};
 ghost use Rattle.lms_ots.specs.Signatures.{candidate_of};
 ghost use Rattle.lms_sign.specs.Sets.{leaves_of, height_of, size_of, one_time_length, one_time_type_of};
+ghost use Rattle.lms_sign.specs.Numbers.{refusal_number};
 ghost use Rattle.lms_sign.specs.Verifying.{Valid, first_refusal, refusal_in, is_valid, answer_of, ident_in, root_from, candidate_leaf, climbed, path_in, leaf_in, one_time_type_in};
 
 use crate::bytes::{read_node, read_number};
@@ -24,6 +25,22 @@ pub enum LmsRefusal {
     LeafRange,
     /// The signature leads to another root.
     Root,
+}
+
+impl LmsRefusal {
+    /// The number of the test, from 1 to 6.
+    pub fn number(&self) -> u8
+        ensures { result ≡ refusal_number self.now }
+    {
+        match self {
+            LmsRefusal::KeyLength => 1,
+            LmsRefusal::SetType => 2,
+            LmsRefusal::SignatureLength => 3,
+            LmsRefusal::TypeDiffers => 4,
+            LmsRefusal::LeafRange => 5,
+            LmsRefusal::Root => 6,
+        }
+    }
 }
 
 /// Whether a signature of a message is valid under a public key (RFC 8554, section 5.4.2). It
@@ -70,7 +87,7 @@ fn check_signature(
     if read_number(signature, 0) >= set.leaves() {
         return Err(LmsRefusal::LeafRange);
     }
-    let root = root_of(set, &ident_of(public), message, signature);
+    let root = root_of(set, &read_ident(public), message, signature);
     if root != read_node(public, 24) {
         return Err(LmsRefusal::Root);
     }
@@ -78,7 +95,7 @@ fn check_signature(
 }
 
 /// The identifier in a public key.
-fn ident_of(public: &[u8]) -> [u8; 16]
+fn read_ident(public: &[u8]) -> [u8; 16]
     requires { 24 ≤ length public.now }
     ensures { result ≡ ident_in public.now }
 {

@@ -8,7 +8,8 @@ use Rattle.std.proofs.lemmas.List.{reverse-append, length-reverse}
 use Rattle.std.proofs.lemmas.Iterator.{YieldsList}
 use Rattle.std.proofs.lemmas.Iterator.Consumers.{YieldsList-from_shown}
 
-pub YieldsList-from_last : {A X : Type 0} {shows : A → X} {s : Rev (List X)} (xs : List X) → rev_source s ≡ xs → YieldsList (rev_steps (TakesLast shows)) shows s (reverse xs)
+pub YieldsList-from_last : {A X : Type 0} {shows : A → X} {s : Rev (List X)} (xs : List X) → rev_source s ≡ xs
+    → YieldsList (rev_steps (TakesLast shows)) shows s (reverse xs)
 YieldsList-from_last {A} {X} {shows} {s} xs e =
     subst (λ k. YieldsList (rev_steps (TakesLast shows)) shows s (reverse k)) e
     (YieldsList-from_shown (rev_steps (TakesLast shows)) shows (λ u. reverse (rev_source u)) (λ u t p. length-reverse _ ∙ ap length p.0)

@@ -13,7 +13,7 @@ use Rattle.std.specs.Ordering.{is_lt}
 use Rattle.basil_types.specs.declared.version.Version.{Version}
 use Rattle.basil_types.specs.Version.{version_cmp, below}
 use Rattle.mv_store.specs.Held.{Held, version, later, latest}
-use Rattle.mv_store.proofs.VersionLaws.{below_itself, not_below_trans, not_below_back}
+use Rattle.basil_types.proofs.VersionLaws.{below_itself, not_below_trans, not_below_back}
 use Rattle.mv_store.proofs.Searches.{Contains-nil, Contains-head, Contains-tail, Contains-cons, map_from}
 
 -- ---- the last entry that passes
@@ -31,12 +31,16 @@ module _ {X : Type 0} (p r : Version × X → Bool) where
   abbrev passes : Version × X → Bool
   passes e = r e && p e
 
-  first_below : (e g : Version × X) (es : List (Version × X)) → IsStrictlySortedBy version_cmp (keys_of (e ∷ es)) → Contains es g → below e.0 g.0 ≡ true
+  first_below : (e g : Version × X) (es : List (Version × X)) → IsStrictlySortedBy version_cmp (keys_of (e ∷ es)) → Contains es g
+      → below e.0 g.0 ≡ true
   first_below e g es sorted among =
-      ap is_lt (All-contains (λ v. version_cmp e.0 v ≡ Less) (keys_of es) g.0 (All-from_recursion (λ v. version_cmp e.0 v ≡ Less) (keys_of es) (sorted_head version_cmp e.0 (keys_of es) sorted)) (map_from (λ (x : Version × X). x.0) es g among))
+      ap is_lt (All-contains (λ v. version_cmp e.0 v
+      ≡ Less) (keys_of es) g.0 (All-from_recursion (λ v. version_cmp e.0 v
+      ≡ Less) (keys_of es) (sorted_head version_cmp e.0 (keys_of es) sorted)) (map_from (λ (x : Version × X). x.0) es g among))
 
   -- the last of the others, or else the first
-  picked : (e : Version × X) (es : List (Version × X)) (a b : Bool) → r e ≡ a → p e ≡ b → find p (reverse (filter r (e ∷ es))) ≡ option_or (find p (reverse (filter r es))) (cond (a && b) (Some e) None)
+  picked : (e : Version × X) (es : List (Version × X)) (a b : Bool) → r e ≡ a → p e ≡ b
+      → find p (reverse (filter r (e ∷ es))) ≡ option_or (find p (reverse (filter r es))) (cond (a && b) (Some e) None)
   picked e es true b q s =
       ap (λ c. find p (reverse (cond c (e ∷ filter r es) (filter r es)))) q
       ∙ ap (find p) (reverse-append (e ∷ []) (filter r es))
@@ -50,13 +54,15 @@ module _ {X : Type 0} (p r : Version × X → Bool) where
       or_none None = refl
       or_none (Some x) = refl
 
-  pub last_found : (es : List (Version × X)) → IsStrictlySortedBy version_cmp (keys_of es) → MatchOption (find p (reverse (filter r es))) (NonePasses passes es) (IsLast passes es)
+  pub last_found : (es : List (Version × X)) → IsStrictlySortedBy version_cmp (keys_of es)
+      → MatchOption (find p (reverse (filter r es))) (NonePasses passes es) (IsLast passes es)
   last_found [] sorted = λ g among. Contains-nil g among
   last_found (e ∷ es) sorted =
       subst (λ o. MatchOption o (NonePasses passes (e ∷ es)) (IsLast passes (e ∷ es))) (sym (picked e es (r e) (p e) refl refl))
       (by (find p (reverse (filter r es))) (r e && p e) refl (last_found es (sorted_tail version_cmp e.0 (keys_of es) sorted)))
     where
-      by : (o : Option (Version × X)) (b : Bool) → (r e && p e) ≡ b → MatchOption o (NonePasses passes es) (IsLast passes es) → MatchOption (option_or o (cond (r e && p e) (Some e) None)) (NonePasses passes (e ∷ es)) (IsLast passes (e ∷ es))
+      by : (o : Option (Version × X)) (b : Bool) → (r e && p e) ≡ b → MatchOption o (NonePasses passes es) (IsLast passes es)
+          → MatchOption (option_or o (cond (r e && p e) (Some e) None)) (NonePasses passes (e ∷ es)) (IsLast passes (e ∷ es))
       by (Some f) b q h =
           record {
             among = Contains-tail e f es h.among;
@@ -64,7 +70,8 @@ module _ {X : Type 0} (p r : Version × X → Bool) where
             last =
                 λ g among ok.
                 elim (Contains-cons e g es among) [
-                  | inl same ↦ subst (λ (z : Version × X). below f.0 z.0 ≡ false) same (not_below_back e.0 f.0 (first_below e f es sorted h.among))
+                  | inl same ↦ subst (λ (z : Version × X). below f.0 z.0
+                      ≡ false) same (not_below_back e.0 f.0 (first_below e f es sorted h.among))
                   | inr there ↦ h.last g there ok
                 ];
           }

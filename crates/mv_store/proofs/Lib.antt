@@ -10,3 +10,5 @@ pub mod NotedLaws
 pub mod LatestLaws
 pub mod SearchLaws
 pub mod MemberLaws
+pub mod GreatestLaws
+pub mod HitLaws

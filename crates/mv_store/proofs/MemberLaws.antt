@@ -14,7 +14,8 @@ use Rattle.mv_store.specs.Store.{Stands, HasRoom, HaveSame}
 use Rattle.mv_store.proofs.KeyLaws.{bytes_same}
 use Rattle.mv_store.proofs.Searches.{any_same, any_from}
 
-pub stands_by_elements : (store : Store) (held others : List Held) (noted other_reads : List NotedRead) → Stands store held noted → HaveSame held others → HaveSame noted other_reads → Stands store others other_reads
+pub stands_by_elements : (store : Store) (held others : List Held) (noted other_reads : List NotedRead) → Stands store held noted
+    → HaveSame held others → HaveSame noted other_reads → Stands store others other_reads
 stands_by_elements store held others noted other_reads s same same_reads =
     record {
       written = λ h key among writes. s.written h key ((same h).1 among) writes;
@@ -39,7 +40,8 @@ slot_of_told : {E : Type 0} (o : Option (Option E)) (x : E) → unwrap_or o None
 slot_of_told None x e = absurd cc
 slot_of_told (Some o) x e = refl
 
-pub room_of_entered : (store : Store) (held : List Held) (noted : List NotedRead) (h : Held) → Stands store held noted → Contains held h → HasRoom store h.transaction
+pub room_of_entered : (store : Store) (held : List Held) (noted : List NotedRead) (h : Held) → Stands store held noted → Contains held h
+    → HasRoom store h.transaction
 room_of_entered store held noted h s among =
     record {
       writes =

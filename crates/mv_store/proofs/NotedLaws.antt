@@ -57,7 +57,8 @@ greatest_of (Some y) x q = by (comes_before y x) refl
     by true e = ap (λ b. comes_before q (cond b x y)) e ∙ or_when (comes_before q x) (comes_before q y) (λ p. trans q y x p e)
     by false e = ap (λ b. comes_before q (cond b x y)) e ∙ or_other (comes_before q x) (comes_before q y) (λ p. upto q x y e p)
 
-above : (b : Bool) (o : Option (ℕ × ℕ)) (x q : ℕ × ℕ) → is_above (cond b (Some (greatest o x)) o) q ≡ ((b && comes_before q x) || is_above o q)
+pub above : (b : Bool) (o : Option (ℕ × ℕ)) (x q : ℕ × ℕ)
+    → is_above (cond b (Some (greatest o x)) o) q ≡ ((b && comes_before q x) || is_above o q)
 above true o x q = greatest_of o x q
 above false o x q = refl
 

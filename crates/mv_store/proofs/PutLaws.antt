@@ -18,7 +18,8 @@ use Rattle.basil_types.specs.Transaction.{FitsRead, key_of_read}
 use Rattle.mv_store.specs.Slots.{same_version}
 use Rattle.mv_store.specs.Changes.{Puts}
 use Rattle.mv_store.proofs.KeyLaws.{bytes_tell, bytes_same}
-use Rattle.mv_store.proofs.VersionLaws.{version_total, and_parts}
+use Rattle.basil_types.proofs.VersionLaws.{version_total}
+use Rattle.mv_store.proofs.VersionLaws.{and_parts}
 use Rattle.mv_store.proofs.Searches.{Contains-nil, Contains-head, Contains-tail, Contains-cons, any_to}
 
 pub version_same : (v : Version) → same_version v v ≡ true
@@ -40,7 +41,8 @@ neither false true true h = absurd cc
 neither false true false h = (refl, refl)
 neither false false s h = (refl, refl)
 
-pub puts_more : {P A : Type 0} (key_of : P → List ℕ) (slot_of : P → Option A) (xs : List P) (x : P) (version : Version) (old now new : List ℕ → Version → Option A)
+pub puts_more : {P A : Type 0} (key_of : P → List ℕ) (slot_of : P
+    → Option A) (xs : List P) (x : P) (version : Version) (old now new : List ℕ → Version → Option A)
     → Puts key_of slot_of xs version old now
     → ((k : List ℕ) (v : Version) → new k v ≡ cond (bytes_eq (key_of x) k && same_version version v) (slot_of x) (now k v))
     → ((y : P) → Contains xs y → bytes_eq (key_of x) (key_of y) ≡ true → slot_of y ≡ slot_of x)
@@ -55,23 +57,28 @@ puts_more key_of slot_of xs x version old now new so_far is same =
           ];
       others =
           λ k v h.
-          let apart = neither (list_any (λ y. bytes_eq (key_of y) k) xs) (bytes_eq (key_of x) k) (same_version version v) (sym (ap (λ b. b && same_version version v) (list_any-append (λ y. bytes_eq (key_of y) k) xs (x ∷ []))) ∙ h) in
+          let apart = neither (list_any (λ y. bytes_eq (key_of y) k) xs) (bytes_eq (key_of x) k) (same_version version v) (sym (ap (λ b. b
+          && same_version version v) (list_any-append (λ y. bytes_eq (key_of y) k) xs (x ∷ []))) ∙ h) in
           is k v ∙ ap (λ b. cond b (slot_of x) (now k v)) apart.1 ∙ so_far.others k v apart.0;
     }
   where
     here : new (key_of x) version ≡ slot_of x
-    here = is (key_of x) version ∙ ap (λ b. cond b (slot_of x) (now (key_of x) version)) (both _ _ (bytes_same (key_of x)) (version_same version))
+    here = is (key_of x) version
+        ∙ ap (λ b. cond b (slot_of x) (now (key_of x) version)) (both _ _ (bytes_same (key_of x)) (version_same version))
 
-    earlier : (y : _) → Contains xs y → (b : Bool) → (bytes_eq (key_of x) (key_of y) && same_version version version) ≡ b → new (key_of y) version ≡ slot_of y
+    earlier : (y : _) → Contains xs y → (b : Bool) → (bytes_eq (key_of x) (key_of y) && same_version version version) ≡ b
+        → new (key_of y) version ≡ slot_of y
     earlier y among true e =
         is (key_of y) version ∙ ap (λ b. cond b (slot_of x) (now (key_of y) version)) e
         ∙ sym (same y among (and_parts (bytes_eq (key_of x) (key_of y)) (same_version version version) e).0)
     earlier y among false e = is (key_of y) version ∙ ap (λ b. cond b (slot_of x) (now (key_of y) version)) e ∙ so_far.put y among
 
 -- a key that had a slot has one
-pub slot_stays : {P A : Type 0} (key_of : P → List ℕ) (slot_of : P → Option A) (xs : List P) (version : Version) (old now : List ℕ → Version → Option A) (k : List ℕ)
+pub slot_stays : {P A : Type 0} (key_of : P → List ℕ) (slot_of : P → Option A) (xs : List P) (version : Version) (old now : List ℕ → Version
+    → Option A) (k : List ℕ)
     → Puts key_of slot_of xs version old now → ((x : P) → IsSome (slot_of x)) → IsSome (old k version) → IsSome (now k version)
-slot_stays key_of slot_of xs version old now k puts some there = by (list_any (λ x. bytes_eq (key_of x) k) xs && same_version version version) refl
+slot_stays key_of slot_of xs version old now k puts some there = by (list_any (λ x. bytes_eq (key_of x) k) xs
+    && same_version version version) refl
   where
     by : (b : Bool) → (list_any (λ x. bytes_eq (key_of x) k) xs && same_version version version) ≡ b → IsSome (now k version)
     by true e =
@@ -89,7 +96,8 @@ key_less Greater e = absurd cc
 key_trans : (a b c : List ℕ) → key_below a b ≡ true → key_below b c ≡ true → key_below a c ≡ true
 key_trans a b c p q = ap is_lt (nat_list_cmp_total.trans a b c (key_less _ p) (key_less _ q))
 
-above_floor : (floor : List ℕ) (reads : List ReadPart) (y : ReadPart) → AreItems FitsRead key_of_read floor reads → Contains reads y → key_below floor y.key ≡ true
+above_floor : (floor : List ℕ) (reads : List ReadPart) (y : ReadPart) → AreItems FitsRead key_of_read floor reads → Contains reads y
+    → key_below floor y.key ≡ true
 above_floor floor [] y items h = Contains-nil y h
 above_floor floor (r ∷ reads) y items h =
     elim (Contains-cons r y reads h) [
@@ -102,7 +110,8 @@ found_at [] i x e = absurd cc
 found_at (y ∷ ys) zero x e = let same : y ≡ x = cc in subst (λ z. Contains (z ∷ ys) x) (sym same) (Contains-head x ys)
 found_at (y ∷ ys) (suc i) x e = Contains-tail y x ys (found_at ys i x e)
 
-ascending : (floor : List ℕ) (reads : List ReadPart) (i : ℕ) (x y : ReadPart) → AreItems FitsRead key_of_read floor reads → slice_get reads i ≡ Some x → Contains (take i reads) y → key_below y.key x.key ≡ true
+ascending : (floor : List ℕ) (reads : List ReadPart) (i : ℕ) (x y : ReadPart) → AreItems FitsRead key_of_read floor reads
+    → slice_get reads i ≡ Some x → Contains (take i reads) y → key_below y.key x.key ≡ true
 ascending floor [] i x y items at h = absurd cc
 ascending floor (r ∷ reads) zero x y items at h = Contains-nil y h
 ascending floor (r ∷ reads) (suc i) x y items at h =
@@ -111,9 +120,11 @@ ascending floor (r ∷ reads) (suc i) x y items at h =
       | inr q ↦ ascending r.key reads i x y items.1 at q
     ]
 
-pub reads_apart : {A : Type 0} (floor : List ℕ) (reads : List ReadPart) (i : ℕ) (x y : ReadPart) → AreItems FitsRead key_of_read floor reads → slice_get reads i ≡ Some x → Contains (take i reads) y → bytes_eq x.key y.key ≡ true → A
+pub reads_apart : {A : Type 0} (floor : List ℕ) (reads : List ReadPart) (i : ℕ) (x y : ReadPart) → AreItems FitsRead key_of_read floor reads
+    → slice_get reads i ≡ Some x → Contains (take i reads) y → bytes_eq x.key y.key ≡ true → A
 reads_apart floor reads i x y items at among e =
-    let itself : key_below x.key x.key ≡ true = ap (λ k. key_below k x.key) (bytes_tell x.key y.key e) ∙ ascending floor reads i x y items at among in
+    let itself : key_below x.key x.key ≡ true = ap (λ k. key_below k x.key) (bytes_tell x.key y.key e)
+    ∙ ascending floor reads i x y items at among in
     let never : key_below x.key x.key ≡ false = ap is_lt (tied_itself nat_list_cmp_total x.key) in
     let impossible : true ≡ false = sym itself ∙ never in
     absurd cc
@@ -128,6 +139,7 @@ pub some_told : {A B : Type 0} (f : A → B) (o : Option A) (r : Option B) → r
 some_told f None r e h = sym (ap is_some e) ∙ h
 some_told f (Some x) r e h = refl
 
-pub twice : {A B C : Type 0} (f : A → B) (g : B → C) (o : Option A) (r : Option B) → r ≡ option_map f o → option_map g r ≡ option_map (λ x. g (f x)) o
+pub twice : {A B C : Type 0} (f : A → B) (g : B → C) (o : Option A) (r : Option B) → r ≡ option_map f o
+    → option_map g r ≡ option_map (λ x. g (f x)) o
 twice f g None r e = ap (option_map g) e
 twice f g (Some x) r e = ap (option_map g) e

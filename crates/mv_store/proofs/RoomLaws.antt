@@ -11,7 +11,8 @@ use Rattle.mv_store.specs.Held.{Held, NotedRead, version}
 use Rattle.mv_store.specs.Noted.{is_above}
 use Rattle.mv_store.specs.Store.{Stands, HasRoom}
 
-pub stands_with_room : (old new : Store) (held : List Held) (noted : List NotedRead) → OnlyRoom old.keys new.keys → Stands old held noted → Stands new held noted
+pub stands_with_room : (old new : Store) (held : List Held) (noted : List NotedRead) → OnlyRoom old.keys new.keys → Stands old held noted
+    → Stands new held noted
 stands_with_room old new held noted room s =
     record {
       written = λ h key among writes. room.writers key (version h) ∙ s.written h key among writes;
@@ -23,7 +24,8 @@ stands_with_room old new held noted room s =
 
 -- ---- a walk along the items of a transaction
 
-pub room_more : {X : Type 0} (P Q : X → Type 0) (xs : List X) (i : ℕ) (x : X) → slice_get xs i ≡ Some x → ((y : X) → P y → Q y) → Q x → All P (take i xs) → All Q (take (i + 1) xs)
+pub room_more : {X : Type 0} (P Q : X → Type 0) (xs : List X) (i : ℕ) (x : X) → slice_get xs i ≡ Some x → ((y : X) → P y → Q y) → Q x
+    → All P (take i xs) → All Q (take (i + 1) xs)
 room_more P Q xs i x at kept here room =
     subst (All Q) (sym (take_more xs i x at)) (All-push Q (take i xs) x (All-weaker P Q kept (take i xs) room) here)
 

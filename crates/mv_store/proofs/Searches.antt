@@ -56,7 +56,8 @@ module _ {A : Type 0} (p : A → Bool) where
   filter_from [] x h e = Contains-nil x h
   filter_from (y ∷ ys) x h e = by (filter_from ys x) (Contains-cons y x ys h) (p y) refl
     where
-      by : (Contains ys x → p x ≡ true → Contains (filter p ys) x) → (y ≡ x) ⊎ Contains ys x → (b : Bool) → p y ≡ b → Contains (filter p (y ∷ ys)) x
+      by : (Contains ys x → p x ≡ true → Contains (filter p ys) x) → (y ≡ x) ⊎ Contains ys x → (b : Bool) → p y ≡ b
+          → Contains (filter p (y ∷ ys)) x
       by more (inl q) true r = subst (λ b. Contains (cond b (y ∷ filter p ys) (filter p ys)) x) (sym r) (subst (λ z. Contains (z ∷ filter p ys) x) (sym q) (Contains-head x (filter p ys)))
       by more (inl q) false r = let impossible : true ≡ false = sym e ∙ ap p (sym q) ∙ r in absurd cc
       by more (inr q) true r = subst (λ b. Contains (cond b (y ∷ filter p ys) (filter p ys)) x) (sym r) (Contains-tail y x (filter p ys) (more q e))
@@ -113,7 +114,8 @@ module _ {A B : Type 0} (f : A → Option B) where
   filter_map_to [] z h = Contains-nil z h
   filter_map_to (y ∷ ys) z h = by (filter_map_to ys z) (f y) refl h
     where
-      by : (Contains (filter_map f ys) z → Source f ys (Some z)) → (o : Option B) → f y ≡ o → Contains (cons_option o (filter_map f ys)) z → Source f (y ∷ ys) (Some z)
+      by : (Contains (filter_map f ys) z → Source f ys (Some z)) → (o : Option B) → f y ≡ o → Contains (cons_option o (filter_map f ys)) z
+          → Source f (y ∷ ys) (Some z)
       by more None r h' = let m = more h' in record { item = m.item; among = Contains-tail y m.item ys m.among; gives = m.gives }
       by more (Some w) r h' =
           elim (Contains-cons w z (filter_map f ys) h') [
@@ -128,7 +130,8 @@ both_true true b f g = sym (f refl)
 both_true false true f g = g refl
 both_true false false f g = refl
 
-pub any_same : {A B : Type 0} (p : A → Bool) (q : B → Bool) (xs : List A) (ys : List B) → (Found p xs → Found q ys) → (Found q ys → Found p xs) → list_any p xs ≡ list_any q ys
+pub any_same : {A B : Type 0} (p : A → Bool) (q : B → Bool) (xs : List A) (ys : List B) → (Found p xs → Found q ys)
+    → (Found q ys → Found p xs) → list_any p xs ≡ list_any q ys
 any_same p q xs ys f g =
     both_true (list_any p xs) (list_any q ys) (λ e. let m = f (any_to p xs e) in any_from q ys m.item m.among m.passes) (λ e. let m = g (any_to q ys e) in any_from p xs m.item m.among m.passes)
 
@@ -156,7 +159,8 @@ least_is x (y ∷ ys) = by (least_is (min x y) ys)
               elim (Contains-cons (min x y) (fold min (min x y) ys) ys i.among) [
                 | inl q ↦ elim (min_cases x y) [
                   | inl l ↦ subst (λ m. Contains (x ∷ y ∷ ys) m) (sym l ∙ q) (Contains-head x (y ∷ ys))
-                  | inr r ↦ Contains-tail x (fold min (min x y) ys) (y ∷ ys) (subst (λ m. Contains (y ∷ ys) m) (sym r ∙ q) (Contains-head y ys))
+                  | inr r ↦ Contains-tail x (fold min (min x y) ys) (y ∷ ys) (subst (λ m. Contains (y ∷ ys) m) (sym r
+                      ∙ q) (Contains-head y ys))
                 ]
                 | inr q ↦ Contains-tail x (fold min (min x y) ys) (y ∷ ys) (Contains-tail y (fold min (min x y) ys) ys q)
               ];
@@ -171,7 +175,8 @@ least_is x (y ∷ ys) = by (least_is (min x y) ys)
               ];
         }
 
-pub least_same : (xs ys : List ℕ) → ((n : ℕ) → Contains xs n → Contains ys n) → ((n : ℕ) → Contains ys n → Contains xs n) → reduce min xs ≡ reduce min ys
+pub least_same : (xs ys : List ℕ) → ((n : ℕ) → Contains xs n → Contains ys n) → ((n : ℕ) → Contains ys n → Contains xs n)
+    → reduce min xs ≡ reduce min ys
 least_same [] [] f g = refl
 least_same [] (y ∷ ys) f g = Contains-nil y (g y (Contains-head y ys))
 least_same (x ∷ xs) [] f g = Contains-nil x (f x (Contains-head x xs))

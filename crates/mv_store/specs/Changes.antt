@@ -13,9 +13,11 @@ use Rattle.mv_store.specs.Slots.{same_version}
 use Rattle.mv_store.specs.Keys.{HasKey, writer_slot, reader_slot, noted_of}
 
 -- the slots of one version at the keys of these items become these, and all others stay
-pub record Puts {P A : Type 0} (key_of : P → List ℕ) (slot_of : P → Option A) (items : List P) (version : Version) (old new : List ℕ → Version → Option A) : Type 0 where
+pub record Puts {P A : Type 0} (key_of : P → List ℕ) (slot_of : P → Option A) (items : List P) (version : Version)
+    (old new : List ℕ → Version → Option A) : Type 0 where
   pub put : (x : P) → Contains items x → new (key_of x) version ≡ slot_of x
-  pub others : (k : List ℕ) (v : Version) → (list_any (λ x. bytes_eq (key_of x) k) items && same_version version v) ≡ false → new k v ≡ old k v
+  pub others : (k : List ℕ) (v : Version)
+      → (list_any (λ x. bytes_eq (key_of x) k) items && same_version version v) ≡ false → new k v ≡ old k v
 
 -- the slot that a write leaves
 abbrev pub slot_of_write : Option Entered → WritePart → Option (Option Entered)
@@ -30,7 +32,8 @@ abbrev pub slot_of_read : Option Entered → ReadPart → Option (Option Reader)
 slot_of_read told r = option_map (λ e. Some (reader_of r e)) told
 
 -- all that changes is what is told at a version of the writers of the keys of these writes
-pub record PutsWrites (old new : Keys) (writes : List WritePart) (version : Version) (told : Option Entered) : Type 0 where
+pub record PutsWrites (old new : Keys) (writes : List WritePart) (version : Version) (told : Option Entered)
+    : Type 0 where
   pub writers : Puts key_of_write (slot_of_write told) writes version (writer_slot old) (writer_slot new)
   pub readers : (k : List ℕ) (v : Version) → reader_slot new k v ≡ reader_slot old k v
   pub noted : (k : List ℕ) → noted_of new k ≡ noted_of old k

@@ -4,11 +4,11 @@ use Rattle.std.specs.List.{list_any, reduce}
 use Rattle.std.specs.Str.{bytes_eq}
 use Rattle.basil_types.specs.declared.version.Version.{Version}
 use Rattle.basil_types.specs.Version.{below}
-use Rattle.basil_types.specs.Transaction.{TransactionValue, version_of}
-use Rattle.txn_meta.specs.Conflicts.{writes_key, is_between}
+use Rattle.basil_types.specs.Transaction.{TransactionValue, version_of, writes_key}
+use Rattle.basil_types.specs.Version.{is_between}
 use Rattle.mv_store.specs.declared.hits.Hits.{Hits}
 use Rattle.mv_store.specs.Slots.{same_version}
-use Rattle.mv_store.specs.Noted.{comes_before}
+use Rattle.mv_store.specs.Noted.{comes_before, greatest}
 
 -- an entered transaction, at its place in order of arrival
 pub record Held : Type 0 where
@@ -48,7 +48,8 @@ version_and_place h = (version h, h.place)
 -- the latest of these that writes or deletes the key at a version below this one
 abbrev pub latest_below : (Held → Bool) → List ℕ → Version → List Held → Option (Version × ℕ)
 latest_below these key bound held =
-    option_map version_and_place (latest (filter (λ h. these h && (writes_key h.transaction key && below (version h) bound)) held))
+    option_map version_and_place
+    (latest (filter (λ h. these h && (writes_key h.transaction key && below (version h) bound)) held))
 
 abbrev pub latest_committed : List ℕ → Version → List Held → Option (Version × ℕ)
 latest_committed = latest_below is_committed
@@ -82,7 +83,15 @@ reader_across key at held = hits (λ h. below at (version h) && reads_key_below 
 
 -- whether a read of the key is noted that comes behind this time and client
 abbrev pub read_above : List ℕ → ℕ → ℕ → List NotedRead → Bool
-read_above key time client noted = list_any (λ n. bytes_eq n.key key && comes_before (time, client) (n.time, n.client)) noted
+read_above key time client noted =
+    list_any (λ n. bytes_eq n.key key && comes_before (time, client) (n.time, n.client)) noted
+
+-- the greatest noted read of a key
+abbrev pub greatest_noted : List ℕ → List NotedRead → Option (ℕ × ℕ)
+greatest_noted key [] = None
+greatest_noted key (n ∷ noted) =
+    if bytes_eq n.key key then Some (greatest (greatest_noted key noted) (n.time, n.client))
+    else greatest_noted key noted
 
 -- ---- changes
 
@@ -92,7 +101,8 @@ removed held t = filter (λ h. not (same_version (version_of t) (version h))) he
 
 -- the others, and this one
 abbrev pub entered : List Held → TransactionValue → ℕ → Bool → List Held
-entered held t place committed = removed held t ++ (record { place = place; committed = committed; transaction = t }) ∷ []
+entered held t place committed =
+    removed held t ++ (record { place = place; committed = committed; transaction = t }) ∷ []
 
 -- no other transaction of its version is entered
 abbrev pub NoOther : List Held → TransactionValue → Type 0

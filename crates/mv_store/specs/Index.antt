@@ -1,6 +1,6 @@
 -- The index of one key.
 use Rattle.std.specs.Prelude.{ℕ, List, Bool, true, false, not, Option, Some, None, option_map, option_and_then, find, reverse, is_some, min, if◌then◌else◌}
-use Rattle.std.specs.List.{list_any, filter_map, reduce}
+use Rattle.std.specs.List.{list_any, filter_map, reduce, fold}
 use Rattle.std.specs.BTreeMap.Range.{entries_between}
 use Rattle.std.specs.declared.ops.Bound.TheVariants.{Excluded, Unbounded}
 use Rattle.basil_types.specs.Version.{version_cmp, below}
@@ -8,6 +8,7 @@ use Rattle.basil_types.specs.declared.version.Version.{Version}
 use Rattle.mv_store.specs.declared.index.Entered.{Entered}
 use Rattle.mv_store.specs.declared.index.Reader.{Reader}
 use Rattle.mv_store.specs.declared.hits.Hits.{Hits}
+use Rattle.mv_store.specs.Hits.{no_hits, joined}
 
 -- the place of a committed one
 abbrev pub place_if_committed : Entered → Option ℕ
@@ -32,6 +33,17 @@ abbrev pub is_told : Bool → Option Entered → Bool
 is_told committed None = false
 is_told true (Some e) = e.committed
 is_told false (Some e) = not e.committed
+
+-- what one slot tells of a writer, and of a reader that read the key below a version
+abbrev pub writer_hit : Option Entered → Hits
+writer_hit slot = record { any = is_some slot; committed = committed_place slot }
+
+abbrev pub reader_hit : Version → Option Reader → Hits
+reader_hit at slot = record { any = reads_below at slot; committed = committed_place_below at slot }
+
+-- what all of these slots tell
+abbrev pub walked : {T : Type 0} → (Option T → Hits) → List (Version × Option T) → Hits
+walked hit slots = fold (λ found e. joined found (hit e.1)) no_hits slots
 
 -- the slots at versions below one
 abbrev pub slots_below : Version → List (Version × Option Entered) → List (Version × Option Entered)
@@ -62,19 +74,23 @@ abbrev pub has_writer_between : Version → Version → List (Version × Option 
 has_writer_between low high entries = list_any (λ e. is_some e.1) (slots_between low high entries)
 
 abbrev pub least_committed_between : Version → Version → List (Version × Option Entered) → Option ℕ
-least_committed_between low high entries = reduce min (filter_map (λ e. committed_place e.1) (slots_between low high entries))
+least_committed_between low high entries =
+    reduce min (filter_map (λ e. committed_place e.1) (slots_between low high entries))
 
 -- both, of the writers strictly between two versions
 abbrev pub writers_between : Version → Version → List (Version × Option Entered) → Hits
-writers_between low high entries = record { any = has_writer_between low high entries; committed = least_committed_between low high entries }
+writers_between low high entries =
+    record { any = has_writer_between low high entries; committed = least_committed_between low high entries }
 
 -- whether there is a reader above a version that read the key below it, and the least place of a committed one
 abbrev pub has_reader_across : Version → List (Version × Option Reader) → Bool
 has_reader_across at entries = list_any (λ e. reads_below at e.1) (slots_above at entries)
 
 abbrev pub least_committed_across : Version → List (Version × Option Reader) → Option ℕ
-least_committed_across at entries = reduce min (filter_map (λ e. committed_place_below at e.1) (slots_above at entries))
+least_committed_across at entries =
+    reduce min (filter_map (λ e. committed_place_below at e.1) (slots_above at entries))
 
 -- both, of those readers
 abbrev pub readers_across : Version → List (Version × Option Reader) → Hits
-readers_across at entries = record { any = has_reader_across at entries; committed = least_committed_across at entries }
+readers_across at entries =
+    record { any = has_reader_across at entries; committed = least_committed_across at entries }

@@ -46,9 +46,12 @@ pub record OnlyRoom (old new : Keys) : Type 0 where
   pub reader_slots : (k : List ℕ) (v : Version) → IsSome (reader_slot old k v) → IsSome (reader_slot new k v)
   pub keys : (k : List ℕ) → HasKey old k → HasKey new k
 
--- all that changes is that the slot of a writer of this key, of this version, tells this, or is out where nothing is told
+-- all that changes is that the slot of a writer of this key, of this version, tells this, or is out where nothing is
+-- told
 pub record PutsWriter (old new : Keys) (key : List ℕ) (version : Version) (told : Option Entered) : Type 0 where
-  pub writers : (k : List ℕ) (v : Version) → writer_slot new k v ≡ (if bytes_eq key k && same_version version v then option_map Some told else writer_slot old k v)
+  pub writers : (k : List ℕ) (v : Version)
+      → writer_slot new k v
+      ≡ (if bytes_eq key k && same_version version v then option_map Some told else writer_slot old k v)
   pub readers : (k : List ℕ) (v : Version) → reader_slot new k v ≡ reader_slot old k v
   pub noted : (k : List ℕ) → noted_of new k ≡ noted_of old k
   pub keys : (k : List ℕ) → HasKey old k → HasKey new k
@@ -56,7 +59,9 @@ pub record PutsWriter (old new : Keys) (key : List ℕ) (version : Version) (tol
 -- the same of a reader
 pub record PutsReader (old new : Keys) (key : List ℕ) (version : Version) (told : Option Reader) : Type 0 where
   pub writers : (k : List ℕ) (v : Version) → writer_slot new k v ≡ writer_slot old k v
-  pub readers : (k : List ℕ) (v : Version) → reader_slot new k v ≡ (if bytes_eq key k && same_version version v then option_map Some told else reader_slot old k v)
+  pub readers : (k : List ℕ) (v : Version)
+      → reader_slot new k v
+      ≡ (if bytes_eq key k && same_version version v then option_map Some told else reader_slot old k v)
   pub noted : (k : List ℕ) → noted_of new k ≡ noted_of old k
   pub keys : (k : List ℕ) → HasKey old k → HasKey new k
 
@@ -64,5 +69,6 @@ pub record PutsReader (old new : Keys) (key : List ℕ) (version : Version) (tol
 pub record Notes (old new : Keys) (key : List ℕ) (read : ℕ × ℕ) : Type 0 where
   pub writers : (k : List ℕ) (v : Version) → writer_slot new k v ≡ writer_slot old k v
   pub readers : (k : List ℕ) (v : Version) → reader_slot new k v ≡ reader_slot old k v
-  pub noted : (k : List ℕ) → noted_of new k ≡ (if bytes_eq key k then Some (greatest (noted_of old k) read) else noted_of old k)
+  pub noted : (k : List ℕ)
+      → noted_of new k ≡ (if bytes_eq key k then Some (greatest (noted_of old k) read) else noted_of old k)
   pub keys : (k : List ℕ) → HasKey old k → HasKey new k

@@ -1,13 +1,12 @@
 -- What a store stands for.
-use Rattle.std.specs.Prelude.{◌≡◌, ℕ, true, List, Some, IsSome, All, Contains, ◌↔◌}
+use Rattle.std.specs.Prelude.{◌≡◌, ℕ, Bool, true, List, Some, IsSome, All, Contains, ◌↔◌}
 use Rattle.basil_types.specs.declared.version.Version.{Version}
 use Rattle.basil_types.specs.declared.transaction.parts.ReadPart.{ReadPart}
-use Rattle.basil_types.specs.Transaction.{TransactionValue, version_of}
-use Rattle.txn_meta.specs.Conflicts.{writes_key}
+use Rattle.basil_types.specs.Transaction.{TransactionValue, version_of, writes_key}
 use Rattle.mv_store.specs.declared.index.Entered.{Entered}
 use Rattle.mv_store.specs.declared.index.Reader.{Reader}
 use Rattle.mv_store.specs.declared.store.Store.{Store}
-use Rattle.mv_store.specs.Held.{Held, NotedRead, version, read_above}
+use Rattle.mv_store.specs.Held.{Held, NotedRead, version, read_above, entered, removed, NoOther, greatest_noted}
 use Rattle.mv_store.specs.Keys.{HasKey, writer_slot, reader_slot, writer_at, reader_at, noted_of}
 use Rattle.mv_store.specs.Noted.{is_above}
 
@@ -40,13 +39,32 @@ pub record IsReader (held : List Held) (key : List ℕ) (v : Version) (e : Reade
 -- the store tells of exactly these transactions and noted reads, in any order
 pub record Stands (store : Store) (held : List Held) (noted : List NotedRead) : Type 0 where
   -- a transaction stands at its version among the writers of each key that it writes
-  pub written : (h : Held) (key : List ℕ) → Contains held h → writes_key h.transaction key ≡ true → writer_at store.keys key (version h) ≡ Some (entry h)
-  pub writers : (key : List ℕ) (v : Version) (e : Entered) → writer_at store.keys key v ≡ Some e → IsWriter held key v e
+  pub written : (h : Held) (key : List ℕ) → Contains held h → writes_key h.transaction key ≡ true
+      → writer_at store.keys key (version h) ≡ Some (entry h)
+  pub writers : (key : List ℕ) (v : Version) (e : Entered) → writer_at store.keys key v ≡ Some e
+      → IsWriter held key v e
   -- and among the readers of each key that it reads
-  pub read : (h : Held) (r : ReadPart) → Contains held h → Contains h.transaction.reads r → reader_at store.keys r.key (version h) ≡ Some (read_entry h r)
-  pub readers : (key : List ℕ) (v : Version) (e : Reader) → reader_at store.keys key v ≡ Some e → IsReader held key v e
+  pub read : (h : Held) (r : ReadPart) → Contains held h → Contains h.transaction.reads r
+      → reader_at store.keys r.key (version h) ≡ Some (read_entry h r)
+  pub readers : (key : List ℕ) (v : Version) (e : Reader) → reader_at store.keys key v ≡ Some e
+      → IsReader held key v e
   -- a read is noted behind another exactly where the greatest one is
-  pub behind : (key : List ℕ) (time client : ℕ) → is_above (noted_of store.keys key) (time, client) ≡ read_above key time client noted
+  pub behind : (key : List ℕ) (time client : ℕ)
+      → is_above (noted_of store.keys key) (time, client) ≡ read_above key time client noted
+
+-- what the one stood for the other stands for
+abbrev pub KeepsStanding : (old new : Store) → Type 0
+KeepsStanding old new = (held : List Held) (noted : List NotedRead) → Stands old held noted → Stands new held noted
+
+-- the other stands for this transaction too, at this place and in this state, where no other of its version is entered
+abbrev pub Enters : (old new : Store) → TransactionValue → ℕ → Bool → Type 0
+Enters old new t place committed = (held : List Held) (noted : List NotedRead) → Stands old held noted → NoOther held t
+    → Stands new (entered held t place committed) noted
+
+-- the other doesn't stand for this transaction
+abbrev pub TakesOut : (old new : Store) → TransactionValue → Type 0
+TakesOut old new t = (held : List Held) (noted : List NotedRead) → Stands old held noted → NoOther held t
+    → Stands new (removed held t) noted
 
 -- there is room to enter this transaction
 pub record HasRoom (store : Store) (t : TransactionValue) : Type 0 where
@@ -60,3 +78,23 @@ HasReadRoom store key = HasKey store.keys key
 -- two lists with the same elements
 abbrev pub HaveSame : {A : Type 0} → List A → List A → Type 0
 HaveSame {A} xs ys = (x : A) → Contains xs x ↔ Contains ys x
+
+-- ---- noted reads
+
+-- two lists of noted reads that answer alike
+abbrev pub AnswerAlike : (noted others : List NotedRead) → Type 0
+AnswerAlike noted others = (key : List ℕ) (time client : ℕ)
+    → read_above key time client noted ≡ read_above key time client others
+
+-- the greatest noted read of a key answers for all of them
+abbrev pub GreatestAnswers : Type 0
+GreatestAnswers = (key : List ℕ) (time client : ℕ) (noted : List NotedRead)
+    → read_above key time client noted ≡ is_above (greatest_noted key noted) (time, client)
+
+-- a store that stands for noted reads stands for others that answer alike: those with the same greatest read of each
+-- key
+pub record GreatestDecide : Type 0 where
+  pub alike : (store : Store) (held : List Held) (noted others : List NotedRead) → Stands store held noted
+      → AnswerAlike noted others → Stands store held others
+  pub greatest : (store : Store) (held : List Held) (noted others : List NotedRead) → Stands store held noted
+      → ((key : List ℕ) → greatest_noted key noted ≡ greatest_noted key others) → Stands store held others

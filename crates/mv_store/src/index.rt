@@ -13,7 +13,7 @@ use std::alloc::Global;
 use std::ops::Bound;
 
 /// An entered transaction: its place in order of arrival, and whether it is committed.
-#[derive(Clone, Copy, Debug)]
+#[derive(Clone, Copy)]
 pub(crate) struct Entered {
     pub(crate) place: u32,
     pub(crate) committed: bool,
@@ -33,14 +33,14 @@ impl Entered {
 }
 
 /// An entered transaction that read the key, with the version that it read.
-#[derive(Clone, Copy, Debug)]
+#[derive(Clone, Copy)]
 pub(crate) struct Reader {
     pub(crate) read: Version,
     pub(crate) entered: Entered,
 }
 
 /// Which entered transactions wrote and read one key, by their versions, and the greatest noted read of it.
-#[derive(Debug, Drop)]
+#[derive(Drop)]
 pub(crate) struct KeyIndex {
     pub(crate) writers: Slots<Entered>,
     pub(crate) readers: Slots<Reader>,
@@ -126,33 +126,21 @@ impl KeyIndex {
         if !low.is_below(high) {
             return Hits::none();
         }
-        Hits {
-            any: self.has_writer_between(low, high),
-            committed: self.least_committed_between(low, high),
-        }
+        self.walked_between(low, high)
     }
 
-    /// Whether there is a writer strictly between two versions.
-    fn has_writer_between(&self, low: &Version, high: &Version) -> bool
+    /// What one walk over the writers strictly between two versions tells.
+    fn walked_between(&self, low: &Version, high: &Version) -> Hits
         requires { below low.now high.now ≡ true }
-        ensures { result ≡ Index.has_writer_between low.now high.now self.now.writers.map.entries }
+        ensures { result ≡ Index.walked Index.writer_hit
+            (Index.slots_between low.now high.now self.now.writers.map.entries) }
     {
         self.writers
             .map
             .range((Bound::Excluded(*low), Bound::Excluded(*high)))
-            .any(|(_, slot)| slot.is_some())
-    }
-
-    /// The least place of a committed writer strictly between two versions.
-    fn least_committed_between(&self, low: &Version, high: &Version) -> Option<u32>
-        requires { below low.now high.now ≡ true }
-        ensures { result ≡ Index.least_committed_between low.now high.now self.now.writers.map.entries }
-    {
-        self.writers
-            .map
-            .range((Bound::Excluded(*low), Bound::Excluded(*high)))
-            .filter_map(|(_, slot)| committed_place(slot))
-            .min()
+            .fold(Hits::none(), |found, (_, slot)| {
+                found.join(writer_hit(slot))
+            })
     }
 
     /// The readers above a version that read the key below it.
@@ -160,32 +148,22 @@ impl KeyIndex {
         ensures value { result ≡ Index.readers_across at.now self.now.readers.map.entries }
         ensures ordered { IsOrdered version_cmp self.now.readers.map }
     {
-        Hits {
-            any: self.has_reader_across(at),
-            committed: self.least_committed_across(at),
-        }
+        // The length tells beside it that the versions ascend.
+        let _ = self.readers.map.len();
+        self.walked_above(at)
     }
 
-    /// Whether a reader above a version read the key below it.
-    fn has_reader_across(&self, at: &Version) -> bool
-        ensures value { result ≡ Index.has_reader_across at.now self.now.readers.map.entries }
-        ensures ordered { IsOrdered version_cmp self.now.readers.map }
+    /// What one walk over the readers above a version tells of those that read the key below it.
+    fn walked_above(&self, at: &Version) -> Hits
+        ensures { result ≡ Index.walked (Index.reader_hit at.now)
+            (Index.slots_above at.now self.now.readers.map.entries) }
     {
         self.readers
             .map
             .range((Bound::Excluded(*at), Bound::Unbounded))
-            .any(|(_, slot)| reads_below(slot, at))
-    }
-
-    /// The least place of a committed reader above a version that read the key below it.
-    fn least_committed_across(&self, at: &Version) -> Option<u32>
-        ensures { result ≡ Index.least_committed_across at.now self.now.readers.map.entries }
-    {
-        self.readers
-            .map
-            .range((Bound::Excluded(*at), Bound::Unbounded))
-            .filter_map(|(_, slot)| committed_place_below(slot, at))
-            .min()
+            .fold(Hits::none(), |found, (_, slot)| {
+                found.join(reader_hit(slot, at))
+            })
     }
 }
 
@@ -199,6 +177,16 @@ fn is_told(slot: &Option<Entered>, committed: bool) -> bool
     }
 }
 
+/// What the slot of a writer tells.
+fn writer_hit(slot: &Option<Entered>) -> Hits
+    ensures { result ≡ Index.writer_hit slot.now }
+{
+    Hits {
+        any: slot.is_some(),
+        committed: committed_place(slot),
+    }
+}
+
 /// The place of a committed writer.
 fn committed_place(slot: &Option<Entered>) -> Option<u32>
     ensures { result ≡ Index.committed_place slot.now }
@@ -206,6 +194,16 @@ fn committed_place(slot: &Option<Entered>) -> Option<u32>
     match slot {
         Some(entered) => entered.committed_place(),
         None => None,
+    }
+}
+
+/// What the slot of a reader tells, if it read the key below a version.
+fn reader_hit(slot: &Option<Reader>, at: &Version) -> Hits
+    ensures { result ≡ Index.reader_hit at.now slot.now }
+{
+    Hits {
+        any: reads_below(slot, at),
+        committed: committed_place_below(slot, at),
     }
 }
 

@@ -9,7 +9,7 @@ use indexmap::IndexMap;
 use std::alloc::Global;
 
 /// The indexes of keys. A key that no transaction reads or writes may have one too.
-#[derive(Debug, Drop)]
+#[derive(Drop)]
 pub(crate) struct Keys {
     map: IndexMap<Vec<u8>, KeyIndex>,
     alloc: Global,

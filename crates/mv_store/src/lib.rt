@@ -1,5 +1,5 @@
-//! Which transactions read and wrote which versions of which keys, at one replica (Basil, multiversion timestamp ordering
-//! check).
+//! Which transactions read and wrote which versions of which keys, at one replica (Basil, multiversion timestamp
+//! ordering check).
 #![tactic(auto)]
 
 pub mod hits;
@@ -8,5 +8,3 @@ mod keys;
 pub mod laws;
 mod slots;
 pub mod store;
-#[cfg(test)]
-mod tests;

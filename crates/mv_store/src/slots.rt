@@ -9,7 +9,7 @@ use std::alloc::Global;
 use std::collections::BTreeMap;
 
 /// What is told at versions. A slot with nothing in it stands for room alone.
-#[derive(Debug, Drop)]
+#[derive(Drop)]
 pub(crate) struct Slots<T> {
     pub(crate) map: BTreeMap<Version, Option<T>>,
 }
@@ -42,7 +42,8 @@ impl<T: Drop> Slots<T> {
     /// Tells this of a version with room, or takes its slot out where nothing is told.
     pub(crate) fn put(&mut self, version: &Version, told: Option<T>)
         requires { IsSome told → IsSome (slot_at self.old version.now) }
-        ensures { (v : Version) → slot_at self.new v ≡ slot_after version.now (option_map Some told) v (slot_at self.old v) }
+        ensures { (v : Version) → slot_at self.new v
+            ≡ slot_after version.now (option_map Some told) v (slot_at self.old v) }
     {
         match told {
             Some(told) => match self.map.insert(*version, Some(told)) {

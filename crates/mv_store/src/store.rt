@@ -4,7 +4,7 @@ ghost use Rattle.std.specs.Prelude.{◌≡◌, List, ℕ, [], ◌∷◌, IsSome,
 ghost use Rattle.basil_types.specs.Shown.{transaction_of};
 ghost use Rattle.basil_types.specs.Transaction.{TransactionValue};
 ghost use Rattle.mv_store.specs.Held;
-ghost use Rattle.mv_store.specs.Held.{Held, NotedRead, entered, removed, NoOther};
+ghost use Rattle.mv_store.specs.Held.{Held, NotedRead};
 
 use crate::hits::Hits;
 use crate::index::{Entered, Reader};
@@ -17,7 +17,7 @@ use txn_meta::form::version_of;
 
 /// The transactions that are entered at a replica, prepared or committed, by the keys that they read and write, and the
 /// noted reads. Contracts see the lists of these that the store stands for, in any order.
-#[derive(Debug, Drop)]
+#[derive(Drop)]
 pub struct Store {
     keys: Keys,
 }
@@ -25,7 +25,7 @@ pub struct Store {
 impl Store {
     ghost use Rattle.mv_store.specs.Keys.{HasKey, writer_slot, reader_slot, OnlyRoom};
     ghost use Rattle.mv_store.specs.Changes.{PutsWrites, PutsReads, Tells};
-    ghost use Rattle.mv_store.specs.Store.{Stands, HasRoom, HasReadRoom};
+    ghost use Rattle.mv_store.specs.Store.{Stands, KeepsStanding, Enters, TakesOut, HasRoom, HasReadRoom};
 
     /// A store of no transaction and no read.
     pub fn new(alloc: Global) -> Store
@@ -36,11 +36,11 @@ impl Store {
         }
     }
 
-    /// Makes room for a transaction, or finds memory wanting. Either way the store stands for what it stood for. Only the
-    /// room of the last call counts.
+    /// Makes room for a transaction, or finds memory wanting. Either way the store stands for what it stood for. Only
+    /// the room of the last call counts.
     pub fn make_room(&mut self, t: TransactionView<'_>) -> Result<(), NoMemory>
         ensures room { OnOk result (HasRoom self.new (transaction_of t.entry)) }
-        ensures as_before { (held : List Held) (noted : List NotedRead) → Stands self.old held noted → Stands self.new held noted }
+        ensures as_before { KeepsStanding self.old self.new }
         ensures read_room { (key : List ℕ) → HasReadRoom self.old key → HasReadRoom self.new key }
     {
         let version = version_of(t);
@@ -48,22 +48,21 @@ impl Store {
         self.room_for_reads(t, &version)
     }
 
-    /// Makes room for the note of a read of a key, or finds memory wanting. Either way the store stands for what it stood
-    /// for. Only the room of the last call counts.
+    /// Makes room for the note of a read of a key, or finds memory wanting. Either way the store stands for what it
+    /// stood for. Only the room of the last call counts.
     pub fn room_for_read(&mut self, key: &[u8]) -> Result<(), NoMemory>
         ensures room { OnOk result (HasReadRoom self.new key.now) }
-        ensures as_before { (held : List Held) (noted : List NotedRead) → Stands self.old held noted → Stands self.new held noted }
+        ensures as_before { KeepsStanding self.old self.new }
         ensures other_room { (t : TransactionValue) → HasRoom self.old t → HasRoom self.new t }
     {
         self.keys.add_key(key)
     }
 
-    /// Enters a transaction for which there is room, at this place, prepared or committed, where no other transaction of
-    /// its version is entered. One that is entered already gets this place and state, and needs no room made.
+    /// Enters a transaction for which there is room, at this place, prepared or committed, where no other transaction
+    /// of its version is entered. One that is entered already gets this place and state, and needs no room made.
     pub fn set(&mut self, t: TransactionView<'_>, place: u32, committed: bool)
         requires { HasRoom self.old (transaction_of t) }
-        ensures entered { (held : List Held) (noted : List NotedRead) → Stands self.old held noted → NoOther held (transaction_of t.entry)
-            → Stands self.new (entered held (transaction_of t.entry) place committed) noted }
+        ensures entered { Enters self.old self.new (transaction_of t.entry) place committed }
         ensures room { HasRoom self.new (transaction_of t.entry) }
         ensures read_room { (key : List ℕ) → HasReadRoom self.old key → HasReadRoom self.new key }
     {
@@ -72,8 +71,7 @@ impl Store {
 
     /// Takes an entered transaction out, where no other transaction of its version is entered.
     pub fn remove(&mut self, t: TransactionView<'_>)
-        ensures removed { (held : List Held) (noted : List NotedRead) → Stands self.old held noted → NoOther held (transaction_of t.entry)
-            → Stands self.new (removed held (transaction_of t.entry)) noted }
+        ensures removed { TakesOut self.old self.new (transaction_of t.entry) }
         ensures read_room { (key : List ℕ) → HasReadRoom self.old key → HasReadRoom self.new key }
     {
         self.tell(t, None);
@@ -93,7 +91,8 @@ impl Store {
     /// The version and the place of the latest committed transaction that writes or deletes the key at a version below
     /// this one. None exactly where there is none.
     pub fn latest_committed(&self, key: &[u8], below: &Version) -> Option<(Version, u32)>
-        ensures { (held : List Held) (noted : List NotedRead) → Stands self.now held noted → result ≡ Held.latest_committed key.now below.now held }
+        ensures { (held : List Held) (noted : List NotedRead) → Stands self.now held noted
+            → result ≡ Held.latest_committed key.now below.now held }
     {
         self.keys.find(key)?.latest(true, below)
     }
@@ -101,14 +100,16 @@ impl Store {
     /// The version and the place of the latest prepared transaction that writes or deletes the key at a version below
     /// this one. None exactly where there is none.
     pub fn latest_prepared(&self, key: &[u8], below: &Version) -> Option<(Version, u32)>
-        ensures { (held : List Held) (noted : List NotedRead) → Stands self.now held noted → result ≡ Held.latest_prepared key.now below.now held }
+        ensures { (held : List Held) (noted : List NotedRead) → Stands self.now held noted
+            → result ≡ Held.latest_prepared key.now below.now held }
     {
         self.keys.find(key)?.latest(false, below)
     }
 
     /// The entered transactions that write or delete the key at a version strictly between these.
     pub fn writer_between(&self, key: &[u8], low: &Version, high: &Version) -> Hits
-        ensures { (held : List Held) (noted : List NotedRead) → Stands self.now held noted → result ≡ Held.writer_between key.now low.now high.now held }
+        ensures { (held : List Held) (noted : List NotedRead) → Stands self.now held noted
+            → result ≡ Held.writer_between key.now low.now high.now held }
     {
         match self.keys.find(key) {
             Some(index) => index.writers_between(low, high),
@@ -118,7 +119,8 @@ impl Store {
 
     /// The entered transactions of a version above this one that read the key at a version below it.
     pub fn reader_across(&self, key: &[u8], at: &Version) -> Hits
-        ensures { (held : List Held) (noted : List NotedRead) → Stands self.now held noted → result ≡ Held.reader_across key.now at.now held }
+        ensures { (held : List Held) (noted : List NotedRead) → Stands self.now held noted
+            → result ≡ Held.reader_across key.now at.now held }
     {
         match self.keys.find(key) {
             Some(index) => index.readers_across(at),
@@ -128,7 +130,8 @@ impl Store {
 
     /// Whether a read of the key is noted that comes behind this time and client.
     pub fn read_above(&self, key: &[u8], time: u64, client: u8) -> bool
-        ensures { (held : List Held) (noted : List NotedRead) → Stands self.now held noted → result ≡ Held.read_above key.now time client noted }
+        ensures { (held : List Held) (noted : List NotedRead) → Stands self.now held noted
+            → result ≡ Held.read_above key.now time client noted }
     {
         match self.keys.find(key) {
             Some(index) => index.is_read_above(time, client),
@@ -148,7 +151,8 @@ impl Store {
 
     /// Tells this of a version at the keys of the writes.
     fn put_writes(&mut self, t: TransactionView<'_>, version: &Version, told: Option<Entered>)
-        requires { IsSome told → All (λ w. IsSome (writer_slot self.old.keys w.key version.now)) (transaction_of t).writes }
+        requires { IsSome told
+            → All (λ w. IsSome (writer_slot self.old.keys w.key version.now)) (transaction_of t).writes }
         ensures { PutsWrites self.old.keys self.new.keys (transaction_of t.entry).writes version.now told }
     {
         let _ = t.bytes();
@@ -162,7 +166,8 @@ impl Store {
 
     /// Tells this of a version at the keys of the reads.
     fn put_reads(&mut self, t: TransactionView<'_>, version: &Version, told: Option<Entered>)
-        requires { IsSome told → All (λ r. IsSome (reader_slot self.old.keys r.key version.now)) (transaction_of t).reads }
+        requires { IsSome told
+            → All (λ r. IsSome (reader_slot self.old.keys r.key version.now)) (transaction_of t).reads }
         ensures { PutsReads self.old.keys self.new.keys (transaction_of t.entry).reads version.now told }
     {
         let _ = t.bytes();
@@ -177,7 +182,8 @@ impl Store {
 
     /// Makes room at the keys of the writes.
     fn room_for_writes(&mut self, t: TransactionView<'_>, version: &Version) -> Result<(), NoMemory>
-        ensures room { OnOk result (All (λ w. IsSome (writer_slot self.new.keys w.key version.now)) (transaction_of t.entry).writes) }
+        ensures room { OnOk result
+            (All (λ w. IsSome (writer_slot self.new.keys w.key version.now)) (transaction_of t.entry).writes) }
         ensures as_before { OnlyRoom self.old.keys self.new.keys }
     {
         let _ = t.bytes();
@@ -192,7 +198,8 @@ impl Store {
 
     /// Makes room at the keys of the reads.
     fn room_for_reads(&mut self, t: TransactionView<'_>, version: &Version) -> Result<(), NoMemory>
-        ensures room { OnOk result (All (λ r. IsSome (reader_slot self.new.keys r.key version.now)) (transaction_of t.entry).reads) }
+        ensures room { OnOk result
+            (All (λ r. IsSome (reader_slot self.new.keys r.key version.now)) (transaction_of t.entry).reads) }
         ensures as_before { OnlyRoom self.old.keys self.new.keys }
     {
         let _ = t.bytes();

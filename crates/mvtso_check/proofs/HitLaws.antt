@@ -1,79 +1,44 @@
--- The least of several places.
-use Rattle.std.proofs.Common.{◌≡◌, ℕ, Bool, true, false, cond, List, [], ◌∷◌, Option, Some, None, map, refl, sym, ap, ◌∙◌, arith}
+-- The least place of those that pass a test.
+use Rattle.std.proofs.Common.{◌≡◌, ℕ, Bool, true, false, cond, List, [], ◌∷◌, Option, Some, None, map, refl, sym, ap, ◌∙◌}
 use Rattle.std.specs.Prelude.{min, filter, ◌||◌, ◌&&◌}
 use Rattle.std.specs.List.{reduce, list_any}
-use Rattle.mvtso_check.specs.Crossings.{least}
-
-pub least_none : (a : Option ℕ) → least a None ≡ a
-least_none None = refl
-least_none (Some a) = refl
-
-min_assoc : (a b c : ℕ) → min (min a b) c ≡ min a (min b c)
-min_assoc a b c = omega arith
-
-min_comm' : (a b : ℕ) → min a b ≡ min b a
-min_comm' a b = omega arith
-
-min_twice : (n a b : ℕ) → min n (min a b) ≡ min (min n a) (min n b)
-min_twice n a b = omega arith
-
-min_once : (n : ℕ) → n ≡ min n n
-min_once n = omega arith
-
-min_left : (n a : ℕ) → min n a ≡ min (min n a) n
-min_left n a = omega arith
-
-min_right : (n a : ℕ) → min n a ≡ min n (min n a)
-min_right n a = omega arith
-
-pub least_assoc : (a b c : Option ℕ) → least (least a b) c ≡ least a (least b c)
-least_assoc None b c = refl
-least_assoc (Some a) None c = refl
-least_assoc (Some a) (Some b) None = refl
-least_assoc (Some a) (Some b) (Some c) = ap Some (min_assoc a b c)
-
-pub least_comm : (a b : Option ℕ) → least a b ≡ least b a
-least_comm None b = sym (least_none b)
-least_comm (Some a) None = refl
-least_comm (Some a) (Some b) = ap Some (min_comm' a b)
-
--- a place counts once
-least_twice : (n : ℕ) (a b : Option ℕ) → least (Some n) (least a b) ≡ least (least (Some n) a) (least (Some n) b)
-least_twice n None None = ap Some (min_once n)
-least_twice n None (Some b) = ap Some (min_right n b)
-least_twice n (Some a) None = ap Some (min_left n a)
-least_twice n (Some a) (Some b) = ap Some (min_twice n a b)
-
-pub reduce_cons : (x : ℕ) (xs : List ℕ) → reduce min (x ∷ xs) ≡ least (Some x) (reduce min xs)
-reduce_cons x [] = refl
-reduce_cons x (y ∷ ys) = reduce_cons (min x y) ys ∙ least_assoc (Some x) (Some y) (reduce min ys) ∙ ap (least (Some x)) (sym (reduce_cons y ys))
+use Rattle.mv_store.specs.Hits.{least}
+use Rattle.mv_store.proofs.HitLaws.{least_assoc, least_comm, least_twice, reduce_cons}
 
 -- the least place of those that pass
 abbrev pub least_of : {A : Type 0} → (A → Bool) → (A → ℕ) → List A → Option ℕ
 least_of p f xs = reduce min (map f (filter p xs))
 
-cons_by : {A : Type 0} (p : A → Bool) (f : A → ℕ) (x : A) (xs : List A) (b : Bool) → p x ≡ b → least_of p f (x ∷ xs) ≡ cond b (least (Some (f x)) (least_of p f xs)) (least_of p f xs)
+cons_by : {A : Type 0} (p : A → Bool) (f : A → ℕ) (x : A) (xs : List A) (b : Bool) → p x ≡ b
+    → least_of p f (x ∷ xs) ≡ cond b (least (Some (f x)) (least_of p f xs)) (least_of p f xs)
 cons_by p f x xs true e = ap (λ b. reduce min (map f (cond b (x ∷ filter p xs) (filter p xs)))) e ∙ reduce_cons (f x) (map f (filter p xs))
 cons_by p f x xs false e = ap (λ b. reduce min (map f (cond b (x ∷ filter p xs) (filter p xs)))) e
 
-pub least_of_cons : {A : Type 0} (p : A → Bool) (f : A → ℕ) (x : A) (xs : List A) → least_of p f (x ∷ xs) ≡ cond (p x) (least (Some (f x)) (least_of p f xs)) (least_of p f xs)
+pub least_of_cons : {A : Type 0} (p : A → Bool) (f : A → ℕ) (x : A) (xs : List A)
+    → least_of p f (x ∷ xs) ≡ cond (p x) (least (Some (f x)) (least_of p f xs)) (least_of p f xs)
 least_of_cons p f x xs = cons_by p f x xs (p x) refl
 
 -- ---- what passes one of two tests
 
-either : (c p q : Bool) (n : ℕ) (u a b : Option ℕ) → u ≡ least a b → cond (c && (p || q)) (least (Some n) u) u ≡ least (cond (c && p) (least (Some n) a) a) (cond (c && q) (least (Some n) b) b)
+either : (c p q : Bool) (n : ℕ) (u a b : Option ℕ) → u ≡ least a b
+    → cond (c && (p || q)) (least (Some n) u) u ≡ least (cond (c && p) (least (Some n) a) a) (cond (c && q) (least (Some n) b) b)
 either false p q n u a b e = e
 either true false false n u a b e = e
 either true true false n u a b e = ap (least (Some n)) e ∙ sym (least_assoc (Some n) a b)
-either true false true n u a b e = ap (least (Some n)) (e ∙ least_comm a b) ∙ sym (least_assoc (Some n) b a) ∙ least_comm (least (Some n) b) a
+either true false true n u a b e = ap (least (Some n)) (e ∙ least_comm a b) ∙ sym (least_assoc (Some n) b a)
+    ∙ least_comm (least (Some n) b) a
 either true true true n u a b e = ap (least (Some n)) e ∙ least_twice n a b
 
-pub least_either : {A : Type 0} (c p q : A → Bool) (f : A → ℕ) (xs : List A) → least_of (λ x. c x && (p x || q x)) f xs ≡ least (least_of (λ x. c x && p x) f xs) (least_of (λ x. c x && q x) f xs)
+pub least_either : {A : Type 0} (c p q : A → Bool) (f : A → ℕ) (xs : List A)
+    → least_of (λ x. c x && (p x || q x)) f xs ≡ least (least_of (λ x. c x && p x) f xs) (least_of (λ x. c x && q x) f xs)
 least_either c p q f [] = refl
 least_either c p q f (x ∷ xs) =
     least_of_cons (λ x. c x && (p x || q x)) f x xs
-    ∙ either (c x) (p x) (q x) (f x) (least_of (λ x. c x && (p x || q x)) f xs) (least_of (λ x. c x && p x) f xs) (least_of (λ x. c x && q x) f xs) (least_either c p q f xs)
-    ∙ sym (ap (λ a. least a (least_of (λ x. c x && q x) f (x ∷ xs))) (least_of_cons (λ x. c x && p x) f x xs) ∙ ap (least (cond (c x && p x) (least (Some (f x)) (least_of (λ x. c x && p x) f xs)) (least_of (λ x. c x && p x) f xs))) (least_of_cons (λ x. c x && q x) f x xs))
+    ∙ either (c x) (p x) (q x) (f x) (least_of (λ x. c x && (p x || q x)) f xs) (least_of (λ x. c x && p x) f xs) (least_of (λ x. c x
+    && q x) f xs) (least_either c p q f xs)
+    ∙ sym (ap (λ a. least a (least_of (λ x. c x && q x) f (x ∷ xs))) (least_of_cons (λ x. c x && p x) f x xs)
+    ∙ ap (least (cond (c x && p x) (least (Some (f x)) (least_of (λ x. c x && p x) f xs)) (least_of (λ x. c x
+    && p x) f xs))) (least_of_cons (λ x. c x && q x) f x xs))
 
 or_swap : (p q a b : Bool) → ((p || q) || (a || b)) ≡ ((p || a) || (q || b))
 or_swap true q a b = refl

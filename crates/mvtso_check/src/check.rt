@@ -32,7 +32,9 @@ pub fn check(
     now: u64,
     t: TransactionView<'_>,
 ) -> Verdict
-    ensures { (noted : List NotedRead) → Stands store.now (held_in table.now.entries) noted → result ≡ rules.verdict (record { cluster = cluster.now; shard = shard }) now (record { entries = table.now.entries; noted = noted }) (transaction_of t.entry) }
+    ensures { (noted : List NotedRead) → Stands store.now (held_in table.now.entries) noted
+        → result ≡ rules.verdict (record { cluster = cluster.now; shard = shard }) now
+        (record { entries = table.now.entries; noted = noted }) (transaction_of t.entry) }
 {
     let home = Home {
         cluster: *cluster,
@@ -57,7 +59,9 @@ fn must_abort(
     t: TransactionView<'_>,
     crossed: bool,
 ) -> bool
-    ensures { (held : List Held) (noted : List NotedRead) → Stands store.now held noted → result ≡ (rules.is_late home.now now (transaction_of t.entry) || rules.has_broken_dependency home.now (record { entries = table.now.entries; noted = noted }) (transaction_of t.entry) || crossed || rules.is_read_later home.now (record { entries = table.now.entries; noted = noted }) (transaction_of t.entry)) }
+    ensures { (held : List Held) (noted : List NotedRead) → Stands store.now held noted → result
+        ≡ rules.must_abort_where home.now now (record { entries = table.now.entries; noted = noted })
+        (transaction_of t.entry) crossed }
 {
     is_late(t.time(), now, home.cluster.delta)
         || has_broken(table, home, t)

@@ -1,14 +1,14 @@
 //! Which entered transactions conflict with a transaction on keys of the shard.
 
-ghost use Rattle.std.specs.Prelude.{◌≡◌, ◌&&◌, ◌||◌, List};
+ghost use Rattle.std.specs.Prelude.{◌≡◌, List};
 ghost use Rattle.std.specs.List.{list_any};
 ghost use Rattle.basil_types.specs.Shown.{transaction_of, read_of, write_of};
 ghost use Rattle.basil_types.specs.Transaction.{version_of};
-ghost use Rattle.mv_store.specs.Hits.{no_hits};
 ghost use Rattle.mv_store.specs.Held as held_values;
 ghost use Rattle.mv_store.specs.Held.{Held, NotedRead};
 ghost use Rattle.mv_store.specs.Store.{Stands};
 ghost use Rattle.mvtso_check.specs.Crossings as crossings;
+ghost use Rattle.txn_meta.specs.Conflicts.{conflict_in, is_crossed_in, crosses_in};
 ghost use Rattle.mvtso_check.specs.Verdict as rules;
 
 use basil_types::transaction::TransactionView;
@@ -22,28 +22,29 @@ use txn_table::released::Home;
 
 /// The entered transactions that conflict with this one on a key of the shard.
 pub(crate) fn conflicting(store: &Store, home: &Home, t: TransactionView<'_>) -> Hits
-    ensures { (held : List Held) (noted : List NotedRead) → Stands store.now held noted → result ≡ held_values.hits (λ h. rules.conflicts_on home.now (transaction_of t.entry) h.transaction) held }
+    ensures { (held : List Held) (noted : List NotedRead) → Stands store.now held noted → result
+        ≡ held_values.hits (λ h. conflict_in home.now.cluster home.now.shard (transaction_of t.entry) h.transaction)
+        held }
 {
     let version = version_of(t);
-    join(
-        between_reads(store, home, t, &version),
-        across_writes(store, home, t, &version),
-    )
+    between_reads(store, home, t, &version).join(across_writes(store, home, t, &version))
 }
 
 /// Those that write a key of the shard between the version that the transaction read and its own.
 fn between_reads(store: &Store, home: &Home, t: TransactionView<'_>, version: &Version) -> Hits
     requires { version.now ≡ version_of (transaction_of t) }
-    ensures { (held : List Held) (noted : List NotedRead) → Stands store.now held noted → result ≡ held_values.hits (λ h. rules.reads_below home.now (transaction_of t.entry) h.transaction) held }
+    ensures { (held : List Held) (noted : List NotedRead) → Stands store.now held noted → result
+        ≡ held_values.hits (λ h. is_crossed_in home.now.cluster home.now.shard (transaction_of t.entry) h.transaction)
+        held }
 {
     let _ = t.bytes();
-    let mut found = none();
+    let mut found = Hits::none();
     for place in 0..32usize {
         let Some(item) = t.read_at(place) else {
             return found;
         };
         let hits = between_read(store, home, t, version, item);
-        found = join(found, hits);
+        found = found.join(hits);
     }
     found
 }
@@ -57,28 +58,31 @@ fn between_read(
     item: ReadItem<'_>,
 ) -> Hits
     requires { version.now ≡ version_of (transaction_of t) }
-    ensures { (held : List Held) (noted : List NotedRead) → Stands store.now held noted → result ≡ held_values.hits (λ h. rules.is_read_below home.now (transaction_of t.entry) h.transaction (read_of item.entry)) held }
+    ensures { (held : List Held) (noted : List NotedRead) → Stands store.now held noted → result
+        ≡ held_values.hits (λ h. crosses_in home.now.cluster home.now.shard h.transaction (transaction_of t.entry)
+        (read_of item.entry)) held }
 {
     if is_own(home, item.key) {
         store.writer_between(item.key, &item.version, version)
     } else {
-        none()
+        Hits::none()
     }
 }
 
 /// Those above that read, below the transaction, a key of the shard that it writes.
 fn across_writes(store: &Store, home: &Home, t: TransactionView<'_>, version: &Version) -> Hits
     requires { version.now ≡ version_of (transaction_of t) }
-    ensures { (held : List Held) (noted : List NotedRead) → Stands store.now held noted → result ≡ held_values.hits (λ h. rules.writes_under home.now (transaction_of t.entry) h.transaction) held }
+    ensures { (held : List Held) (noted : List NotedRead) → Stands store.now held noted → result
+        ≡ held_values.hits (λ h. crossings.writes_under home.now (transaction_of t.entry) h.transaction) held }
 {
     let _ = t.bytes();
-    let mut found = none();
+    let mut found = Hits::none();
     for place in 0..32usize {
         let Some(item) = t.write_at(place) else {
             return found;
         };
         let hits = across_write(store, home, t, version, item);
-        found = join(found, hits);
+        found = found.join(hits);
     }
     found
 }
@@ -92,18 +96,21 @@ fn across_write(
     item: WriteItem<'_>,
 ) -> Hits
     requires { version.now ≡ version_of (transaction_of t) }
-    ensures { (held : List Held) (noted : List NotedRead) → Stands store.now held noted → result ≡ held_values.hits (λ h. rules.is_write_under home.now (transaction_of t.entry) h.transaction (write_of item.entry)) held }
+    ensures { (held : List Held) (noted : List NotedRead) → Stands store.now held noted → result
+        ≡ held_values.hits (λ h. crossings.is_write_under home.now (transaction_of t.entry) h.transaction
+        (write_of item.entry)) held }
 {
     if is_own(home, item.key) {
         store.reader_across(item.key, version)
     } else {
-        none()
+        Hits::none()
     }
 }
 
 /// Whether a read of a key of the shard that the transaction writes is noted above it.
 pub(crate) fn is_read_later(store: &Store, home: &Home, t: TransactionView<'_>) -> bool
-    ensures { (held : List Held) (noted : List NotedRead) → Stands store.now held noted → result ≡ list_any (rules.is_noted_above home.now noted (transaction_of t.entry)) (transaction_of t.entry).writes }
+    ensures { (held : List Held) (noted : List NotedRead) → Stands store.now held noted → result
+        ≡ list_any (rules.is_noted_above home.now noted (transaction_of t.entry)) (transaction_of t.entry).writes }
 {
     let _ = t.bytes();
     for place in 0..32usize {
@@ -119,7 +126,8 @@ pub(crate) fn is_read_later(store: &Store, home: &Home, t: TransactionView<'_>) 
 
 /// Whether a read of the written key, if it is of the shard, is noted above the transaction.
 fn is_noted_above(store: &Store, home: &Home, t: TransactionView<'_>, item: WriteItem<'_>) -> bool
-    ensures { (held : List Held) (noted : List NotedRead) → Stands store.now held noted → result ≡ rules.is_noted_above home.now noted (transaction_of t.entry) (write_of item.entry) }
+    ensures { (held : List Held) (noted : List NotedRead) → Stands store.now held noted
+        → result ≡ rules.is_noted_above home.now noted (transaction_of t.entry) (write_of item.entry) }
 {
     is_own(home, item.key) && store.read_above(item.key, t.time(), t.client())
 }
@@ -129,35 +137,4 @@ fn is_own(home: &Home, key: &[u8]) -> bool
     ensures { result ≡ rules.is_own home.now key.now }
 {
     shard_of(key, &home.cluster) == home.shard
-}
-
-fn none() -> Hits
-    ensures { result ≡ no_hits }
-{
-    Hits {
-        any: false,
-        committed: None,
-    }
-}
-
-/// What two searches tell together.
-fn join(a: Hits, b: Hits) -> Hits
-    ensures { result ≡ crossings.joined a b }
-{
-    Hits {
-        any: a.any || b.any,
-        committed: least(a.committed, b.committed),
-    }
-}
-
-fn least(a: Option<u32>, b: Option<u32>) -> Option<u32>
-    ensures { result ≡ crossings.least a b }
-{
-    match a {
-        None => b,
-        Some(first) => match b {
-            None => Some(first),
-            Some(second) => Some(first.min(second)),
-        },
-    }
 }

@@ -3,7 +3,6 @@
 ghost use Rattle.std.specs.Prelude.{◌≡◌, ◌==◌, ◌&&◌, option_map};
 ghost use Rattle.std.specs.List.{list_any};
 ghost use Rattle.basil_types.specs.Shown.{transaction_of, read_of};
-ghost use Rattle.txn_meta.specs.Conflicts as conflicts;
 ghost use Rattle.txn_table.specs.Entries.{decision_of};
 ghost use Rattle.txn_table.specs.Shown.{entry_of};
 ghost use Rattle.txn_table.specs.Released as released;
@@ -12,17 +11,18 @@ ghost use Rattle.mvtso_check.specs.Book as book;
 use basil_types::party::Decision;
 use basil_types::transaction::TransactionView;
 use basil_types::transaction::parts::ReadItem;
-use basil_types::version::Version;
+use txn_meta::conflicts::writes_key;
 use txn_meta::form::version_of;
 use txn_meta::shards::shard_of;
 use txn_table::entry::Entry;
 use txn_table::released::Home;
 use txn_table::table::Table;
 
-/// Whether some dependency on a key of the shard isn't known, is aborted, or is a transaction that doesn't write the key
-/// at the version that was read.
+/// Whether some dependency on a key of the shard isn't known, is aborted, or is a transaction that doesn't write the
+/// key at the version that was read.
 pub(crate) fn has_broken(table: &Table, home: &Home, t: TransactionView<'_>) -> bool
-    ensures { result ≡ list_any (λ r. released.is_dependency home.now r && book.is_broken table.now.entries r) (transaction_of t.entry).reads }
+    ensures { result ≡ list_any (λ r. released.is_dependency home.now r
+        && book.is_broken table.now.entries r) (transaction_of t.entry).reads }
 {
     let _ = t.bytes();
     for place in 0..32usize {
@@ -38,7 +38,8 @@ pub(crate) fn has_broken(table: &Table, home: &Home, t: TransactionView<'_>) -> 
 
 /// Whether some dependency on a key of the shard has no outcome.
 pub(crate) fn has_open(table: &Table, home: &Home, t: TransactionView<'_>) -> bool
-    ensures { result ≡ list_any (λ r. released.is_dependency home.now r && book.is_open table.now.entries r) (transaction_of t.entry).reads }
+    ensures { result ≡ list_any (λ r. released.is_dependency home.now r
+        && book.is_open table.now.entries r) (transaction_of t.entry).reads }
 {
     let _ = t.bytes();
     for place in 0..32usize {
@@ -53,13 +54,15 @@ pub(crate) fn has_open(table: &Table, home: &Home, t: TransactionView<'_>) -> bo
 }
 
 fn is_broken_dependency(table: &Table, home: &Home, item: ReadItem<'_>) -> bool
-    ensures { result ≡ (released.is_dependency home.now (read_of item.entry) && book.is_broken table.now.entries (read_of item.entry)) }
+    ensures { result ≡ (released.is_dependency home.now (read_of item.entry)
+        && book.is_broken table.now.entries (read_of item.entry)) }
 {
     is_dependency(home, item) && is_broken(table, item)
 }
 
 fn is_open_dependency(table: &Table, home: &Home, item: ReadItem<'_>) -> bool
-    ensures { result ≡ (released.is_dependency home.now (read_of item.entry) && book.is_open table.now.entries (read_of item.entry)) }
+    ensures { result ≡ (released.is_dependency home.now (read_of item.entry)
+        && book.is_open table.now.entries (read_of item.entry)) }
 {
     is_dependency(home, item) && is_open(table, item)
 }
@@ -74,10 +77,7 @@ fn is_dependency(home: &Home, item: ReadItem<'_>) -> bool
 fn entry_read<'t>(table: &'t Table, item: ReadItem<'_>) -> Option<&'t Entry>
     ensures { option_map (λ e. entry_of e.now) result ≡ book.entry_read table.now.entries (read_of item.entry) }
 {
-    match table.place_of(&item.version.id) {
-        Some(place) => Some(table.entry(place)),
-        None => None,
-    }
+    table.entry_with(&item.version.id)
 }
 
 fn is_broken(table: &Table, item: ReadItem<'_>) -> bool
@@ -104,7 +104,7 @@ fn is_broken_by(item: ReadItem<'_>, entry: &Entry) -> bool
 {
     is_aborted(entry)
         || !writes_key(entry.view(), item.key)
-        || !is_same(&version_of(entry.view()), &item.version)
+        || !version_of(entry.view()).is_same(&item.version)
 }
 
 fn is_aborted(entry: &Entry) -> bool
@@ -114,26 +114,4 @@ fn is_aborted(entry: &Entry) -> bool
         Some((Decision::Abort, _)) => true,
         Some((Decision::Commit, _)) | None => false,
     }
-}
-
-fn is_same(a: &Version, b: &Version) -> bool
-    ensures { result ≡ book.is_same a.now b.now }
-{
-    a.time == b.time && a.client == b.client && a.id == b.id
-}
-
-/// Whether the transaction wrote or deleted this key.
-fn writes_key(t: TransactionView<'_>, key: &[u8]) -> bool
-    ensures { result ≡ conflicts.writes_key (transaction_of t.entry) key.now }
-{
-    let _ = t.bytes();
-    for place in 0..32usize {
-        let Some(item) = t.write_at(place) else {
-            return false;
-        };
-        if item.key == key {
-            return true;
-        }
-    }
-    false
 }

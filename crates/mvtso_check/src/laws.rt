@@ -1,20 +1,28 @@
 //! Laws of verdicts.
 
-ghost use Rattle.std.specs.Prelude.{◌≡◌, ◌⊎◌, ◌&&◌, List, ℕ, true, false};
-ghost use Rattle.std.specs.List.{list_any};
-ghost use Rattle.basil_types.specs.Transaction.{TransactionValue};
-ghost use Rattle.txn_meta.specs.Conflicts.{conflict};
-ghost use Rattle.txn_table.specs.declared.released.Home.{Home};
-ghost use Rattle.mvtso_check.specs.declared.verdict.Verdict.TheVariants.{Commit, Wait};
-ghost use Rattle.mvtso_check.specs.Verdict.{Book, conflicts_on, is_crossed, must_wait, verdict};
+ghost use Rattle.mvtso_check.specs.Laws.{NothingConflicts, DependenciesAreSettled};
+ghost use Rattle.mvtso_check.specs.Standing.{HeldOnes, StoresFollow};
 
 /// Where the verdict is to commit or to wait, no prepared or committed transaction of the book conflicts with the
 /// transaction on a key of the shard.
 pub fn nothing_that_stands_conflicts()
-    ensures { (home : Home) (now : ℕ) (book : Book) (t : TransactionValue) → ((verdict home now book t ≡ Commit) ⊎ (verdict home now book t ≡ Wait)) → is_crossed home book t ≡ false }
+    ensures { NothingConflicts }
 {}
 
-/// Where the verdict is to commit, each dependency on a key of the shard has an outcome.
-pub fn dependencies_have_outcomes()
-    ensures { (home : Home) (now : ℕ) (book : Book) (t : TransactionValue) → verdict home now book t ≡ Commit → must_wait home book t ≡ false }
+/// Where the verdict is to commit, each dependency on a key of the shard is a known transaction that is committed and
+/// wrote the key at the version that was read.
+pub fn dependencies_are_settled()
+    ensures { DependenciesAreSettled }
+{}
+
+/// Which transactions of a table are held, up to their order, after an entry arrives, waits, votes or ends; and that no
+/// two of them have one version, where the table's ids differ.
+pub fn held_ones()
+    ensures { HeldOnes }
+{}
+
+/// A store that stood for a table still stands for it after one entry's change, once that transaction is entered or
+/// taken out as it should be.
+pub fn stores_follow_tables()
+    ensures { StoresFollow }
 {}

@@ -5,6 +5,4 @@ pub mod check;
 mod crossings;
 mod dependencies;
 pub mod laws;
-#[cfg(test)]
-mod tests;
 pub mod verdict;

@@ -1,7 +1,7 @@
 //! Verdicts.
 
 /// What a replica votes on a transaction, or that it waits for what the transaction depends on.
-#[derive(Clone, Copy, Debug, PartialEq, Eq)]
+#[derive(Clone, Copy, PartialEq, Eq)]
 pub enum Verdict {
     Commit,
     Abort,

@@ -20,16 +20,3 @@ fn numbers_below(n: u8) -> u32
 {
     if n < 32 { (1u32 << n) - 1 } else { u32::MAX }
 }
-
-#[cfg(test)]
-mod tests {
-    use super::meet;
-
-    #[test]
-    fn gives_the_common_members_below_the_bound(rt: HostRuntime) {
-        assert_eq!(rt; meet(0b001111, 0b111100, 6), 0b001100);
-        assert_eq!(rt; meet(0b111111, 0b111111, 5), 0b011111);
-        assert_eq!(rt; meet(u32::MAX, u32::MAX, 32), u32::MAX);
-        assert_eq!(rt; meet(u32::MAX, u32::MAX, 0), 0);
-    }
-}

@@ -1,4 +1,5 @@
 pub mod Complaints
+pub mod Limits
 pub mod Words
 pub mod Fields
 pub mod Parties

@@ -10,6 +10,7 @@ use Rattle.schedule_text.specs.declared.complaint.Complaint.TheVariants.{Misspel
 use Rattle.schedule_text.specs.Complaints.{reason_of}
 use Rattle.schedule_text.specs.Words.{Word, words}
 use Rattle.schedule_text.specs.Kinds.{kind_of}
+use Rattle.schedule_text.specs.Limits.{longest_line, most_lines}
 use Rattle.schedule_text.specs.Lines.{line_of}
 
 abbrev pub of_kind : Option Kind → List Word → Result Line Complaint
@@ -28,7 +29,7 @@ line_value (b ∷ rest) = if b == 35 then Ok Skipped else said (words (b ∷ res
 
 -- no line stands behind the millionth
 abbrev pub numbered : ℕ → Result Line Complaint → Result Line Complaint
-numbered number (Ok line) = if nat_le number 1000000 then Ok line else Err OutOfSize
+numbered number (Ok line) = if nat_le number most_lines then Ok line else Err OutOfSize
 numbered number (Err c) = Err c
 
 abbrev pub answered : ℕ → Result Line Complaint → Result Line LineFault
@@ -38,7 +39,7 @@ answered number (Err c) = Err (BadLine number (reason_of c))
 -- the value of a line with this number, or its first reason: a line above 2,200,000 bytes comes first of all
 unfoldable pub line_at : List ℕ → ℕ → Result Line LineFault
 line_at line number =
-    if nat_lt 2200000 (length line) then Err (BadLine number 8) else answered number (numbered number (line_value line))
+    if nat_lt longest_line (length line) then Err (BadLine number 8) else answered number (numbered number (line_value line))
 
 abbrev pub begins_a_header : List Word → Bool
 begins_a_header [] = false

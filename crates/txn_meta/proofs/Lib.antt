@@ -1,3 +1,5 @@
-pub mod Walks
 pub mod Sums
 pub mod MemberLaws
+pub mod ConflictLaws
+pub mod MarkLaws
+pub mod MergeLaws

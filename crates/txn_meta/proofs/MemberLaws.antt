@@ -10,7 +10,7 @@ use Rattle.basil_types.specs.declared.transaction.parts.ReadPart.{ReadPart}
 use Rattle.basil_types.specs.declared.transaction.parts.WritePart.{WritePart}
 use Rattle.basil_types.specs.Setting.{Setting}
 use Rattle.basil_types.specs.Transaction.{TransactionValue}
-use Rattle.txn_meta.proofs.Walks.{same}
+use Rattle.basil_types.proofs.Walks.{same}
 use Rattle.txn_meta.specs.Form.{is_empty}
 use Rattle.txn_meta.specs.Places.{shard_of, involves, marks_of, members_from, involved}
 
@@ -24,7 +24,8 @@ some_member (false ∷ marks) from zero e = absurd cc
 some_member (false ∷ marks) from (suc k) e = some_member marks (from + 1) k e
 
 -- a member is marked
-member_marked : (marks : List Bool) (from place k : ℕ) → slice_get (members_from from marks) place ≡ Some k → (j : ℕ) × (k ≡ from + j) × (slice_index_or marks j false ≡ true)
+member_marked : (marks : List Bool) (from place k : ℕ) → slice_get (members_from from marks) place ≡ Some k → (j : ℕ) × (k ≡ from + j) ×
+    (slice_index_or marks j false ≡ true)
 member_marked [] from place k e = absurd cc
 member_marked (true ∷ marks) from zero k e =
     let is : from ≡ k = cc in
@@ -85,7 +86,8 @@ involved_below c t k some e =
       | inr q ↦ found_below (λ w. shard_of c w.key) c.shards k (λ w. mod-lt _ some) t.writes q
     ]
 
-some_key : (c : Setting) (t : TransactionValue) (reads : List ReadPart) (writes : List WritePart) → t.reads ≡ reads → t.writes ≡ writes → 0 < c.shards → is_empty t ≡ false → (k : ℕ) × (k < c.shards) × (involves c t k ≡ true)
+some_key : (c : Setting) (t : TransactionValue) (reads : List ReadPart) (writes : List WritePart) → t.reads ≡ reads → t.writes ≡ writes →
+    0 < c.shards → is_empty t ≡ false → (k : ℕ) × (k < c.shards) × (involves c t k ≡ true)
 some_key c t (r ∷ reads) writes e f some h = (
   shard_of c r.key,
   mod-lt _ some,

@@ -24,7 +24,8 @@ sum_push : (xs : List ℕ) (y : ℕ) → sum (xs ++ y ∷ []) ≡ sum xs + y
 sum_push xs y = fold_push 0 xs y
 
 -- a running sum modulo a number is the sum modulo that number
-pub sum_more : (s n i : ℕ) (key : List ℕ) → i < length key → s ≡ sum (take i key) % n → (s + get_or key i 0) % n ≡ sum (take (i + 1) key) % n
+pub sum_more : (s n i : ℕ) (key : List ℕ) → i < length key → s ≡ sum (take i key) % n → (s + get_or key i 0) % n ≡ sum
+    (take (i + 1) key) % n
 sum_more s n i key h e =
     ap (λ m. (m + get_or key i 0) % n) e ∙ mod_again (sum (take i key)) n (get_or key i 0)
     ∙ ap (λ m. m % n) (sym (ap sum (take_more key i 0 h) ∙ sum_push (take i key) (get_or key i 0)))

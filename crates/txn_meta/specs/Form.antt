@@ -1,5 +1,5 @@
 -- The form of a transaction.
-use Rattle.std.specs.Prelude.{ℕ, List, Bool, not, ◌==◌, ◌&&◌, length, Option, Some, option_map, position, if◌then◌else◌}
+use Rattle.std.specs.Prelude.{ℕ, List, Bool, not, ◌==◌, ◌&&◌, length, Option, Some, is_none, option_map, position, if◌then◌else◌}
 use Rattle.basil_types.specs.declared.version.Version.{Version}
 use Rattle.basil_types.specs.declared.transaction.parts.ReadPart.{ReadPart}
 use Rattle.basil_types.specs.Version.{below}
@@ -18,3 +18,6 @@ abbrev pub form_fault : TransactionValue → Option FormFault
 form_fault t =
     if is_empty t then Some Empty
     else (if t.time == 0 then Some ZeroTime else option_map ReadNotBelow (first_not_below (version_of t) t.reads))
+
+abbrev pub has_good_form : TransactionValue → Bool
+has_good_form t = is_none (form_fault t)

@@ -1,3 +1,4 @@
 pub mod Form
 pub mod Places
 pub mod Conflicts
+pub mod Merging

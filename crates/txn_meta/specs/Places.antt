@@ -1,6 +1,7 @@
 -- Where the keys of a transaction lie.
-use Rattle.std.specs.Prelude.{ℕ, ◌+◌, ◌*◌, ◌%◌, List, [], ◌∷◌, Bool, ◌==◌, ◌||◌, length, map, slice_index, sum, if◌then◌else◌}
+use Rattle.std.specs.Prelude.{ℕ, ◌+◌, ◌%◌, List, [], ◌∷◌, Bool, ◌==◌, ◌||◌, length, map, slice_index, slice_index_or, false, sum, if◌then◌else◌}
 use Rattle.std.specs.List.{list_any}
+use Rattle.quorum_laws.specs.Numbers.{replicas}
 use Rattle.basil_types.specs.Setting.{Setting}
 use Rattle.basil_types.specs.Transaction.{TransactionValue}
 
@@ -8,13 +9,23 @@ use Rattle.basil_types.specs.Transaction.{TransactionValue}
 abbrev pub shard_of : Setting → List ℕ → ℕ
 shard_of c key = sum key % c.shards
 
--- whether a read or written key is of this shard
+-- whether a key that was read is of this shard
+abbrev pub reads_of : Setting → TransactionValue → ℕ → Bool
+reads_of c t shard = list_any (λ r. shard_of c r.key == shard) t.reads
+
+-- whether a key that was written or deleted is of this shard
+abbrev pub writes_of : Setting → TransactionValue → ℕ → Bool
+writes_of c t shard = list_any (λ w. shard_of c w.key == shard) t.writes
+
 abbrev pub involves : Setting → TransactionValue → ℕ → Bool
-involves c t shard = list_any (λ r. shard_of c r.key == shard) t.reads || list_any (λ w. shard_of c w.key == shard) t.writes
+involves c t shard = reads_of c t shard || writes_of c t shard
 
 -- a set of shards, as eight marks
 abbrev pub marks_of : Setting → TransactionValue → List Bool
 marks_of c t = map (involves c t) (0 ∷ 1 ∷ 2 ∷ 3 ∷ 4 ∷ 5 ∷ 6 ∷ 7 ∷ [])
+
+abbrev pub is_marked : List Bool → ℕ → Bool
+is_marked marks shard = slice_index_or marks shard false
 
 -- the marked numbers from this one on, ascending
 abbrev pub members_from : ℕ → List Bool → List ℕ
@@ -34,4 +45,4 @@ log_shard c t = slice_index (involved c t) (t.time % length (involved c t))
 
 -- the replica of the log shard that leads a view of a transaction of this time
 abbrev pub leader_of : Setting → ℕ → ℕ → ℕ
-leader_of c time view = (time + view) % (5 * c.f + 1)
+leader_of c time view = (time + view) % replicas c.f

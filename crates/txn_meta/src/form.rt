@@ -1,9 +1,10 @@
 //! The form of a transaction (Basil, system model).
 
-ghost use Rattle.std.specs.Prelude.{◌≡◌, OnOk, IfErr, None, Some, not};
+ghost use Rattle.std.specs.Prelude.{◌≡◌, OnOk, IfErr, None, Some};
 ghost use Rattle.basil_types.specs.Shown.{transaction_of};
 ghost use Rattle.basil_types.specs.Transaction as transactions;
 ghost use Rattle.basil_types.specs.Version.{below};
+ghost use Rattle.txn_meta.specs.Form as forms;
 ghost use Rattle.txn_meta.specs.Form.{form_fault, first_not_below};
 
 use basil_types::bytes::id_of;
@@ -38,6 +39,13 @@ pub fn check_form(t: TransactionView<'_>) -> Result<(), FormFault>
     }
 }
 
+/// Whether a transaction has a good form. Takes no memory.
+pub fn has_good_form(t: TransactionView<'_>) -> bool
+    ensures { result ≡ forms.has_good_form (transaction_of t.entry) }
+{
+    check_form(t).is_ok()
+}
+
 /// The version of a transaction: its time, its client and its id. Takes no memory.
 pub fn version_of(t: TransactionView<'_>) -> Version
     ensures { result ≡ transactions.version_of (transaction_of t.entry) }
@@ -53,14 +61,12 @@ pub fn version_of(t: TransactionView<'_>) -> Version
 fn read_not_below(t: TransactionView<'_>, version: &Version) -> Option<usize>
     ensures { result ≡ first_not_below version.now (transaction_of t.entry).reads }
 {
-    let _ = t.bytes();
-    for place in 0..32usize {
-        let Some(item) = t.read_at(place) else {
-            return None;
-        };
+    let mut place = 0usize;
+    for item in t.reads() {
         if !item.version.is_below(version) {
             return Some(place);
         }
+        place += 1;
     }
     None
 }

@@ -6,5 +6,3 @@ pub mod conflicts;
 pub mod form;
 pub mod places;
 pub mod shards;
-#[cfg(test)]
-mod tests;

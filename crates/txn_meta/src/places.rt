@@ -1,6 +1,7 @@
 //! Where a transaction's decision is logged, and who leads there (Basil, second stage and fallback).
 
-ghost use Rattle.std.specs.Prelude.{◌≡◌, ◌+◌, ◌*◌, ◌<◌, true, false};
+ghost use Rattle.std.specs.Prelude.{◌≡◌, ◌<◌, true, false};
+ghost use Rattle.quorum_laws.specs.Numbers.{replicas};
 ghost use Rattle.basil_types.specs.Shown.{transaction_of};
 ghost use Rattle.txn_meta.specs.Form.{is_empty};
 ghost use Rattle.txn_meta.specs.Places.{involves};
@@ -30,7 +31,7 @@ pub fn log_shard(t: TransactionView<'_>, cluster: &Cluster) -> u8
 /// the number of replicas. Takes no memory.
 pub fn leader_of(time: u64, view: u64, cluster: &Cluster) -> u8
     ensures value { result ≡ Rattle.txn_meta.specs.Places.leader_of cluster.now time view }
-    ensures in_range { result < 5 * cluster.now.f + 1 }
+    ensures in_range { result < replicas cluster.now.f }
 {
     let n = u64::from(cluster.n());
     ((time % n + view % n) % n) as u8

@@ -1,9 +1,8 @@
 //! The shards of keys and of transactions.
 
-ghost use Rattle.std.specs.Prelude.{◌≡◌, ◌<◌, ◌≤◌, ◌==◌, length, slice_index_or, slice_get, false};
-ghost use Rattle.std.specs.List.{list_any};
+ghost use Rattle.std.specs.Prelude.{◌≡◌, ℕ, ◌<◌, ◌≤◌, ◌==◌, ◌||◌, length, slice_get};
 ghost use Rattle.basil_types.specs.Shown.{transaction_of};
-ghost use Rattle.txn_meta.specs.Places.{involves, marks_of, members};
+ghost use Rattle.txn_meta.specs.Places.{involves, reads_of, writes_of, marks_of, is_marked, members};
 
 use basil_types::cluster::Cluster;
 use basil_types::transaction::TransactionView;
@@ -23,7 +22,7 @@ pub fn shard_of(key: &[u8], cluster: &Cluster) -> u8
 }
 
 /// A set of shards, each below 8.
-#[derive(Clone, Copy, Debug)]
+#[derive(Clone, Copy)]
 pub struct Shards {
     marks: [bool; 8],
 }
@@ -42,24 +41,45 @@ impl Model for Shards {
 pub fn involved(t: TransactionView<'_>, cluster: &Cluster) -> Shards
     ensures { result ≡ marks_of cluster.now (transaction_of t.entry) }
 {
-    Shards {
-        marks: [
-            is_involved(t, cluster, 0),
-            is_involved(t, cluster, 1),
-            is_involved(t, cluster, 2),
-            is_involved(t, cluster, 3),
-            is_involved(t, cluster, 4),
-            is_involved(t, cluster, 5),
-            is_involved(t, cluster, 6),
-            is_involved(t, cluster, 7),
-        ],
+    let _ = cluster.n();
+    let mut marks = [false; 8];
+    mark_reads(&mut marks, t, cluster);
+    mark_writes(&mut marks, t, cluster);
+    Shards { marks }
+}
+
+/// Marks the shards of the keys that the transaction read.
+fn mark_reads(marks: &mut [bool; 8], t: TransactionView<'_>, cluster: &Cluster)
+    ensures { (shard : ℕ) → is_marked marks.new shard ≡ (reads_of cluster.now (transaction_of t.entry) shard || is_marked marks.old shard) }
+{
+    let _ = cluster.n();
+    for item in t.reads() {
+        mark(marks, shard_of(item.key, cluster));
     }
+}
+
+/// Marks the shards of the keys that the transaction wrote or deleted.
+fn mark_writes(marks: &mut [bool; 8], t: TransactionView<'_>, cluster: &Cluster)
+    ensures { (shard : ℕ) → is_marked marks.new shard ≡ (writes_of cluster.now (transaction_of t.entry) shard || is_marked marks.old shard) }
+{
+    let _ = cluster.n();
+    for item in t.writes() {
+        mark(marks, shard_of(item.key, cluster));
+    }
+}
+
+/// Marks a shard.
+fn mark(marks: &mut [bool; 8], marked: u8)
+    requires { marked < 8 }
+    ensures { (shard : ℕ) → is_marked marks.new shard ≡ (marked == shard || is_marked marks.old shard) }
+{
+    marks[marked as usize] = true;
 }
 
 impl Shards {
     /// Whether this shard is in the set.
     pub fn has(&self, shard: u8) -> bool
-        ensures { result ≡ slice_index_or self.now shard false }
+        ensures { result ≡ is_marked self.now shard }
     {
         match self.marks.get(shard as usize) {
             Some(mark) => *mark,
@@ -98,8 +118,8 @@ impl Shards {
     }
 }
 
-/// Whether a read or written key of the transaction is of this shard.
-fn is_involved(t: TransactionView<'_>, cluster: &Cluster, shard: u8) -> bool
+/// Whether a read or written key of the transaction is of this shard. Takes no memory.
+pub fn is_involved(t: TransactionView<'_>, cluster: &Cluster, shard: u8) -> bool
     ensures { result ≡ involves cluster.now (transaction_of t.entry) shard }
 {
     reads_at(t, cluster, shard) || writes_at(t, cluster, shard)
@@ -107,13 +127,9 @@ fn is_involved(t: TransactionView<'_>, cluster: &Cluster, shard: u8) -> bool
 
 /// Whether a read key of the transaction is of this shard.
 fn reads_at(t: TransactionView<'_>, cluster: &Cluster, shard: u8) -> bool
-    ensures { result ≡ list_any (λ r. Rattle.txn_meta.specs.Places.shard_of cluster.now r.key == shard) (transaction_of t.entry).reads }
+    ensures { result ≡ reads_of cluster.now (transaction_of t.entry) shard }
 {
-    let _ = t.bytes();
-    for place in 0..32usize {
-        let Some(item) = t.read_at(place) else {
-            return false;
-        };
+    for item in t.reads() {
         if shard_of(item.key, cluster) == shard {
             return true;
         }
@@ -123,13 +139,9 @@ fn reads_at(t: TransactionView<'_>, cluster: &Cluster, shard: u8) -> bool
 
 /// Whether a written or deleted key of the transaction is of this shard.
 fn writes_at(t: TransactionView<'_>, cluster: &Cluster, shard: u8) -> bool
-    ensures { result ≡ list_any (λ w. Rattle.txn_meta.specs.Places.shard_of cluster.now w.key == shard) (transaction_of t.entry).writes }
+    ensures { result ≡ writes_of cluster.now (transaction_of t.entry) shard }
 {
-    let _ = t.bytes();
-    for place in 0..32usize {
-        let Some(item) = t.write_at(place) else {
-            return false;
-        };
+    for item in t.writes() {
         if shard_of(item.key, cluster) == shard {
             return true;
         }

@@ -1,5 +1,5 @@
 -- What a table keeps, when a transaction arrives.
-use Rattle.std.proofs.Common.{◌≡◌, ℕ, ◌+◌, true, List, [], ◌∷◌, ◌++◌, length, length-append, map, Option, Some, refl, sym, ap, subst, ◌∙◌, arith}
+use Rattle.std.proofs.Common.{◌≡◌, ℕ, ◌+◌, true, cond, List, [], ◌∷◌, ◌++◌, length, length-append, map, Option, Some, refl, sym, ap, subst, ◌∙◌, arith}
 use Rattle.std.specs.Prelude.{All, position, slice_get}
 use Rattle.std.specs.Str.{bytes_eq}
 use Rattle.std.specs.Map.{keys_of, values_of}
@@ -12,7 +12,10 @@ use Rattle.indexmap.specs.IndexMap.{IndexMap, keys, values}
 use Rattle.txn_table.specs.declared.entry.Entry.{Entry}
 use Rattle.txn_table.specs.Shown.{entry_of, has_room}
 use Rattle.txn_table.specs.Tables.{IsProofBelow, id_of, ids_of}
+use Rattle.txn_table.specs.declared.waiters.Waiters.{Waiters}
+use Rattle.txn_table.specs.Waiters.{places_on, waits_on, with_place, Adds}
 use Rattle.txn_table.specs.Kept.{shown, CanInsert, HasRoom, IsKept}
+use Rattle.txn_table.proofs.Listing.{one-more}
 use Rattle.txn_table.proofs.Places.{last_placed}
 
 pub last-at : {X : Type 0} (xs : List X) (x : X) → slice_get (xs ++ x ∷ []) (length xs) ≡ Some x
@@ -35,8 +38,10 @@ module _ {S : Type 0} (m m' : IndexMap (List ℕ) Entry S) (e : Entry) (pushed :
   ids-pushed : ids_of (shown m') ≡ ids_of (shown m) ++ id_of (entry_of e) ∷ []
   ids-pushed = ap ids_of shown-pushed ∙ map-append id_of (shown m) (entry_of e ∷ [])
 
-  pub kept-pushed : (askers askers' : Spare Party) (room : Option (List ℕ)) → askers'.items ≡ [] → has_room e ≡ true → ((n : ℕ) → IsProofBelow n (entry_of e)) → room ≡ Some (id_of (entry_of e)) → CanInsert m askers → IsKept m askers room → IsKept m' askers' room
-  kept-pushed askers askers' room none asks unproved is can h =
+  pub kept-pushed : (ws ws' : Waiters) → Adds (waits_on e.transaction) ws ws' (length (shown m)) → (askers askers' : Spare Party) (room : Option (List ℕ)) → askers'.items ≡ [] → has_room e ≡ true
+      → ((n : ℕ) → IsProofBelow n (entry_of e)) → room ≡ Some (id_of (entry_of e)) → CanInsert m askers → IsKept m askers ws room
+      → IsKept m' askers' ws' room
+  kept-pushed ws ws' adds askers askers' room none asks unproved is can h =
       let n : length (shown m') ≡ length (shown m) + 1 = ap length shown-pushed ∙ length-append (shown m) (entry_of e ∷ []) in
       record {
         ids = keys-pushed ∙ ap (λ ids. ids ++ id_of (entry_of e) ∷ []) h.ids ∙ sym ids-pushed;
@@ -55,6 +60,12 @@ module _ {S : Type 0} (m m' : IndexMap (List ℕ) Entry S) (e : Entry) (pushed :
               entry = λ absent. absurd (last_placed (ids_of (shown m)) (id_of (entry_of e)) (ap (position (bytes_eq (id_of (entry_of e)))) (sym ids-pushed) ∙ absent));
               asker =
                   subst (All (λ (x : Entry). id_of (entry_of x) ≡ id_of (entry_of e) → has_room x ≡ true)) (sym values-pushed)
-                  (All-push (λ (x : Entry). id_of (entry_of x) ≡ id_of (entry_of e) → has_room x ≡ true) (values m) e (h.made (id_of (entry_of e)) is).asker (λ _. asks));
+                  (All-push (λ (x : Entry). id_of (entry_of x) ≡ id_of (entry_of e)
+                  → has_room x ≡ true) (values m) e (h.made (id_of (entry_of e)) is).asker (λ _. asks));
             });
+        waits =
+            λ whole id.
+            adds.places whole id
+            ∙ ap (λ (l : List ℕ). cond (waits_on e.transaction id) (with_place (length (shown m)) l) l) (h.waits (adds.whole whole) id)
+            ∙ one-more id (shown m) (entry_of e) ∙ sym (ap (places_on id) shown-pushed);
       }

@@ -4,3 +4,8 @@ pub mod Places
 pub mod Room
 pub mod Arriving
 pub mod Reading
+pub mod IdLaws
+pub mod StoredLaws
+pub mod ReleasedLaws
+pub mod KeyLaws
+pub mod Listing

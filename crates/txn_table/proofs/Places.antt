@@ -9,15 +9,9 @@ use Rattle.std.proofs.lemmas.Grind.{common_steps}
 use Rattle.std.proofs.lemmas.List.Quantifiers.{position-Some}
 use Rattle.std.proofs.lemmas.Map.Keys.{apart_from_distinct}
 use Rattle.std.proofs.lemmas.Option.{slice_get-map, slice_get-get_or}
+use Rattle.basil_types.proofs.Walks.{position-cons}
 use Rattle.txn_table.specs.Entries.{EntryValue}
 use Rattle.txn_table.specs.Tables.{id_of, ids_of, place_of}
-
-position-cons : {A : Type 0} (p : A → Bool) (x : A) (xs : List A) → position p (x ∷ xs) ≡ cond (p x) (Some 0) (option_map (λ k. k + 1) (position p xs))
-position-cons p x xs = by (p x) refl
-  where
-    by : (b : Bool) → p x ≡ b → position p (x ∷ xs) ≡ cond b (Some 0) (option_map (λ k. k + 1) (position p xs))
-    by true e = grind (arith, common_steps)
-    by false e = grind (arith, common_steps)
 
 none_mapped : (o : Option ℕ) → option_map (λ k. k + 1) o ≡ None → o ≡ None
 none_mapped None e = refl
@@ -29,10 +23,14 @@ none-cons p x xs e = by (p x) refl
   where
     by : (b : Bool) → p x ≡ b → (p x ≡ false) × (position p xs ≡ None)
     by true h =
-        let some : position p (x ∷ xs) ≡ Some 0 = position-cons p x xs ∙ ap (λ b. cond b (Some 0) (option_map (λ k. k + 1) (position p xs))) h in
+        let some : position p (x ∷ xs) ≡ Some 0 = position-cons p x xs
+        ∙ ap (λ b. cond b (Some 0) (option_map (λ k. k + 1) (position p xs))) h in
         absurd cc
-    by false h =
-        (h, none_mapped (position p xs) (sym (position-cons p x xs ∙ ap (λ b. cond b (Some 0) (option_map (λ k. k + 1) (position p xs))) h) ∙ e))
+    by false h = (
+      h,
+      none_mapped (position p xs) (sym (position-cons p x xs ∙ ap (λ b. cond b (Some 0) (option_map (λ k. k + 1) (position p xs))) h)
+          ∙ e),
+    )
 
 none_passes : {A : Type 0} (p : A → Bool) (xs : List A) → position p xs ≡ None → (k : ℕ) (d : A) → k < length xs → p (get_or xs k d) ≡ false
 none_passes p [] e k d h = absurd (omega arith)
@@ -43,7 +41,8 @@ equal : (a b : List ℕ) → a ≡ b → bytes_eq a b ≡ true
 equal a b e = (bytes_decides a b).1 e
 
 -- an id that has no place isn't in the list
-pub absent : (ids : List (List ℕ)) (id : List ℕ) → position (bytes_eq id) ids ≡ None → (k : ℕ) (d : List ℕ) → k < length ids → get_or ids k d ≡ id → ⊥
+pub absent : (ids : List (List ℕ)) (id : List ℕ) → position (bytes_eq id) ids ≡ None → (k : ℕ) (d : List ℕ) → k < length ids
+    → get_or ids k d ≡ id → ⊥
 absent ids id none k d h is = false≢true (sym (none_passes (bytes_eq id) ids none k d h) ∙ equal id (get_or ids k d) (sym is))
 
 -- the last id of a list has a place
@@ -52,12 +51,14 @@ last_placed [] id e = false≢true (sym (none-cons (bytes_eq id) id [] e).0 ∙ 
 last_placed (x ∷ ids) id e = last_placed ids id (none-cons (bytes_eq id) x (ids ++ id ∷ []) e).1
 
 -- where ids are distinct, an id stands at its place alone
-pub one_place : (ids : List (List ℕ)) (id : List ℕ) (i : ℕ) → IsDistinct bytes_eq ids → position (bytes_eq id) ids ≡ Some i → (k : ℕ) (d : List ℕ) → k < length ids → get_or ids k d ≡ id → k ≡ i
+pub one_place : (ids : List (List ℕ)) (id : List ℕ) (i : ℕ) → IsDistinct bytes_eq ids → position (bytes_eq id) ids ≡ Some i
+    → (k : ℕ) (d : List ℕ) → k < length ids → get_or ids k d ≡ id → k ≡ i
 one_place ids id i distinct at k d h is =
     let found = position-Some (bytes_eq id) ids i d at in
     let here : id ≡ get_or ids i d = (bytes_decides id (get_or ids i d)).0 found.1 in
     let not_before : k < i → ⊥ = λ before. false≢true (sym (found.2 k before) ∙ equal id (get_or ids k d) (sym is)) in
-    let not_behind : i < k → ⊥ = λ behind. false≢true (sym (apart_from_distinct bytes_eq ids i k d distinct behind h) ∙ equal (get_or ids i d) (get_or ids k d) (sym here ∙ sym is)) in
+    let not_behind : i < k → ⊥ = λ behind. false≢true (sym (apart_from_distinct bytes_eq ids i k d distinct behind h)
+    ∙ equal (get_or ids i d) (get_or ids k d) (sym here ∙ sym is)) in
     omega (arith, not_before, not_behind)
 
 -- at the place of an id stands an entry of that id

@@ -6,8 +6,8 @@ use Rattle.basil_types.specs.declared.party.Party.TheVariants.{Replica, Client}
 use Rattle.basil_types.specs.declared.party.Decision.{Decision}
 use Rattle.basil_types.specs.Transaction.{TransactionValue}
 
--- the replica's own vote: nobody has waited for it, or these wait for it, in order of asking, or it was given. The proof
--- is the place of a committed transaction that this one conflicts with
+-- the replica's own vote: nobody has waited for it, or these wait for it, in order of asking, or it was given. The
+-- proof is the place of a committed transaction that this one conflicts with
 pub data VoteValue : Type 0 where
   Unvoted : VoteValue
   Waiting : (askers : List Party) → VoteValue

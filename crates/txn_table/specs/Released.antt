@@ -1,5 +1,5 @@
 -- Which votes an outcome releases.
-use Rattle.std.specs.Prelude.{ℕ, List, Bool, true, false, ◌&&◌, ◌==◌, Option, Some, None, option_map, is_none, filter, filter_map, if◌then◌else◌}
+use Rattle.std.specs.Prelude.{ℕ, List, Bool, true, false, ◌&&◌, ◌==◌, Option, Some, None, option_map, is_none, filter, filter_map, slice_get, if◌then◌else◌}
 use Rattle.std.specs.List.{list_any, list_all, enumerate_from}
 use Rattle.std.specs.Option.{option_and_then}
 use Rattle.basil_types.specs.declared.party.Decision.{Decision}
@@ -65,9 +65,22 @@ vote_after s entries reads =
 -- the vote that is released at a place: of an entry that waits and has no outcome
 abbrev pub released_vote : Home → Supposed → List EntryValue → ℕ → EntryValue → Option Decision
 released_vote home s entries place e =
-    if is_waiting e.vote && is_none (outcome_at s entries place) then vote_after s entries (dependencies home e.transaction) else None
+    if is_waiting e.vote && is_none (outcome_at s entries place)
+    then vote_after s entries (dependencies home e.transaction)
+    else None
 
 -- the places whose votes are released, ascending, each with its vote
 abbrev pub released : Home → Supposed → List EntryValue → List (ℕ × Decision)
 released home s entries =
     filter_map (λ x. option_map (λ vote. (x.0, vote)) (released_vote home s entries x.0 x.1)) (enumerate_from 0 entries)
+
+-- the vote that is released at a place, if that is held
+abbrev pub vote_at : Home → Supposed → List EntryValue → ℕ → Option Decision
+vote_at home s entries place = option_and_then (released_vote home s entries place) (slice_get entries place)
+
+abbrev pub placed_vote : Home → Supposed → List EntryValue → ℕ → Option (ℕ × Decision)
+placed_vote home s entries place = option_map (λ vote. (place, vote)) (vote_at home s entries place)
+
+-- those of these places whose votes are released, each with its vote
+abbrev pub released_among : Home → Supposed → List EntryValue → List ℕ → List (ℕ × Decision)
+released_among home s entries places = filter_map (placed_vote home s entries) places

@@ -22,7 +22,8 @@ abbrev pub outcome_shown : Outcome → OutcomeValue
 outcome_shown o = record { decision = o.decision; certificate = o.certificate }
 
 abbrev pub entry_of : Entry → EntryValue
-entry_of e = record { transaction = e.transaction; vote = vote_of e.stage; outcome = option_map outcome_shown e.outcome }
+entry_of e =
+    record { transaction = e.transaction; vote = vote_of e.stage; outcome = option_map outcome_shown e.outcome }
 
 -- whether one more can wait for the vote and take no memory
 abbrev pub has_room_in : Stage → Bool

@@ -22,6 +22,10 @@ ids_of entries = map id_of entries
 abbrev pub place_of : List EntryValue → List ℕ → Option ℕ
 place_of entries id = position (bytes_eq id) (ids_of entries)
 
+-- its entry
+abbrev pub entry_with : List EntryValue → List ℕ → Option EntryValue
+entry_with entries id = option_and_then (slice_get entries) (place_of entries id)
+
 abbrev pub is_voted_at : List EntryValue → ℕ → Bool
 is_voted_at entries place = option_map_or (λ e. is_voted e.vote) (slice_get entries place) false
 

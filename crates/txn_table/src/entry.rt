@@ -4,15 +4,16 @@ ghost use Rattle.std.specs.Prelude.{◌≡◌, ◌<◌, [], None, Some, OnOk, On
 ghost use Rattle.basil_types.specs.Shown.{transaction_of};
 ghost use Rattle.txn_table.specs.Entries.{arrived, asked, voted, decided, is_waiting, askers_of, decision_of, outcome_of};
 ghost use Rattle.txn_table.specs.Shown.{entry_of, has_room, Tells};
+ghost use Rattle.txn_table.specs.Tables as tables;
 
-use basil_types::bytes::Bytes;
+use basil_types::bytes::{Bytes, id_of};
 use basil_types::list::List;
 use basil_types::memory::NoMemory;
 use basil_types::party::{Decision, Party};
 use basil_types::transaction::{Transaction, TransactionView};
 
 /// How far a replica's own vote on a transaction is.
-#[derive(Clone, Copy, Debug)]
+#[derive(Clone, Copy)]
 pub enum VoteState<'a> {
     /// Nobody has waited for it, and there is none.
     Unvoted,
@@ -28,7 +29,7 @@ pub enum VoteState<'a> {
 }
 
 /// A vote as it is kept.
-#[derive(Debug, Drop)]
+#[derive(Drop)]
 pub(crate) enum Stage {
     /// There is no vote; who waits for it, in order of asking.
     Open {
@@ -42,14 +43,14 @@ pub(crate) enum Stage {
 }
 
 /// An outcome, and the bytes of the certificate that proves it.
-#[derive(Debug, Drop)]
+#[derive(Drop)]
 pub(crate) struct Outcome {
     pub(crate) decision: Decision,
     pub(crate) certificate: Bytes,
 }
 
 /// A transaction, the replica's vote on it, and its outcome.
-#[derive(Debug, Drop)]
+#[derive(Drop)]
 pub struct Entry {
     transaction: Transaction,
     stage: Stage,
@@ -62,6 +63,13 @@ impl Entry {
         ensures { transaction_of result ≡ (entry_of self.now).transaction }
     {
         self.transaction.view()
+    }
+
+    /// The transaction's id.
+    pub(crate) fn id(&self) -> [u8; 32]
+        ensures { result ≡ tables.id_of (entry_of self.now) }
+    {
+        id_of(self.view().bytes())
     }
 
     /// The replica's own vote.

@@ -2,7 +2,7 @@
 #![tactic(auto)]
 
 pub mod entry;
+pub mod laws;
 pub mod released;
 pub mod table;
-#[cfg(test)]
-mod tests;
+mod waiters;

@@ -1,6 +1,6 @@
 //! The table of the transactions that a replica knows.
 
-ghost use Rattle.std.specs.Prelude.{◌≡◌, ◌<◌, ◌≤◌, ◌+◌, ◌-◌, ◌^◌, ◌++◌, ◌∷◌, [], None, Some, OnOk, OnErr, IsErr, length, option_map, slice_get, false};
+ghost use Rattle.std.specs.Prelude.{◌≡◌, ◌<◌, ◌≤◌, ◌+◌, ◌-◌, ◌^◌, ◌++◌, ◌∷◌, [], None, Some, OnOk, OnErr, IsErr, IfSome, length, option_map, slice_get, false};
 ghost use Rattle.std.specs.Option.{ForSome};
 ghost use Rattle.basil_types.specs.Shown.{transaction_of};
 ghost use Rattle.basil_types.specs.Transaction as transactions;
@@ -8,10 +8,12 @@ ghost use Rattle.txn_table.specs.Entries.{arrived, asked, voted, decided};
 ghost use Rattle.indexmap.specs.IndexMap.{IsUnchanged, spare};
 ghost use Rattle.txn_table.specs.Kept.{CanInsert};
 ghost use Rattle.txn_table.specs.Shown.{entry_of};
+ghost use Rattle.txn_table.specs.Waiters as waiters;
 ghost use Rattle.txn_table.specs.Tables as tables;
 ghost use Rattle.txn_table.specs.Tables.{AreHeld, HasRoomAt, IsProofBelow, changed, is_voted_at, decision_at};
 
 use crate::entry::Entry;
+use crate::waiters::Waiters;
 use basil_types::bytes::id_of;
 use basil_types::list::List;
 use basil_types::memory::NoMemory;
@@ -22,14 +24,15 @@ use std::alloc::Global;
 use std::marker::Model;
 use std::mem;
 
-/// The transactions that a replica knows, in order of arrival, each at a place from 0. Contracts see the list of entries,
-/// and beside it the transaction for which room was made and not used since.
-#[derive(Debug, Drop)]
+/// The transactions that a replica knows, in order of arrival, each at a place from 0. Contracts see the list of
+/// entries, and beside it the transaction for which room was made and not used since.
+#[derive(Drop)]
 pub struct Table {
     entries: IndexMap<[u8; 32], Entry>,
     // The list of askers of the next entry.
     askers: List<Party>,
     room: Option<[u8; 32]>,
+    waiters: Waiters,
     alloc: Global,
 }
 
@@ -41,7 +44,7 @@ impl Model for Table {
 
     ghost view = { λ t. record { entries = shown t.entries; room = t.room } };
 
-    ghost invariant = { λ t. IsKept t.entries t.askers t.room };
+    ghost invariant = { λ t. IsKept t.entries t.askers t.waiters t.room };
 }
 
 impl Table {
@@ -53,6 +56,7 @@ impl Table {
             entries: IndexMap::new(alloc),
             askers: List::new(alloc),
             room: None,
+            waiters: Waiters::new(alloc),
             alloc,
         }
     }
@@ -73,12 +77,23 @@ impl Table {
     /// The place of the transaction with this id. None exactly where it isn't held.
     pub fn place_of(&self, id: &[u8; 32]) -> Option<u32>
         ensures place { result ≡ tables.place_of self.now.entries id.now }
-        ensures found { ForSome result (λ place. option_map tables.id_of (slice_get self.now.entries place) ≡ Some id.now) }
+        ensures found { ForSome result (λ place. option_map tables.id_of (slice_get self.now.entries place)
+            ≡ Some id.now) }
         ensures within { ForSome result (λ place. place < length self.now.entries) }
         ensures held { AreHeld self.now.entries }
     {
         match self.entries.get_index_of(id) {
             Some(place) => Some(place as u32),
+            None => None,
+        }
+    }
+
+    /// The entry of the transaction with this id. None exactly where it isn't held.
+    pub fn entry_with(&self, id: &[u8; 32]) -> Option<&Entry>
+        ensures { option_map (λ e. entry_of e.now) result ≡ tables.entry_with self.now.entries id.now }
+    {
+        match self.place_of(id) {
+            Some(place) => Some(self.entry(place)),
             None => None,
         }
     }
@@ -92,17 +107,22 @@ impl Table {
         &self.entries[place as usize]
     }
 
-    /// Makes room for one `insert` of this transaction, if it isn't held, and one `wait` of it. Room that was made before
-    /// is void. Memory is wanting too where the table holds 4,294,967,295 transactions, and this one isn't held.
+    /// Makes room for one `insert` of this transaction, if it isn't held, and one `wait` of it. Room that was made
+    /// before is void. Memory is wanting too where the table holds 4,294,967,295 transactions, and this one isn't held.
     pub fn make_room(&mut self, t: TransactionView<'_>) -> Result<(), NoMemory>
-        ensures made { OnOk result (self.new ≡ record self.old { room = Some (transactions.id (transaction_of t.entry)) }) }
+        ensures made { OnOk result (self.new
+            ≡ record self.old { room = Some (transactions.id (transaction_of t.entry)) }) }
         ensures as_before { OnErr result (self.new ≡ self.old) }
-        ensures full { length self.old.entries ≡ 2 ^ 32 - 1 → tables.place_of self.old.entries (transactions.id (transaction_of t.entry)) ≡ None → IsErr result }
+        ensures full { length self.old.entries ≡ 2 ^ 32 - 1
+            → tables.place_of self.old.entries (transactions.id (transaction_of t.entry)) ≡ None → IsErr result }
     {
         let id = id_of(t.bytes());
         match self.place_of(&id) {
             Some(place) => self.room_at(place, id),
-            None => self.room_for_new(id),
+            None => match self.room_for_waits(t) {
+                Ok(()) => self.room_for_new(id),
+                Err(refused) => Err(refused),
+            },
         }
     }
 
@@ -120,6 +140,7 @@ impl Table {
         let Some(id) = self.room else {
             unreachable!();
         };
+        self.waiters.list(t.view(), place);
         let askers = mem::replace(&mut self.askers, List::new(self.alloc));
         match self.entries.insert(id, Entry::new(t, askers)) {
             Ok(_) => {}
@@ -147,17 +168,20 @@ impl Table {
         requires held { place < length self.old.entries }
         requires not_voted { is_voted_at self.old.entries place ≡ false }
         requires proof { ForSome proof (λ at. at < length self.old.entries) }
-        ensures { self.new ≡ record self.old { entries = changed (voted vote signature.items proof) place self.old.entries } }
+        ensures { self.new
+            ≡ record self.old { entries = changed (voted vote signature.items proof) place self.old.entries } }
     {
         let entry = &mut self.entries[place as usize];
         entry.set_vote(vote, signature, proof);
     }
 
-    /// Gives the outcome at a held place that has none, with the bytes of the certificate that proves it. Takes no memory.
+    /// Gives the outcome at a held place that has none, with the bytes of the certificate that proves it. Takes no
+    /// memory.
     pub fn set_outcome(&mut self, place: u32, outcome: Decision, certificate: Vec<u8>)
         requires held { place < length self.old.entries }
         requires open { decision_at self.old.entries place ≡ None }
-        ensures { self.new ≡ record self.old { entries = changed (decided outcome certificate.items) place self.old.entries } }
+        ensures { self.new
+            ≡ record self.old { entries = changed (decided outcome certificate.items) place self.old.entries } }
     {
         let entry = &mut self.entries[place as usize];
         entry.set_outcome(outcome, certificate);
@@ -178,6 +202,20 @@ impl Table {
             }
             Err(refused) => Err(refused),
         }
+    }
+
+    /// Makes room for a place at each id that the transaction depends on.
+    fn room_for_waits(&mut self, t: TransactionView<'_>) -> Result<(), NoMemory>
+        ensures { self.new ≡ self.old }
+    {
+        self.waiters.make_room(t)
+    }
+
+    /// The places of the transactions that depend on an id, where each is listed.
+    pub(crate) fn places_on(&self, id: &[u8; 32]) -> Option<&[u32]>
+        ensures { IfSome result (λ places. places.now ≡ waiters.places_on id.now self.now.entries) }
+    {
+        self.waiters.find(id)
     }
 
     /// Makes room for the entry of this id, which isn't held, and for one asker there.

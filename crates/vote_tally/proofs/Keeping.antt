@@ -27,7 +27,8 @@ unmarked (true ∷ voted) e i = absurd cc
 
 -- ---- one more mark
 
-pub more_marks : (voted : List Bool) (i : ℕ) → i < length voted → get_or voted i false ≡ false → count_by (λ m. m) (set voted i true) ≡ count_by (λ m. m) voted + 1
+pub more_marks : (voted : List Bool) (i : ℕ) → i < length voted → get_or voted i false ≡ false →
+    count_by (λ m. m) (set voted i true) ≡ count_by (λ m. m) voted + 1
 more_marks voted i h e =
     let moved = sum_by-set (λ m. cond m 1 0) voted i true false h in
     let none = ap (λ (m : Bool). let k : ℕ = cond m 1 0 in k) e in
@@ -46,13 +47,15 @@ or_false true = refl
 or_false false = refl
 
 -- who has voted, with one more vote
-voted_more : (votes : List FirstVote) (v : FirstVote) (i : ℕ) → has_voted (votes ++ v ∷ []) i ≡ (has_voted votes i || ((v.replica == i) || false))
+voted_more : (votes : List FirstVote) (v : FirstVote) (i : ℕ) →
+    has_voted (votes ++ v ∷ []) i ≡ (has_voted votes i || ((v.replica == i) || false))
 voted_more votes v i = list_any-append (λ w. w.replica == i) votes (v ∷ [])
 
 other : (a b : ℕ) → (a ≡ b → ⊥) → (a == b) ≡ false
 other a b e = grind (arith, common_steps)
 
-pub marks_more : (voted : List Bool) (votes : List FirstVote) (v : FirstVote) (i : ℕ) → v.replica < length voted → get_or voted i false ≡ has_voted votes i → get_or (set voted v.replica true) i false ≡ has_voted (votes ++ v ∷ []) i
+pub marks_more : (voted : List Bool) (votes : List FirstVote) (v : FirstVote) (i : ℕ) → v.replica < length voted →
+    get_or voted i false ≡ has_voted votes i → get_or (set voted v.replica true) i false ≡ has_voted (votes ++ v ∷ []) i
 marks_more voted votes v i h e = by (cases_eq i v.replica)
   where
     by : (i ≡ v.replica) ⊎ (i ≢ v.replica) → get_or (set voted v.replica true) i false ≡ has_voted (votes ++ v ∷ []) i
@@ -67,7 +70,8 @@ marks_more voted votes v i h e = by (cases_eq i v.replica)
 
 -- ---- one more vote
 
-pub added_is : (c : Setting) (old new : List FirstVote) (v : FirstVote) → has_voted old v.replica ≡ false → new ≡ old ++ v ∷ [] → (let t : TallyValue = record { cluster = c; votes = new } in t) ≡ added (record { cluster = c; votes = old }) v
+pub added_is : (c : Setting) (old new : List FirstVote) (v : FirstVote) → has_voted old v.replica ≡ false → new ≡ old ++ v ∷ [] →
+    (let t : TallyValue = record { cluster = c; votes = new } in t) ≡ added (record { cluster = c; votes = old }) v
 added_is c old new v h e =
     ap (λ (votes : List FirstVote). let t : TallyValue = record { cluster = c; votes = votes } in t) e
     ∙ sym (ap (λ b. cond b (let t : TallyValue = record { cluster = c; votes = old } in t) (record { cluster = c; votes = old ++ v ∷ [] })) h)
@@ -78,7 +82,8 @@ turned (w ∷ votes) v =
     let back : (v.replica == w.replica) ≡ (w.replica == v.replica) = nat_eq_equiv.symm v.replica w.replica in
     ap (λ b. b || list_any (λ w. v.replica == w.replica) votes) back ∙ ap (λ b. (w.replica == v.replica) || b) (turned votes v)
 
-pub first_more : (c : Setting) (votes : List FirstVote) (v : FirstVote) → AreFirst c votes → v.replica < 5 * c.f + 1 → has_voted votes v.replica ≡ false → AreFirst c (votes ++ v ∷ [])
+pub first_more : (c : Setting) (votes : List FirstVote) (v : FirstVote) → AreFirst c votes → v.replica < 5 * c.f + 1 →
+    has_voted votes v.replica ≡ false → AreFirst c (votes ++ v ∷ [])
 first_more c votes v h below unheard =
     record {
       distinct = IsDistinct-push (on_equiv (λ (w : FirstVote). w.replica) nat_eq_equiv) votes v h.distinct (turned votes v ∙ unheard);

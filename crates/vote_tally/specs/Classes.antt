@@ -1,6 +1,7 @@
 -- What the votes of a shard amount to.
-use Rattle.std.specs.Prelude.{Bool, true, List, [], ◌∷◌, ◌+◌, ◌*◌, ◌&&◌, nat_le, find, unwrap_or}
+use Rattle.std.specs.Prelude.{Bool, true, List, [], ◌∷◌, ◌&&◌, nat_le, find, unwrap_or}
 use Rattle.basil_types.specs.Setting.{Setting}
+use Rattle.quorum_laws.specs.Numbers.{fast_commit, fast_abort, commit_tally, abort_tally}
 use Rattle.vote_tally.specs.declared.votes.FirstVote.{FirstVote}
 use Rattle.vote_tally.specs.declared.classes.Class.{Class}
 use Rattle.vote_tally.specs.declared.classes.Class.TheVariants.{FastCommit, FastAbort, ConflictAbort, Both, CommitTally, AbortTally, Open}
@@ -8,12 +9,12 @@ use Rattle.vote_tally.specs.Votes.{commits_of, aborts_of, has_proof}
 
 -- whether a class holds of votes of distinct replicas, whatever other does
 abbrev pub holds : Setting → List FirstVote → Class → Bool
-holds c votes FastCommit = nat_le (5 * c.f + 1) (commits_of votes)
-holds c votes FastAbort = nat_le (3 * c.f + 1) (aborts_of votes)
+holds c votes FastCommit = nat_le (fast_commit c.f) (commits_of votes)
+holds c votes FastAbort = nat_le (fast_abort c.f) (aborts_of votes)
 holds c votes ConflictAbort = has_proof votes
-holds c votes Both = nat_le (3 * c.f + 1) (commits_of votes) && nat_le (c.f + 1) (aborts_of votes)
-holds c votes CommitTally = nat_le (3 * c.f + 1) (commits_of votes)
-holds c votes AbortTally = nat_le (c.f + 1) (aborts_of votes)
+holds c votes Both = nat_le (commit_tally c.f) (commits_of votes) && nat_le (abort_tally c.f) (aborts_of votes)
+holds c votes CommitTally = nat_le (commit_tally c.f) (commits_of votes)
+holds c votes AbortTally = nat_le (abort_tally c.f) (aborts_of votes)
 holds c votes Open = true
 
 -- the order in which the classes are tested

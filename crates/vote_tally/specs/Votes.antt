@@ -1,19 +1,11 @@
 -- Votes, and what is counted over a list of them.
-use Rattle.std.specs.Prelude.{ℕ, ◌+◌, ◌*◌, ◌<◌, Bool, true, false, List, ◌&&◌, ◌==◌, count_by, All}
+use Rattle.std.specs.Prelude.{ℕ, ◌<◌, Bool, List, ◌&&◌, ◌==◌, count_by, All}
 use Rattle.std.specs.List.{list_any, IsDistinct}
 use Rattle.basil_types.specs.Setting.{Setting}
-use Rattle.basil_types.specs.declared.party.Decision.{Decision}
-use Rattle.basil_types.specs.declared.party.Decision.TheVariants.{Commit, Abort}
+use Rattle.basil_types.specs.Decision.{is_commit, is_abort}
+use Rattle.quorum_laws.specs.Numbers.{replicas}
 use Rattle.vote_tally.specs.declared.votes.FirstVote.{FirstVote}
 use Rattle.vote_tally.specs.declared.votes.Counts.{Counts}
-
-abbrev pub is_commit : Decision → Bool
-is_commit Commit = true
-is_commit Abort = false
-
-abbrev pub is_abort : Decision → Bool
-is_abort Commit = false
-is_abort Abort = true
 
 -- whether a vote is of this replica
 abbrev pub has_voted : List FirstVote → ℕ → Bool
@@ -22,7 +14,7 @@ has_voted votes replica = list_any (λ v. v.replica == replica) votes
 -- the votes are of distinct replicas of a shard
 pub record AreFirst (c : Setting) (votes : List FirstVote) : Type 0 where
   pub distinct : IsDistinct (λ v w. v.replica == w.replica) votes
-  pub in_range : All (λ v. v.replica < 5 * c.f + 1) votes
+  pub in_range : All (λ v. v.replica < replicas c.f) votes
 
 abbrev pub commits_of : List FirstVote → ℕ
 commits_of votes = count_by (λ v. is_commit v.vote) votes

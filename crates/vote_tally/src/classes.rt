@@ -2,7 +2,7 @@
 
 /// What the first votes of a shard's replicas amount to, in the order in which the classes are tested. The shard has
 /// 5f + 1 replicas, of which at most f are faulty.
-#[derive(Clone, Copy, Debug, PartialEq, Eq)]
+#[derive(Clone, Copy, PartialEq, Eq)]
 pub enum Class {
     /// 5f + 1 commits: a fast commit.
     FastCommit,

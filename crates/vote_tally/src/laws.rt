@@ -1,13 +1,14 @@
 //! Laws of first votes.
 
-ghost use Rattle.std.specs.Prelude.{◌≡◌, ◌≤◌, ◌+◌, ◌*◌, List, length};
+ghost use Rattle.std.specs.Prelude.{◌≡◌, ◌≤◌, ◌+◌, List, length};
 ghost use Rattle.basil_types.specs.Setting.{Setting};
+ghost use Rattle.quorum_laws.specs.Numbers.{replicas};
 ghost use Rattle.vote_tally.specs.declared.votes.FirstVote.{FirstVote};
 ghost use Rattle.vote_tally.specs.Votes.{AreFirst, commits_of, aborts_of};
 
 /// There are at most as many first votes as replicas of a shard.
 pub fn first_votes_are_few()
-    ensures { (c : Setting) (votes : List FirstVote) → AreFirst c votes → length votes ≤ 5 * c.f + 1 }
+    ensures { (c : Setting) (votes : List FirstVote) → AreFirst c votes → length votes ≤ replicas c.f }
 {}
 
 /// Each vote is a commit or an abort.

@@ -4,6 +4,4 @@
 pub mod classes;
 pub mod laws;
 pub mod tally;
-#[cfg(test)]
-mod tests;
 pub mod votes;

@@ -1,6 +1,7 @@
 //! Tallies of the votes of one shard.
 
-ghost use Rattle.std.specs.Prelude.{◌≡◌, ◌+◌, ◌*◌, ◌<◌, not};
+ghost use Rattle.std.specs.Prelude.{◌≡◌, ◌<◌, not};
+ghost use Rattle.quorum_laws.specs.Numbers.{replicas};
 ghost use Rattle.vote_tally.specs.Votes.{has_voted, AreFirst};
 ghost use Rattle.vote_tally.specs.Classes.{holds, class_of};
 ghost use Rattle.vote_tally.specs.Tallies.{added};
@@ -16,7 +17,7 @@ const MOST_REPLICAS: usize = 31;
 
 /// The first votes of a shard's replicas, in order. Contracts see the cluster and the list of these votes; beside them it
 /// keeps who has voted and the counts. It takes no memory.
-#[derive(Debug, Drop)]
+#[derive(Drop)]
 pub struct Tally {
     cluster: Cluster,
     votes: [FirstVote; MOST_REPLICAS],
@@ -62,7 +63,7 @@ impl Tally {
     /// Counts the vote of a replica of the shard, unless that replica has voted before. True exactly for its first vote.
     /// A proof is what shows that the transaction conflicts with a committed one; only that of an abort counts.
     pub fn add(&mut self, replica: u8, vote: Decision, proof: bool) -> bool
-        requires { replica < 5 * self.old.cluster.f + 1 }
+        requires { replica < replicas self.old.cluster.f }
         ensures first { result ≡ not (has_voted self.old.votes replica) }
         ensures counted { self.new ≡ added self.old (record { replica = replica; vote = vote; proof = proof }) }
         ensures same_cluster { self.new.cluster ≡ self.old.cluster }

@@ -7,7 +7,7 @@ ghost use Rattle.vote_tally.specs.Votes.{counts_of};
 use basil_types::party::Decision;
 
 /// The first vote of a replica.
-#[derive(Clone, Copy, Debug)]
+#[derive(Clone, Copy)]
 pub struct FirstVote {
     /// The replica's index in its shard.
     pub replica: u8,
@@ -17,7 +17,7 @@ pub struct FirstVote {
 }
 
 /// The running counts of votes: how many commits, how many aborts, and whether some abort has a proof.
-#[derive(Clone, Copy, Debug)]
+#[derive(Clone, Copy)]
 pub(crate) struct Counts {
     pub(crate) commits: u8,
     pub(crate) aborts: u8,

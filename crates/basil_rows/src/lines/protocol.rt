@@ -109,7 +109,7 @@ const ROWS: &[Row] = &[
 #[test]
 fn each_line_is_read_or_refused(rt: HostRuntime) -> Result<(), Fail> {
     for row in ROWS {
-        assert_eq!(rt; reason_of(rt.alloc(), row.line), row.reason);
+        assert!(rt; reason_of(rt.alloc(), row.line) == row.reason);
     }
     Ok(())
 }

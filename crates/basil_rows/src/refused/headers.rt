@@ -11,7 +11,10 @@ const REFUSED: &[Refused] = &[
         text: b"line 1 reason 1\n",
     },
     Refused {
-        schedule: b"\n\n# x\n",
+        schedule: b"\
+            \n\
+            \n\
+            # x\n",
         line: 1,
         reason: 1,
         text: b"line 1 reason 1\n",
@@ -23,7 +26,9 @@ const REFUSED: &[Refused] = &[
         text: b"line 1 reason 1\n",
     },
     Refused {
-        schedule: b"# note\nround\n",
+        schedule: b"\
+            # note\n\
+            round\n",
         line: 2,
         reason: 1,
         text: b"line 2 reason 1\n",
@@ -101,7 +106,9 @@ const REFUSED: &[Refused] = &[
         text: b"line 1 reason 1\n",
     },
     Refused {
-        schedule: b"\nbasin 1 f=0 shards=1 reads=1 delta=100 clock=50 keys=plain\n",
+        schedule: b"\
+            \n\
+            basin 1 f=0 shards=1 reads=1 delta=100 clock=50 keys=plain\n",
         line: 2,
         reason: 1,
         text: b"line 2 reason 1\n",

@@ -41,121 +41,165 @@ const REFUSED: &[Refused] = &[
         text: b"line 1 reason 10\n",
     },
     Refused {
-        schedule: b"basil 1 f=0 shards=1 reads=1 delta=100 clock=50 keys=plain\nsettle t1 1\n",
+        schedule: b"\
+            basil 1 f=0 shards=1 reads=1 delta=100 clock=50 keys=plain\n\
+            settle t1 1\n",
         line: 2,
         reason: 10,
         text: b"line 2 reason 10\n",
     },
     Refused {
-        schedule: b"basil 1 f=0 shards=1 reads=1 delta=100 clock=50 keys=plain\nread t1 a\n",
+        schedule: b"\
+            basil 1 f=0 shards=1 reads=1 delta=100 clock=50 keys=plain\n\
+            read t1 a\n",
         line: 2,
         reason: 10,
         text: b"line 2 reason 10\n",
     },
     Refused {
-        schedule: b"basil 1 f=0 shards=1 reads=1 delta=100 clock=50 keys=plain\nfaulty client 1\n",
+        schedule: b"\
+            basil 1 f=0 shards=1 reads=1 delta=100 clock=50 keys=plain\n\
+            faulty client 1\n",
         line: 2,
         reason: 10,
         text: b"line 2 reason 10\n",
     },
     Refused {
-        schedule: b"basil 1 f=0 shards=1 reads=1 delta=100 clock=50 keys=plain\nfaulty replica 0 0\n",
+        schedule: b"\
+            basil 1 f=0 shards=1 reads=1 delta=100 clock=50 keys=plain\n\
+            faulty replica 0 0\n",
         line: 2,
         reason: 10,
         text: b"line 2 reason 10\n",
     },
     Refused {
-        schedule: b"basil 1 f=0 shards=1 reads=1 delta=100 clock=50 keys=plain\ndeliver 1\n",
+        schedule: b"\
+            basil 1 f=0 shards=1 reads=1 delta=100 clock=50 keys=plain\n\
+            deliver 1\n",
         line: 2,
         reason: 10,
         text: b"line 2 reason 10\n",
     },
     Refused {
-        schedule: b"basil 1 f=0 shards=1 reads=1 delta=100 clock=50 keys=plain\nlose 1\n",
+        schedule: b"\
+            basil 1 f=0 shards=1 reads=1 delta=100 clock=50 keys=plain\n\
+            lose 1\n",
         line: 2,
         reason: 10,
         text: b"line 2 reason 10\n",
     },
     Refused {
-        schedule: b"basil 1 f=0 shards=1 reads=1 delta=100 clock=50 keys=plain\ndivert 1 client 1\n",
+        schedule: b"\
+            basil 1 f=0 shards=1 reads=1 delta=100 clock=50 keys=plain\n\
+            divert 1 client 1\n",
         line: 2,
         reason: 10,
         text: b"line 2 reason 10\n",
     },
     Refused {
-        schedule: b"basil 1 f=0 shards=1 reads=1 delta=100 clock=50 keys=plain\nclock 0 0 5\n",
+        schedule: b"\
+            basil 1 f=0 shards=1 reads=1 delta=100 clock=50 keys=plain\n\
+            clock 0 0 5\n",
         line: 2,
         reason: 10,
         text: b"line 2 reason 10\n",
     },
     Refused {
-        schedule: b"basil 1 f=0 shards=1 reads=1 delta=100 clock=50 keys=plain\nrecover t1 1\n",
+        schedule: b"\
+            basil 1 f=0 shards=1 reads=1 delta=100 clock=50 keys=plain\n\
+            recover t1 1\n",
         line: 2,
         reason: 10,
         text: b"line 2 reason 10\n",
     },
     Refused {
-        schedule: b"basil 1 f=0 shards=1 reads=1 delta=100 clock=50 keys=plain\ninvoke t1 1\n",
+        schedule: b"\
+            basil 1 f=0 shards=1 reads=1 delta=100 clock=50 keys=plain\n\
+            invoke t1 1\n",
         line: 2,
         reason: 10,
         text: b"line 2 reason 10\n",
     },
     Refused {
-        schedule: b"basil 1 f=0 shards=1 reads=1 delta=100 clock=50 keys=plain\nvote 0 0 t1 commit 1\n",
+        schedule: b"\
+            basil 1 f=0 shards=1 reads=1 delta=100 clock=50 keys=plain\n\
+            vote 0 0 t1 commit 1\n",
         line: 2,
         reason: 10,
         text: b"line 2 reason 10\n",
     },
     Refused {
-        schedule: b"basil 1 f=0 shards=1 reads=1 delta=100 clock=50 keys=plain\nsecond t1 commit 0\n",
+        schedule: b"\
+            basil 1 f=0 shards=1 reads=1 delta=100 clock=50 keys=plain\n\
+            second t1 commit 0\n",
         line: 2,
         reason: 10,
         text: b"line 2 reason 10\n",
     },
     Refused {
-        schedule: b"basil 1 f=0 shards=1 reads=1 delta=100 clock=50 keys=plain\nlogged 0 0 t1 commit 0 0 1\n",
+        schedule: b"\
+            basil 1 f=0 shards=1 reads=1 delta=100 clock=50 keys=plain\n\
+            logged 0 0 t1 commit 0 0 1\n",
         line: 2,
         reason: 10,
         text: b"line 2 reason 10\n",
     },
     Refused {
-        schedule: b"basil 1 f=0 shards=1 reads=1 delta=100 clock=50 keys=plain\nelect 0 0 t1 commit 1\n",
+        schedule: b"\
+            basil 1 f=0 shards=1 reads=1 delta=100 clock=50 keys=plain\n\
+            elect 0 0 t1 commit 1\n",
         line: 2,
         reason: 10,
         text: b"line 2 reason 10\n",
     },
     Refused {
-        schedule: b"basil 1 f=0 shards=1 reads=1 delta=100 clock=50 keys=plain\ndecide 0 0 t1 commit 1 0\n",
+        schedule: b"\
+            basil 1 f=0 shards=1 reads=1 delta=100 clock=50 keys=plain\n\
+            decide 0 0 t1 commit 1 0\n",
         line: 2,
         reason: 10,
         text: b"line 2 reason 10\n",
     },
     Refused {
-        schedule: b"basil 1 f=0 shards=1 reads=1 delta=100 clock=50 keys=plain\nraw client 1 replica 0 0 03\n",
+        schedule: b"\
+            basil 1 f=0 shards=1 reads=1 delta=100 clock=50 keys=plain\n\
+            raw client 1 replica 0 0 03\n",
         line: 2,
         reason: 10,
         text: b"line 2 reason 10\n",
     },
     Refused {
-        schedule: b"basil 1 f=0 shards=1 reads=1 delta=100 clock=50 keys=plain\nshow 03\n",
+        schedule: b"\
+            basil 1 f=0 shards=1 reads=1 delta=100 clock=50 keys=plain\n\
+            show 03\n",
         line: 2,
         reason: 10,
         text: b"line 2 reason 10\n",
     },
     Refused {
-        schedule: b"basil 1 f=0 shards=1 reads=1 delta=100 clock=50 keys=plain\nclaim t1 a -\n",
+        schedule: b"\
+            basil 1 f=0 shards=1 reads=1 delta=100 clock=50 keys=plain\n\
+            claim t1 a -\n",
         line: 2,
         reason: 10,
         text: b"line 2 reason 10\n",
     },
     Refused {
-        schedule: b"basil 1 f=0 shards=1 reads=1 delta=100 clock=50 keys=plain\nstop 0 0 1 1 01\n",
+        schedule: b"\
+            basil 1 f=0 shards=1 reads=1 delta=100 clock=50 keys=plain\n\
+            stop 0 0 1 1 01\n",
         line: 2,
         reason: 10,
         text: b"line 2 reason 10\n",
     },
     Refused {
-        schedule: b"basil 1 f=0 shards=1 reads=1 delta=100 clock=50 keys=plain\nround\n\n# c\nsettle t1 1\nfrob\n",
+        schedule: b"\
+            basil 1 f=0 shards=1 reads=1 delta=100 clock=50 keys=plain\n\
+            round\n\
+            \n\
+            # c\n\
+            settle t1 1\n\
+            frob\n",
         line: 5,
         reason: 10,
         text: b"line 5 reason 10\n",

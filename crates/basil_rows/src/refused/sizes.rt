@@ -5,145 +5,209 @@ use std::test::Fail;
 
 const REFUSED: &[Refused] = &[
     Refused {
-        schedule: b"basil 1 f=0 shards=1 reads=1 delta=100 clock=50 keys=plain\nbegin t1 17 10\n",
+        schedule: b"\
+            basil 1 f=0 shards=1 reads=1 delta=100 clock=50 keys=plain\n\
+            begin t1 17 10\n",
         line: 2,
         reason: 3,
         text: b"line 2 reason 3\n",
     },
     Refused {
-        schedule: b"basil 1 f=0 shards=1 reads=1 delta=100 clock=50 keys=plain\nbegin t1 0 10\n",
+        schedule: b"\
+            basil 1 f=0 shards=1 reads=1 delta=100 clock=50 keys=plain\n\
+            begin t1 0 10\n",
         line: 2,
         reason: 3,
         text: b"line 2 reason 3\n",
     },
     Refused {
-        schedule: b"basil 1 f=0 shards=1 reads=1 delta=100 clock=50 keys=plain\nbegin t1 01 10\n",
+        schedule: b"\
+            basil 1 f=0 shards=1 reads=1 delta=100 clock=50 keys=plain\n\
+            begin t1 01 10\n",
         line: 2,
         reason: 3,
         text: b"line 2 reason 3\n",
     },
     Refused {
-        schedule: b"basil 1 f=0 shards=1 reads=1 delta=100 clock=50 keys=plain\nbegin t1 1 010\n",
+        schedule: b"\
+            basil 1 f=0 shards=1 reads=1 delta=100 clock=50 keys=plain\n\
+            begin t1 1 010\n",
         line: 2,
         reason: 3,
         text: b"line 2 reason 3\n",
     },
     Refused {
-        schedule: b"basil 1 f=0 shards=1 reads=1 delta=100 clock=50 keys=plain\nbegin t1 1 18446744073709551616\n",
+        schedule: b"\
+            basil 1 f=0 shards=1 reads=1 delta=100 clock=50 keys=plain\n\
+            begin t1 1 18446744073709551616\n",
         line: 2,
         reason: 3,
         text: b"line 2 reason 3\n",
     },
     Refused {
-        schedule: b"basil 1 f=0 shards=1 reads=1 delta=100 clock=50 keys=plain\nsettle t1 17\n",
+        schedule: b"\
+            basil 1 f=0 shards=1 reads=1 delta=100 clock=50 keys=plain\n\
+            settle t1 17\n",
         line: 2,
         reason: 3,
         text: b"line 2 reason 3\n",
     },
     Refused {
-        schedule: b"basil 1 f=0 shards=1 reads=1 delta=100 clock=50 keys=plain\nvote 8 0 t1 commit 1\n",
+        schedule: b"\
+            basil 1 f=0 shards=1 reads=1 delta=100 clock=50 keys=plain\n\
+            vote 8 0 t1 commit 1\n",
         line: 2,
         reason: 3,
         text: b"line 2 reason 3\n",
     },
     Refused {
-        schedule: b"basil 1 f=0 shards=1 reads=1 delta=100 clock=50 keys=plain\nelect 0 0 t1 commit 0\n",
+        schedule: b"\
+            basil 1 f=0 shards=1 reads=1 delta=100 clock=50 keys=plain\n\
+            elect 0 0 t1 commit 0\n",
         line: 2,
         reason: 3,
         text: b"line 2 reason 3\n",
     },
     Refused {
-        schedule: b"basil 1 f=0 shards=1 reads=1 delta=100 clock=50 keys=plain\nwrite t1 a x\n",
+        schedule: b"\
+            basil 1 f=0 shards=1 reads=1 delta=100 clock=50 keys=plain\n\
+            write t1 a x\n",
         line: 2,
         reason: 4,
         text: b"line 2 reason 4\n",
     },
     Refused {
-        schedule: b"basil 1 f=0 shards=1 reads=1 delta=100 clock=50 keys=plain\ndelete t1 a\n",
+        schedule: b"\
+            basil 1 f=0 shards=1 reads=1 delta=100 clock=50 keys=plain\n\
+            delete t1 a\n",
         line: 2,
         reason: 4,
         text: b"line 2 reason 4\n",
     },
     Refused {
-        schedule: b"basil 1 f=0 shards=1 reads=1 delta=100 clock=50 keys=plain\nprepare t1\n",
+        schedule: b"\
+            basil 1 f=0 shards=1 reads=1 delta=100 clock=50 keys=plain\n\
+            prepare t1\n",
         line: 2,
         reason: 4,
         text: b"line 2 reason 4\n",
     },
     Refused {
-        schedule: b"basil 1 f=0 shards=1 reads=1 delta=100 clock=50 keys=plain\nbegin t1 1 10\nbegin t1 2 20\n",
+        schedule: b"\
+            basil 1 f=0 shards=1 reads=1 delta=100 clock=50 keys=plain\n\
+            begin t1 1 10\n\
+            begin t1 2 20\n",
         line: 3,
         reason: 4,
         text: b"line 3 reason 4\n",
     },
     Refused {
-        schedule: b"basil 1 f=0 shards=1 reads=1 delta=100 clock=50 keys=plain\nbegin t1 1 10\nwrite t2 a x\n",
+        schedule: b"\
+            basil 1 f=0 shards=1 reads=1 delta=100 clock=50 keys=plain\n\
+            begin t1 1 10\n\
+            write t2 a x\n",
         line: 3,
         reason: 4,
         text: b"line 3 reason 4\n",
     },
     Refused {
-        schedule: b"basil 1 f=0 shards=1 reads=1 delta=100 clock=50 keys=plain\nbegin t1 1 10\nwrite t1 kkkkkkkkkkkkkkkkkkkkkkkkkkkkkkkkkkkkkkkkkkkkkkkkkkkkkkkkkkkkkkkkk x\n",
+        schedule: b"\
+            basil 1 f=0 shards=1 reads=1 delta=100 clock=50 keys=plain\n\
+            begin t1 1 10\n\
+            write t1 kkkkkkkkkkkkkkkkkkkkkkkkkkkkkkkkkkkkkkkkkkkkkkkkkkkkkkkkkkkkkkkkk x\n",
         line: 3,
         reason: 8,
         text: b"line 3 reason 8\n",
     },
     Refused {
-        schedule: b"basil 1 f=0 shards=1 reads=1 delta=100 clock=50 keys=plain\nbegin t1 1 10\nwrite t1 a vvvvvvvvvvvvvvvvvvvvvvvvvvvvvvvvvvvvvvvvvvvvvvvvvvvvvvvvvvvvvvvvvvvvvvvvvvvvvvvvvvvvvvvvvvvvvvvvvvvvvvvvvvvvvvvvvvvvvvvvvvvvvvvvvvvvvvvvvvvvvvvvvvvvvvvvvvvvvvvvvvvvvvvvvvvvvvvvvvvvvvvvvvvvvvvvvvvvvvvvvvvvvvvvvvvvvvvvvvvvvvvvvvvvvvvvvvvvvvvvvvvvvvvvvvvvvvvvv\n",
+        schedule: b"\
+            basil 1 f=0 shards=1 reads=1 delta=100 clock=50 keys=plain\n\
+            begin t1 1 10\n\
+            write t1 a vvvvvvvvvvvvvvvvvvvvvvvvvvvvvvvvvvvvvvvvvvvvvvvvvvvvvvvvvvvvvvvvvvvvvvvvvvvvvvvvvvvvvvvvvvvvvvvvvvvvvvvvvvvvvvvvvvvvvvvvvvvvvvvvvvvvvvvvvvvvvvvvvvvvvvvvvvvvvvvvvvvvvvvvvvvvvvvvvvvvvvvvvvvvvvvvvvvvvvvvvvvvvvvvvvvvvvvvvvvvvvvvvvvvvvvvvvvvvvvvvvvvvvvvvvvvvvvvv\n",
         line: 3,
         reason: 8,
         text: b"line 3 reason 8\n",
     },
     Refused {
-        schedule: b"basil 1 f=0 shards=1 reads=1 delta=100 clock=50 keys=plain\nwrite zz kkkkkkkkkkkkkkkkkkkkkkkkkkkkkkkkkkkkkkkkkkkkkkkkkkkkkkkkkkkkkkkkk v\n",
+        schedule: b"\
+            basil 1 f=0 shards=1 reads=1 delta=100 clock=50 keys=plain\n\
+            write zz kkkkkkkkkkkkkkkkkkkkkkkkkkkkkkkkkkkkkkkkkkkkkkkkkkkkkkkkkkkkkkkkk v\n",
         line: 2,
         reason: 8,
         text: b"line 2 reason 8\n",
     },
     Refused {
-        schedule: b"basil 1 f=0 shards=1 reads=1 delta=100 clock=50 keys=plain\ndelete t1 kkkkkkkkkkkkkkkkkkkkkkkkkkkkkkkkkkkkkkkkkkkkkkkkkkkkkkkkkkkkkkkkk\n",
+        schedule: b"\
+            basil 1 f=0 shards=1 reads=1 delta=100 clock=50 keys=plain\n\
+            delete t1 kkkkkkkkkkkkkkkkkkkkkkkkkkkkkkkkkkkkkkkkkkkkkkkkkkkkkkkkkkkkkkkkk\n",
         line: 2,
         reason: 8,
         text: b"line 2 reason 8\n",
     },
     Refused {
-        schedule: b"basil 1 f=0 shards=1 reads=1 delta=100 clock=50 keys=plain\nbegin t1 1 0\n",
+        schedule: b"\
+            basil 1 f=0 shards=1 reads=1 delta=100 clock=50 keys=plain\n\
+            begin t1 1 0\n",
         line: 2,
         reason: 9,
         text: b"line 2 reason 9\n",
     },
     Refused {
-        schedule: b"basil 1 f=0 shards=1 reads=1 delta=100 clock=50 keys=plain\nbegin t1 1 10\nbegin t2 1 10\n",
+        schedule: b"\
+            basil 1 f=0 shards=1 reads=1 delta=100 clock=50 keys=plain\n\
+            begin t1 1 10\n\
+            begin t2 1 10\n",
         line: 3,
         reason: 9,
         text: b"line 3 reason 9\n",
     },
     Refused {
-        schedule: b"basil 1 f=0 shards=1 reads=1 delta=100 clock=50 keys=plain\nbegin t1 1 10\nbegin t2 1 9\n",
+        schedule: b"\
+            basil 1 f=0 shards=1 reads=1 delta=100 clock=50 keys=plain\n\
+            begin t1 1 10\n\
+            begin t2 1 9\n",
         line: 3,
         reason: 9,
         text: b"line 3 reason 9\n",
     },
     Refused {
-        schedule: b"basil 1 f=0 shards=1 reads=1 delta=100 clock=50 keys=plain\nbegin t1 1 10\nprepare t1\n",
+        schedule: b"\
+            basil 1 f=0 shards=1 reads=1 delta=100 clock=50 keys=plain\n\
+            begin t1 1 10\n\
+            prepare t1\n",
         line: 3,
         reason: 9,
         text: b"line 3 reason 9\n",
     },
     Refused {
-        schedule: b"basil 1 f=0 shards=1 reads=1 delta=100 clock=50 keys=plain\nbegin t1 1 10\nwrite t1 a x\nprepare t1\nprepare t1\n",
+        schedule: b"\
+            basil 1 f=0 shards=1 reads=1 delta=100 clock=50 keys=plain\n\
+            begin t1 1 10\n\
+            write t1 a x\n\
+            prepare t1\n\
+            prepare t1\n",
         line: 5,
         reason: 9,
         text: b"line 5 reason 9\n",
     },
     Refused {
-        schedule: b"basil 1 f=0 shards=1 reads=1 delta=100 clock=50 keys=plain\nbegin t1 1 10\nwrite t1 a x\nprepare t1\nwrite t1 b y\n",
+        schedule: b"\
+            basil 1 f=0 shards=1 reads=1 delta=100 clock=50 keys=plain\n\
+            begin t1 1 10\n\
+            write t1 a x\n\
+            prepare t1\n\
+            write t1 b y\n",
         line: 5,
         reason: 9,
         text: b"line 5 reason 9\n",
     },
     Refused {
-        schedule: b"basil 1 f=0 shards=1 reads=1 delta=100 clock=50 keys=plain\nbegin t1 1 10\nwrite t1 a x\nprepare t1\ndelete t1 a\n",
+        schedule: b"\
+            basil 1 f=0 shards=1 reads=1 delta=100 clock=50 keys=plain\n\
+            begin t1 1 10\n\
+            write t1 a x\n\
+            prepare t1\n\
+            delete t1 a\n",
         line: 5,
         reason: 9,
         text: b"line 5 reason 9\n",

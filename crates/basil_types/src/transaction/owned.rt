@@ -47,7 +47,8 @@ impl Transaction {
     ) -> Result<Transaction, BuildFault>
         ensures value { IfOk result (λ t. t ≡ built time client reads.now writes.now) }
         ensures fit { OnOk result (build_fault client reads.now writes.now ≡ None) }
-        ensures refused { IfErr result (λ e. e ≢ BuildFault.NoMemory → build_fault client reads.now writes.now ≡ Some e) }
+        ensures refused { IfErr result
+            (λ e. e ≢ BuildFault.NoMemory → build_fault client reads.now writes.now ≡ Some e) }
         ensures wanting { IfErr result (λ e. e ≡ BuildFault.NoMemory → build_fault client reads.now writes.now ≡ None) }
     {
         match fault_in(client, reads, writes) {

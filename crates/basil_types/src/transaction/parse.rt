@@ -51,7 +51,8 @@ fn some_writes<'a>(
     count: u8,
     bytes: &'a [u8],
 ) -> Result<(WritesView<'a>, &'a [u8]), Fault>
-    ensures { Gives (λ x. (writes_of x.0, x.1.now)) result (items_at (write_at format) key_of_write count [] bytes.now) }
+    ensures { Gives (λ x. (writes_of x.0, x.1.now)) result
+        (items_at (write_at format) key_of_write count [] bytes.now) }
 {
     let mut before = &bytes[..0];
     let mut rest = bytes;

@@ -246,7 +246,8 @@ fn put_reads(reads: &[ReadPart], out: &mut Vec<u8>) -> Result<(), NoMemory>
 fn put_writes(format: u8, writes: &[WritePart], out: &mut Vec<u8>) -> Result<(), NoMemory>
     requires few { length writes.now ≤ 32 }
     requires sizes { All (λ w. (length w.key < 256) × (length w.value < 2 ^ 16)) writes.now }
-    ensures spelled { OnOk result (out.new.items ≡ out.old.items ++ length writes.now ∷ flat_map (write_bytes format) writes.now) }
+    ensures spelled { OnOk result
+        (out.new.items ≡ out.old.items ++ length writes.now ∷ flat_map (write_bytes format) writes.now) }
     ensures in_range { OnOk result (All WriteInRange writes.now) }
 {
     out.push(writes.len() as u8)?;

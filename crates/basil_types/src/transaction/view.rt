@@ -4,7 +4,7 @@ ghost use Rattle.std.specs.Prelude.{IsTrue};
 ghost use Rattle.basil_types.specs.Parsed.{spells_transaction};
 
 use super::fault::PartFault;
-use super::lists::{Front, ReadsView, WritesView};
+use super::lists::{Front, ReadsIter, ReadsView, WritesIter, WritesView};
 use super::owned::Transaction;
 use super::parse::{before_writes, first, read_front};
 use super::parts::{ReadItem, WriteItem};
@@ -13,7 +13,7 @@ use crate::reading::{behind, between, in_range};
 use std::alloc::Global;
 
 /// A transaction, by its canonical bytes, which were checked.
-#[derive(Clone, Copy, Debug)]
+#[derive(Clone, Copy)]
 pub struct TransactionView<'a> {
     bytes: &'a [u8],
     ghost whole: { IsTrue (spells_transaction bytes.now) },
@@ -25,7 +25,7 @@ impl<'a> TransactionView<'a> {
     ghost use Rattle.basil_types.specs.Transaction.{TransactionValue, IsTransaction, Begins, canonical};
     ghost use Rattle.basil_types.specs.Placed.{transaction_from};
     ghost use Rattle.basil_types.specs.Parsed.{transaction_in};
-    ghost use Rattle.basil_types.specs.Shown.{transaction_of, read_of, write_of};
+    ghost use Rattle.basil_types.specs.Shown.{transaction_of, read_of, write_of, reads_left, writes_left};
     ghost use Rattle.basil_types.specs.Inner.{reads_of, writes_of, head_of};
 
     /// The transaction that begins at this offset, whatever follows it, or the first fault, with its offset in `bytes`.
@@ -84,14 +84,32 @@ impl<'a> TransactionView<'a> {
     pub fn read_at(&self, place: usize) -> Option<ReadItem<'a>>
         ensures { option_map read_of result ≡ slice_get (transaction_of self.now).reads place }
     {
-        self.reads().at(place)
+        self.read_list().at(place)
     }
 
     /// The write at a place, from 0. None exactly past the end.
     pub fn write_at(&self, place: usize) -> Option<WriteItem<'a>>
         ensures { option_map write_of result ≡ slice_get (transaction_of self.now).writes place }
     {
-        self.writes().at(place)
+        self.write_list().at(place)
+    }
+
+    /// The reads, ascending by key, by one walk over their bytes.
+    pub fn reads(&self) -> ReadsIter<'a>
+        ensures all { reads_left result ≡ (transaction_of self.now).reads }
+        ensures in_range { IsTransaction (transaction_of self.now) }
+    {
+        let _ = self.bytes();
+        self.read_list().iter()
+    }
+
+    /// The writes, ascending by key, by one walk over their bytes.
+    pub fn writes(&self) -> WritesIter<'a>
+        ensures all { writes_left result ≡ (transaction_of self.now).writes }
+        ensures in_range { IsTransaction (transaction_of self.now) }
+    {
+        let _ = self.bytes();
+        self.write_list().iter()
     }
 
     /// An owned transaction with the same bytes, or want of memory.
@@ -110,7 +128,8 @@ impl<'a> TransactionView<'a> {
     }
 
     fn front(&self) -> Front
-        ensures shown { let t = transaction_of self.now in head_of result ≡ record { format = t.format; time = t.time; client = t.client } }
+        ensures shown { let t = transaction_of self.now in head_of result
+            ≡ record { format = t.format; time = t.time; client = t.client } }
         ensures in_range { IsTransaction (transaction_of self.now) }
     {
         match read_front(in_range(self.bytes)) {
@@ -119,7 +138,7 @@ impl<'a> TransactionView<'a> {
         }
     }
 
-    fn reads(&self) -> ReadsView<'a>
+    fn read_list(&self) -> ReadsView<'a>
         ensures { reads_of result ≡ (transaction_of self.now).reads }
     {
         match read_front(self.bytes) {
@@ -131,7 +150,7 @@ impl<'a> TransactionView<'a> {
         }
     }
 
-    fn writes(&self) -> WritesView<'a>
+    fn write_list(&self) -> WritesView<'a>
         ensures { writes_of result ≡ (transaction_of self.now).writes }
     {
         match before_writes(self.bytes) {

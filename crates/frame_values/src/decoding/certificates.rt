@@ -25,8 +25,21 @@ fn own_logged(
     decided: u64,
     logs: &LogsView<'_>,
 ) -> Result<CertificateBody, NoMemory>
-    ensures body { IfOk result (λ x. body_value x ≡ values.Commits (values.Logged (record { shard = shard; decision = decision; decided = decided; logs = logs_of logs.now }))) }
-    ensures commit { IfOk result (λ x. (id : List ℕ) → commit_value id x ≡ record { id = id; body = values.Logged (record { shard = shard; decision = decision; decided = decided; logs = logs_of logs.now }) }) }
+    ensures body { IfOk result (λ x. body_value x ≡ values.Commits (values.Logged (record {
+      shard = shard;
+      decision = decision;
+      decided = decided;
+      logs = logs_of logs.now;
+    }))) }
+    ensures commit { IfOk result (λ x. (id : List ℕ) → commit_value id x ≡ record {
+      id = id;
+      body = values.Logged (record {
+        shard = shard;
+        decision = decision;
+        decided = decided;
+        logs = logs_of logs.now;
+      });
+    }) }
 {
     let logs = own_logs(alloc, logs)?;
     Ok(CertificateBody::Logged {
@@ -107,8 +120,8 @@ fn own_body(alloc: Global, body: &CertBody<'_>) -> Result<CertificateBody, NoMem
     }
 }
 
-/// An owned certificate.
-pub(super) fn own_certificate(
+/// The certificate that a view shows, owned.
+pub fn own_certificate(
     alloc: Global,
     certificate: &CertificateView<'_>,
 ) -> Result<Certificate, NoMemory>

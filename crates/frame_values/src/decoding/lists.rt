@@ -1,7 +1,8 @@
 //! Owned copies of lists.
 
 ghost use Rattle.std.specs.Prelude.{◌≡◌, IfOk, map};
-ghost use Rattle.frame_views.specs.Items.{vote_of, votes_of, tally_of, tallies_of, log_of, logs_of, reply_of, replies_of, elect_of, elects_of};
+ghost use Rattle.frame_views.specs.Items.{vote_of, votes_of, tally_of, tallies_of, log_of, logs_of, reply_of};
+ghost use Rattle.frame_views.specs.Items.{replies_of, elect_of, elects_of};
 ghost use Rattle.frame_values.specs.Owned.{vote_value, tally_value, log_value, reply_value, word_value};
 
 use crate::owned::{ElectPart, InvokePart, LogPart, ShardVotes, VotePart};
@@ -28,7 +29,7 @@ fn own_vote(alloc: Global, item: &VoteItem<'_>) -> Result<VotePart, NoMemory>
 pub(super) fn own_votes(alloc: Global, votes: &VotesView<'_>) -> Result<List<VotePart>, NoMemory>
     ensures { IfOk result (λ x. map vote_value x.items ≡ votes_of votes.now) }
 {
-    let mut parts = Vec::new(alloc);
+    let mut parts = Vec::with_capacity(alloc, votes.len())?;
     for item in votes.iter() {
         let part = own_vote(alloc, &item)?;
         parts.push(part)?;
@@ -53,7 +54,7 @@ pub(super) fn own_tallies(
 ) -> Result<List<ShardVotes>, NoMemory>
     ensures { IfOk result (λ x. map tally_value x.items ≡ tallies_of tallies.now) }
 {
-    let mut parts = Vec::new(alloc);
+    let mut parts = Vec::with_capacity(alloc, tallies.len())?;
     for item in tallies.iter() {
         let part = own_tally(alloc, &item)?;
         parts.push(part)?;
@@ -76,7 +77,7 @@ fn own_log(alloc: Global, item: &LogItem<'_>) -> Result<LogPart, NoMemory>
 pub(super) fn own_logs(alloc: Global, logs: &LogsView<'_>) -> Result<List<LogPart>, NoMemory>
     ensures { IfOk result (λ x. map log_value x.items ≡ logs_of logs.now) }
 {
-    let mut parts = Vec::new(alloc);
+    let mut parts = Vec::with_capacity(alloc, logs.len())?;
     for item in logs.iter() {
         let part = own_log(alloc, &item)?;
         parts.push(part)?;
@@ -104,7 +105,7 @@ pub(super) fn own_replies(
 ) -> Result<List<InvokePart>, NoMemory>
     ensures { IfOk result (λ x. map reply_value x.items ≡ replies_of replies.now) }
 {
-    let mut parts = Vec::new(alloc);
+    let mut parts = Vec::with_capacity(alloc, replies.len())?;
     for item in replies.iter() {
         let part = own_reply(alloc, &item)?;
         parts.push(part)?;
@@ -127,7 +128,7 @@ fn own_word(alloc: Global, item: &ElectItem<'_>) -> Result<ElectPart, NoMemory>
 pub(super) fn own_words(alloc: Global, words: &ElectsView<'_>) -> Result<List<ElectPart>, NoMemory>
     ensures { IfOk result (λ x. map word_value x.items ≡ elects_of words.now) }
 {
-    let mut parts = Vec::new(alloc);
+    let mut parts = Vec::with_capacity(alloc, words.len())?;
     for item in words.iter() {
         let part = own_word(alloc, &item)?;
         parts.push(part)?;

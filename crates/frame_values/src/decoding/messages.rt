@@ -3,7 +3,8 @@
 ghost use Rattle.std.specs.Prelude.{◌≡◌, IfOk, option_map};
 ghost use Rattle.basil_types.specs.Shown.{transaction_of};
 ghost use Rattle.frame_values.specs.Owned.{message_value};
-ghost use Rattle.frame_views.specs.Shown.{message_of, read_of, read_reply_of, st1_of, voted_of, st2_of, log_reply_of, writeback_of, recover_of, invoke_of, elect_message_of, decide_of};
+ghost use Rattle.frame_views.specs.Shown.{message_of, read_of, read_reply_of, st1_of, voted_of, st2_of, log_reply_of};
+ghost use Rattle.frame_views.specs.Shown.{writeback_of, recover_of, invoke_of, elect_message_of, decide_of};
 ghost use Rattle.frame_views.specs.Values as values;
 
 use super::certificates::{own_certificate, own_committed};

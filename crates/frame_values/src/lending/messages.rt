@@ -1,8 +1,11 @@
 //! Owned messages, lent.
 
 ghost use Rattle.std.specs.Prelude.{◌≡◌};
-ghost use Rattle.frame_values.specs.Owned.{read_value, read_reply_value, st1_value, voted_value, st2_value, log_reply_value, writeback_value, recover_value, invoke_value, elect_value, decide_value, message_value};
-ghost use Rattle.frame_values.specs.Parts.{read_reply_parts, vote_parts, st2_parts, writeback_parts, invoke_parts, decide_parts, message_parts};
+ghost use Rattle.frame_values.specs.Owned.{read_value, read_reply_value, st1_value, voted_value, st2_value};
+ghost use Rattle.frame_values.specs.Owned.{log_reply_value, writeback_value, recover_value, invoke_value, elect_value};
+ghost use Rattle.frame_values.specs.Owned.{decide_value, message_value};
+ghost use Rattle.frame_values.specs.Parts.{read_reply_parts, vote_parts, st2_parts, writeback_parts, invoke_parts};
+ghost use Rattle.frame_values.specs.Parts.{decide_parts, message_parts};
 ghost use Rattle.frame_views.specs.Shown.{read_of, st1_of, log_reply_of, recover_of, elect_message_of};
 
 use super::parts::{

@@ -9,14 +9,14 @@ use frame_views::certificates::CertificateView;
 use frame_views::frames::{ElectView, LogReplyView, ReadView, RecoverView, St1View};
 
 /// A certificate about the transaction with this id.
-#[derive(Clone, Copy, Debug)]
+#[derive(Clone, Copy)]
 pub struct CertificateParts<'a> {
     pub id: [u8; 32],
     pub body: BodyParts<'a>,
 }
 
 /// The body of a certificate, by kinds (Basil, commit and abort certificates).
-#[derive(Clone, Copy, Debug)]
+#[derive(Clone, Copy)]
 pub enum BodyParts<'a> {
     /// Commit votes of every involved shard.
     FastCommit {
@@ -46,7 +46,7 @@ pub enum BodyParts<'a> {
 }
 
 /// The second stage, a decision with the votes that give it.
-#[derive(Clone, Copy, Debug)]
+#[derive(Clone, Copy)]
 pub struct St2Parts<'a> {
     pub transaction: TransactionView<'a>,
     /// 1 to 8,192 bytes.
@@ -56,7 +56,7 @@ pub struct St2Parts<'a> {
 }
 
 /// A client invokes the fallback with log replies.
-#[derive(Clone, Copy, Debug)]
+#[derive(Clone, Copy)]
 pub struct InvokeParts<'a> {
     pub id: [u8; 32],
     pub shard: u8,
@@ -64,7 +64,7 @@ pub struct InvokeParts<'a> {
 }
 
 /// A leader's proposal in a view, from 1, with the words that elect it.
-#[derive(Clone, Copy, Debug)]
+#[derive(Clone, Copy)]
 pub struct DecideParts<'a> {
     pub transaction: TransactionView<'a>,
     pub shard: u8,
@@ -78,7 +78,7 @@ pub struct DecideParts<'a> {
 }
 
 /// A replica's latest committed and prepared writers of a key below a read.
-#[derive(Clone, Copy, Debug)]
+#[derive(Clone, Copy)]
 pub struct ReadReplyParts<'a> {
     pub shard: u8,
     pub replica: u8,
@@ -94,7 +94,7 @@ pub struct ReadReplyParts<'a> {
 }
 
 /// A replica's vote.
-#[derive(Clone, Copy, Debug)]
+#[derive(Clone, Copy)]
 pub struct VoteParts<'a> {
     pub shard: u8,
     pub replica: u8,
@@ -106,14 +106,14 @@ pub struct VoteParts<'a> {
 }
 
 /// A transaction and an owned certificate.
-#[derive(Clone, Copy, Debug)]
+#[derive(Clone, Copy)]
 pub struct WritebackParts<'a> {
     pub transaction: TransactionView<'a>,
     pub certificate: &'a Certificate,
 }
 
 /// What is written as a frame, by kinds: an owned message, lent.
-#[derive(Clone, Copy, Debug)]
+#[derive(Clone, Copy)]
 pub enum MessageParts<'a> {
     Read(ReadView<'a>),
     ReadReply(ReadReplyParts<'a>),

@@ -7,7 +7,7 @@ use basil_types::party::Decision;
 use basil_types::transaction::Transaction;
 
 /// A certificate about the transaction with this id.
-#[derive(Debug, Drop)]
+#[derive(Drop)]
 #[cycle(certificate)]
 pub struct Certificate {
     pub id: [u8; 32],
@@ -15,7 +15,7 @@ pub struct Certificate {
 }
 
 /// What a certificate holds, by kinds.
-#[derive(Debug, Drop)]
+#[derive(Drop)]
 #[cycle(certificate)]
 pub enum CertificateBody {
     /// Commit votes of every involved shard.

@@ -8,7 +8,7 @@ use basil_types::party::Decision;
 use basil_types::transaction::Transaction;
 
 /// What a frame says, by kinds; the fields of each are those of its view.
-#[derive(Debug, Drop)]
+#[derive(Drop)]
 pub enum Message {
     Read(ReadMessage),
     ReadReply(ReadReplyMessage),
@@ -24,7 +24,7 @@ pub enum Message {
 }
 
 /// A client reads a key for a transaction of this time.
-#[derive(Debug, Drop)]
+#[derive(Drop)]
 pub struct ReadMessage {
     pub key: Bytes,
     pub time: u64,
@@ -32,7 +32,7 @@ pub struct ReadMessage {
 }
 
 /// A replica's latest committed and prepared writers of a key below a read.
-#[derive(Debug, Drop)]
+#[derive(Drop)]
 pub struct ReadReplyMessage {
     pub shard: u8,
     pub replica: u8,
@@ -45,14 +45,14 @@ pub struct ReadReplyMessage {
 }
 
 /// The first stage, a transaction that its client signed.
-#[derive(Debug, Drop)]
+#[derive(Drop)]
 pub struct St1Message {
     pub transaction: Transaction,
     pub signature: Bytes,
 }
 
 /// A replica's vote.
-#[derive(Debug, Drop)]
+#[derive(Drop)]
 pub struct VoteMessage {
     pub shard: u8,
     pub replica: u8,
@@ -63,7 +63,7 @@ pub struct VoteMessage {
 }
 
 /// The second stage, a decision with the votes that give it.
-#[derive(Debug, Drop)]
+#[derive(Drop)]
 pub struct St2Message {
     pub transaction: Transaction,
     pub signature: Bytes,
@@ -72,7 +72,7 @@ pub struct St2Message {
 }
 
 /// A replica's logged decision, the view in which it was decided, and the current view.
-#[derive(Debug, Drop)]
+#[derive(Drop)]
 pub struct LogReplyMessage {
     pub shard: u8,
     pub replica: u8,
@@ -84,21 +84,21 @@ pub struct LogReplyMessage {
 }
 
 /// A transaction and a certificate.
-#[derive(Debug, Drop)]
+#[derive(Drop)]
 pub struct WritebackMessage {
     pub transaction: Transaction,
     pub certificate: Certificate,
 }
 
 /// A client asks for what is known of a transaction that its client signed.
-#[derive(Debug, Drop)]
+#[derive(Drop)]
 pub struct RecoverMessage {
     pub transaction: Transaction,
     pub signature: Bytes,
 }
 
 /// A client invokes the fallback with log replies.
-#[derive(Debug, Drop)]
+#[derive(Drop)]
 pub struct InvokeMessage {
     pub id: [u8; 32],
     pub shard: u8,
@@ -106,7 +106,7 @@ pub struct InvokeMessage {
 }
 
 /// A replica's word in the election of a view.
-#[derive(Debug, Drop)]
+#[derive(Drop)]
 pub struct ElectMessage {
     pub transaction: Transaction,
     pub shard: u8,
@@ -117,7 +117,7 @@ pub struct ElectMessage {
 }
 
 /// A leader's proposal in a view, with the words that elect it.
-#[derive(Debug, Drop)]
+#[derive(Drop)]
 pub struct DecideMessage {
     pub transaction: Transaction,
     pub shard: u8,

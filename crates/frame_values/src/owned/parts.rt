@@ -7,28 +7,28 @@ use basil_types::party::Decision;
 use basil_types::transaction::Transaction;
 
 /// A transaction, with a certificate of a kind that may commit.
-#[derive(Debug, Drop)]
+#[derive(Drop)]
 pub struct CommittedPart {
     pub transaction: Transaction,
     pub certificate: Certificate,
 }
 
 /// A vote in a list: the replica and its signature.
-#[derive(Debug, Drop)]
+#[derive(Drop)]
 pub struct VotePart {
     pub replica: u8,
     pub signature: Bytes,
 }
 
 /// The votes of one shard, ascending strictly by replica.
-#[derive(Debug, Drop)]
+#[derive(Drop)]
 pub struct ShardVotes {
     pub shard: u8,
     pub votes: List<VotePart>,
 }
 
 /// A log reply of a certificate: the replica, its current view and its signature.
-#[derive(Debug, Drop)]
+#[derive(Drop)]
 pub struct LogPart {
     pub replica: u8,
     pub current: u64,
@@ -37,7 +37,7 @@ pub struct LogPart {
 
 /// A log reply of an invoke: the replica, its decision, the view in which it was decided, its current view
 /// and its signature.
-#[derive(Debug, Drop)]
+#[derive(Drop)]
 pub struct InvokePart {
     pub replica: u8,
     pub decision: Decision,
@@ -47,7 +47,7 @@ pub struct InvokePart {
 }
 
 /// An election word: the replica, its decision and its signature.
-#[derive(Debug, Drop)]
+#[derive(Drop)]
 pub struct ElectPart {
     pub replica: u8,
     pub decision: Decision,

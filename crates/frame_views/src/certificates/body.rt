@@ -6,7 +6,7 @@ use basil_types::party::Decision;
 use basil_types::transaction::TransactionView;
 
 /// The body of a certificate.
-#[derive(Clone, Copy, Debug)]
+#[derive(Clone, Copy)]
 pub enum CertBody<'a> {
     /// Commit votes of every involved shard.
     FastCommit {
@@ -35,7 +35,7 @@ pub enum CertBody<'a> {
 }
 
 /// What stands behind the kind of a certificate.
-#[derive(Clone, Copy, Debug)]
+#[derive(Clone, Copy)]
 pub(crate) struct CertParts<'a> {
     pub(crate) id: [u8; 32],
     pub(crate) body: CertBody<'a>,

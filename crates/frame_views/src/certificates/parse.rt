@@ -4,7 +4,8 @@ ghost use Rattle.std.specs.Prelude.{◌≡◌, IfOk, true};
 ghost use Rattle.basil_types.specs.Steps.{Gives};
 ghost use Rattle.frame_views.specs.Fitting.{Within, widest, is_commit};
 ghost use Rattle.frame_views.specs.Forms.{made};
-ghost use Rattle.frame_views.specs.Grammar.{logged_at, commit_body_at, commit_at, fast_abort_at, conflict_at, body_at, certificate_at};
+ghost use Rattle.frame_views.specs.Grammar.{logged_at, commit_body_at, commit_at, fast_abort_at, conflict_at, body_at};
+ghost use Rattle.frame_views.specs.Grammar.{certificate_at};
 ghost use Rattle.frame_views.specs.Values as values;
 ghost use Rattle.frame_views.specs.Values.{as_certificate};
 ghost use Rattle.frame_views.specs.Shown.{certificate_of, body_of, parts_of, HoldsCommit};
@@ -21,7 +22,8 @@ use basil_types::transaction::first;
 #[tactic(auto, unfolding(crate::specs::Grammar::logged_at))]
 fn logged<'a>(bounds: Bounds, bytes: &'a [u8]) -> Result<(CertBody<'a>, &'a [u8]), Fault>
     requires { Within bounds widest }
-    ensures gives { Gives (λ x. (body_of x.0, x.1.now)) result (made values.Commits (made values.Logged (logged_at bounds)) bytes.now) }
+    ensures gives { Gives (λ x. (body_of x.0, x.1.now)) result
+        (made values.Commits (made values.Logged (logged_at bounds)) bytes.now) }
     ensures commits { IfOk result (λ x. HoldsCommit x.0) }
 {
     let (shard, rest) = between(0, bounds.shards, bytes)?;
@@ -47,7 +49,8 @@ fn commit_body<'a>(
     bytes: &'a [u8],
 ) -> Result<(CertBody<'a>, &'a [u8]), Fault>
     requires { Within bounds widest }
-    ensures gives { Gives (λ x. (body_of x.0, x.1.now)) result (made values.Commits (commit_body_at bounds kind) bytes.now) }
+    ensures gives { Gives (λ x. (body_of x.0, x.1.now)) result
+        (made values.Commits (commit_body_at bounds kind) bytes.now) }
     ensures commits { IfOk result (λ x. HoldsCommit x.0) }
 {
     if kind == 1 {
@@ -76,7 +79,8 @@ pub(crate) fn commit<'a>(
     bytes: &'a [u8],
 ) -> Result<(CertificateView<'a>, &'a [u8]), Fault>
     requires { Within bounds widest }
-    ensures gives { Gives (λ x. (certificate_of x.0, x.1.now)) result (made as_certificate (commit_at bounds) bytes.now) }
+    ensures gives { Gives (λ x. (certificate_of x.0, x.1.now)) result
+        (made as_certificate (commit_at bounds) bytes.now) }
     ensures commits { IfOk result (λ x. is_commit (certificate_of x.0).body ≡ true) }
 {
     match commit_parts(bounds, bytes) {
@@ -92,7 +96,8 @@ pub(crate) fn commit<'a>(
 #[tactic(auto, unfolding(crate::specs::Grammar::fast_abort_at))]
 fn fast_abort<'a>(bounds: Bounds, bytes: &'a [u8]) -> Result<(CertBody<'a>, &'a [u8]), Fault>
     requires { Within bounds widest }
-    ensures gives { Gives (λ x. (body_of x.0, x.1.now)) result (made values.FastAbort (fast_abort_at bounds) bytes.now) }
+    ensures gives { Gives (λ x. (body_of x.0, x.1.now)) result
+        (made values.FastAbort (fast_abort_at bounds) bytes.now) }
     ensures commits { IfOk result (λ x. HoldsCommit x.0) }
 {
     let (shard, rest) = between(0, bounds.shards, bytes)?;
@@ -104,7 +109,8 @@ fn fast_abort<'a>(bounds: Bounds, bytes: &'a [u8]) -> Result<(CertBody<'a>, &'a 
 #[tactic(auto, unfolding(crate::specs::Grammar::conflict_at))]
 fn conflict<'a>(bounds: Bounds, bytes: &'a [u8]) -> Result<(CertBody<'a>, &'a [u8]), Fault>
     requires { Within bounds widest }
-    ensures gives { Gives (λ x. (body_of x.0, x.1.now)) result (made values.ConflictAbort (conflict_at bounds) bytes.now) }
+    ensures gives { Gives (λ x. (body_of x.0, x.1.now)) result
+        (made values.ConflictAbort (conflict_at bounds) bytes.now) }
     ensures commits { IfOk result (λ x. HoldsCommit x.0) }
 {
     let (shard, rest) = between(0, bounds.shards, bytes)?;

@@ -9,7 +9,7 @@ use crate::bounds::WIDEST;
 use basil_types::reading::in_range;
 
 /// A certificate, by its bytes, which were checked.
-#[derive(Clone, Copy, Debug)]
+#[derive(Clone, Copy)]
 pub struct CertificateView<'a> {
     bytes: &'a [u8],
     ghost whole: { IsTrue (spells_certificate bytes.now) },

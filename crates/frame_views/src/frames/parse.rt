@@ -3,10 +3,12 @@
 ghost use Rattle.std.specs.Prelude.{◌≡◌};
 ghost use Rattle.basil_types.specs.Steps.{Gives};
 ghost use Rattle.frame_views.specs.Fitting.{Within, widest};
-ghost use Rattle.frame_views.specs.Grammar.{read_message_at, read_reply_at, signed_at, voted_at, st2_at, log_reply_at, writeback_at, invoke_at, elect_at, decide_at, message_at};
-ghost use Rattle.frame_views.specs.Shown.{read_of, read_reply_of, st1_of, voted_of, st2_of, log_reply_of, writeback_of, recover_of, invoke_of, elect_message_of, decide_of, message_of};
+ghost use Rattle.frame_views.specs.Grammar.{read_message_at, read_reply_at, signed_at, voted_at, st2_at, log_reply_at};
+ghost use Rattle.frame_views.specs.Grammar.{writeback_at, invoke_at, elect_at, decide_at, message_at};
+ghost use Rattle.frame_views.specs.Shown.{read_of, read_reply_of, st1_of, voted_of, st2_of, log_reply_of, writeback_of};
+ghost use Rattle.frame_views.specs.Shown.{recover_of, invoke_of, elect_message_of, decide_of, message_of};
 
-use super::parts::{is_abort, maybe_committed, maybe_prepared};
+use super::parts::{maybe_committed, maybe_prepared};
 use super::views::{
     DecideView, ElectView, InvokeView, LogReplyView, MessageView, ReadReplyView, ReadView,
     RecoverView, St1View, St2View, VoteView, WritebackView,
@@ -16,6 +18,7 @@ use crate::certificates::parse::certificate;
 use crate::fields::{decision, id, number_from, signature};
 use crate::items::{ElectsView, InvokesView, TalliesView};
 use crate::kind::Kind;
+use basil_types::party::is_abort;
 use basil_types::reading::{Fault, between, key, u64_at};
 use basil_types::transaction::first;
 

@@ -4,7 +4,6 @@ ghost use Rattle.std.specs.Prelude.{◌≡◌, option_map};
 ghost use Rattle.basil_types.specs.Parsed.{transaction_at};
 ghost use Rattle.basil_types.specs.Shown.{transaction_of};
 ghost use Rattle.basil_types.specs.Steps.{Gives};
-ghost use Rattle.frame_views.specs.Fitting as fitting;
 ghost use Rattle.frame_views.specs.Fitting.{Within, widest};
 ghost use Rattle.frame_views.specs.Grammar.{committed_at, maybe_committed_at, maybe_prepared_at};
 ghost use Rattle.frame_views.specs.Shown.{committed_of};
@@ -13,19 +12,8 @@ use super::views::CommittedView;
 use crate::bounds::Bounds;
 use crate::certificates::parse::commit;
 use crate::fields::allowed_flag;
-use basil_types::party::Decision;
 use basil_types::reading::Fault;
 use basil_types::transaction::{TransactionView, first};
-
-/// Whether a decision is to abort.
-pub(crate) fn is_abort(decision: Decision) -> bool
-    ensures { result ≡ fitting.is_abort decision }
-{
-    match decision {
-        Decision::Commit => false,
-        Decision::Abort => true,
-    }
-}
 
 /// A transaction and a certificate of kind 1 or 2.
 #[tactic(auto, unfolding(crate::specs::Grammar::committed_at))]

@@ -12,6 +12,7 @@ use crate::bounds::Bounds;
 use crate::fault::{BadFrame, place};
 use crate::kind::Kind;
 use basil_types::cluster::Cluster;
+use basil_types::limits::FRAME_LIMIT;
 use basil_types::reading::byte;
 
 /// The kind that a frame's first byte names.
@@ -77,7 +78,7 @@ fn checked<'a>(bounds: Bounds, frame: &'a [u8]) -> Result<MessageView<'a>, BadFr
     requires { Within bounds widest }
     ensures { Answers message_of result (frame_in bounds frame.now) }
 {
-    if frame.len() > 1_048_576 {
+    if frame.len() > FRAME_LIMIT {
         return Err(BadFrame::Length);
     }
     behind_kind(bounds, frame)
@@ -85,7 +86,7 @@ fn checked<'a>(bounds: Bounds, frame: &'a [u8]) -> Result<MessageView<'a>, BadFr
 
 /// Reads a frame of a cluster: Ok exactly where it is in the grammar, and otherwise the first fault. Takes no memory.
 ///
-/// A length above 1,048,576 comes first. Then the fields are read from left to right; at one field its range comes
+/// A length above `FRAME_LIMIT` comes first. Then the fields are read from left to right; at one field its range comes
 /// before its order, and bytes behind the body come last.
 pub fn check<'a>(frame: &'a [u8], cluster: &Cluster) -> Result<MessageView<'a>, BadFrame>
     // What is read fits the cluster, and the frame is its spelling.

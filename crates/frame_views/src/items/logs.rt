@@ -11,17 +11,17 @@ use crate::fields::{next_number, number_from, signature_like};
 use basil_types::reading::{Fault, byte};
 
 /// A log reply of a certificate: the replica, its current view and its signature.
-#[derive(Clone, Copy, Debug)]
+#[derive(Clone, Copy)]
 pub struct LogItem<'a> {
     pub replica: u8,
     /// At least the view of the decision.
     pub current: u64,
-    /// 1 to 8,192 bytes.
+    /// 1 to `SIGNATURE_LIMIT` bytes.
     pub signature: &'a [u8],
 }
 
 /// Logs in bytes that were checked, ascending strictly by replica.
-#[derive(Clone, Copy, Debug)]
+#[derive(Clone, Copy)]
 pub struct LogsView<'a> {
     count: u8,
     bytes: &'a [u8],
@@ -29,7 +29,7 @@ pub struct LogsView<'a> {
 }
 
 /// The logs that are left of a list, one after the other.
-#[derive(Debug, Drop)]
+#[derive(Drop)]
 pub struct LogsIter<'a> {
     left: u8,
     floor: u16,
@@ -107,7 +107,8 @@ impl<'a> LogsView<'a> {
         bytes: &'a [u8],
     ) -> Result<(LogsView<'a>, &'a [u8]), Fault>
         requires { Within bounds widest }
-        ensures { Gives (λ x. (logs_of x.0, x.1.now)) result (items_at (log_at bounds decided) after_log count 0 bytes.now) }
+        ensures { Gives (λ x. (logs_of x.0, x.1.now)) result
+            (items_at (log_at bounds decided) after_log count 0 bytes.now) }
     {
         let mut rest = bytes;
         let mut floor = 0u16;

@@ -13,19 +13,19 @@ use basil_types::reading::{Fault, byte, in_range, u64_at};
 
 /// A log reply of an invoke: the replica, its decision, the view in which it was decided, its current view and its
 /// signature.
-#[derive(Clone, Copy, Debug)]
+#[derive(Clone, Copy)]
 pub struct InvokeItem<'a> {
     pub replica: u8,
     pub decision: Decision,
     pub decided: u64,
     /// At least `decided`.
     pub current: u64,
-    /// 1 to 8,192 bytes.
+    /// 1 to `SIGNATURE_LIMIT` bytes.
     pub signature: &'a [u8],
 }
 
 /// Replies in bytes that were checked, ascending strictly by replica.
-#[derive(Clone, Copy, Debug)]
+#[derive(Clone, Copy)]
 pub struct InvokesView<'a> {
     count: u8,
     bytes: &'a [u8],
@@ -33,7 +33,7 @@ pub struct InvokesView<'a> {
 }
 
 /// The replies that are left of a list, one after the other.
-#[derive(Debug, Drop)]
+#[derive(Drop)]
 pub struct InvokesIter<'a> {
     left: u8,
     floor: u16,
@@ -114,7 +114,8 @@ impl<'a> InvokesView<'a> {
         bytes: &'a [u8],
     ) -> Result<(InvokesView<'a>, &'a [u8]), Fault>
         requires { Within bounds widest }
-        ensures { Gives (λ x. (replies_of x.0, x.1.now)) result (items_at (reply_at bounds) after_reply count 0 bytes.now) }
+        ensures { Gives (λ x. (replies_of x.0, x.1.now)) result
+            (items_at (reply_at bounds) after_reply count 0 bytes.now) }
     {
         let mut rest = bytes;
         let mut floor = 0u16;

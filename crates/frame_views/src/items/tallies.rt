@@ -12,14 +12,14 @@ use crate::fields::next_number;
 use basil_types::reading::{Fault, byte, in_range};
 
 /// The votes of one shard.
-#[derive(Clone, Copy, Debug)]
+#[derive(Clone, Copy)]
 pub struct ShardItem<'a> {
     pub shard: u8,
     pub votes: VotesView<'a>,
 }
 
 /// Tallies in bytes that were checked, ascending strictly by shard.
-#[derive(Clone, Copy, Debug)]
+#[derive(Clone, Copy)]
 pub struct TalliesView<'a> {
     count: u8,
     bytes: &'a [u8],
@@ -27,7 +27,7 @@ pub struct TalliesView<'a> {
 }
 
 /// The tallies that are left of a list, one after the other.
-#[derive(Debug, Drop)]
+#[derive(Drop)]
 pub struct TalliesIter<'a> {
     left: u8,
     floor: u16,
@@ -94,7 +94,8 @@ impl<'a> TalliesView<'a> {
         bytes: &'a [u8],
     ) -> Result<(TalliesView<'a>, &'a [u8]), Fault>
         requires { Within bounds widest }
-        ensures { Gives (λ x. (tallies_of x.0, x.1.now)) result (items_at (tally_at bounds) after_tally count 0 bytes.now) }
+        ensures { Gives (λ x. (tallies_of x.0, x.1.now)) result
+            (items_at (tally_at bounds) after_tally count 0 bytes.now) }
     {
         let mut rest = bytes;
         let mut floor = 0u16;

@@ -11,15 +11,15 @@ use crate::fields::{next_number, signature_like};
 use basil_types::reading::{Fault, byte};
 
 /// A vote in a list: the replica and its signature.
-#[derive(Clone, Copy, Debug)]
+#[derive(Clone, Copy)]
 pub struct VoteItem<'a> {
     pub replica: u8,
-    /// 1 to 8,192 bytes.
+    /// 1 to `SIGNATURE_LIMIT` bytes.
     pub signature: &'a [u8],
 }
 
 /// Votes in bytes that were checked, ascending strictly by replica.
-#[derive(Clone, Copy, Debug)]
+#[derive(Clone, Copy)]
 pub struct VotesView<'a> {
     count: u8,
     bytes: &'a [u8],
@@ -27,7 +27,7 @@ pub struct VotesView<'a> {
 }
 
 /// The votes that are left of a list, one after the other.
-#[derive(Debug, Drop)]
+#[derive(Drop)]
 pub struct VotesIter<'a> {
     left: u8,
     floor: u16,

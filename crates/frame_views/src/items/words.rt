@@ -12,16 +12,16 @@ use basil_types::party::Decision;
 use basil_types::reading::{Fault, byte, in_range};
 
 /// An election word: the replica, its decision and its signature.
-#[derive(Clone, Copy, Debug)]
+#[derive(Clone, Copy)]
 pub struct ElectItem<'a> {
     pub replica: u8,
     pub decision: Decision,
-    /// 1 to 8,192 bytes.
+    /// 1 to `SIGNATURE_LIMIT` bytes.
     pub signature: &'a [u8],
 }
 
 /// Words in bytes that were checked, ascending strictly by replica.
-#[derive(Clone, Copy, Debug)]
+#[derive(Clone, Copy)]
 pub struct ElectsView<'a> {
     count: u8,
     bytes: &'a [u8],
@@ -29,7 +29,7 @@ pub struct ElectsView<'a> {
 }
 
 /// The words that are left of a list, one after the other.
-#[derive(Debug, Drop)]
+#[derive(Drop)]
 pub struct ElectsIter<'a> {
     left: u8,
     floor: u16,
@@ -103,7 +103,8 @@ impl<'a> ElectsView<'a> {
         bytes: &'a [u8],
     ) -> Result<(ElectsView<'a>, &'a [u8]), Fault>
         requires { Within bounds widest }
-        ensures { Gives (λ x. (elects_of x.0, x.1.now)) result (items_at (word_at bounds) after_word count 0 bytes.now) }
+        ensures { Gives (λ x. (elects_of x.0, x.1.now)) result
+            (items_at (word_at bounds) after_word count 0 bytes.now) }
     {
         let mut rest = bytes;
         let mut floor = 0u16;

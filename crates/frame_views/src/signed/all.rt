@@ -2,7 +2,8 @@
 
 ghost use Rattle.std.specs.Prelude.{◌≡◌, ◌∷◌, [], length};
 ghost use Rattle.frame_views.specs.Fitting.{IsSpoken, IsKeyLength};
-ghost use Rattle.frame_views.specs.Shown.{message_of, read_reply_of, voted_of, st2_of, log_reply_of, writeback_of, invoke_of, elect_message_of, decide_of};
+ghost use Rattle.frame_views.specs.Shown.{message_of, read_reply_of, voted_of, st2_of, log_reply_of, writeback_of};
+ghost use Rattle.frame_views.specs.Shown.{invoke_of, elect_message_of, decide_of};
 ghost use Rattle.frame_views.specs.Signed.{signed_in};
 ghost use Rattle.frame_views.specs.Values as values;
 ghost use Rattle.frame_views.specs.Walks.{signed_of, signed_left};

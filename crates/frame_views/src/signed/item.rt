@@ -6,7 +6,8 @@ ghost use Rattle.basil_types.specs.Transaction as transactions;
 ghost use Rattle.frame_views.specs.Fitting.{IsKeyLength};
 ghost use Rattle.frame_views.specs.Items.{vote_of, reply_of, elect_of};
 ghost use Rattle.frame_views.specs.Shown.{read_reply_of, committed_of};
-ghost use Rattle.frame_views.specs.Signed.{client_signed, vote_signed, log_signed, word_signed, proposal_signed, reply_signed, version_told, committed_told};
+ghost use Rattle.frame_views.specs.Signed.{client_signed, vote_signed, log_signed, word_signed, proposal_signed};
+ghost use Rattle.frame_views.specs.Signed.{reply_signed, version_told, committed_told};
 ghost use Rattle.frame_views.specs.Walks.{signed_of};
 
 use crate::frames::{CommittedView, ReadReplyView};
@@ -18,7 +19,7 @@ use basil_types::version::Version;
 use basil_types::words::Words;
 
 /// A signature of a frame, with the party whose it is and the words that it is of.
-#[derive(Debug, Drop)]
+#[derive(Drop)]
 pub struct SignedItem<'a> {
     pub party: Party,
     pub words: Words,

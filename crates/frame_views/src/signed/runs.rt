@@ -14,7 +14,7 @@ use crate::items::{
 use basil_types::party::Decision;
 
 /// Votes with one decision on one transaction: those left of one shard, and those of the shards behind it.
-#[derive(Debug, Drop)]
+#[derive(Drop)]
 pub(crate) struct TalliesRun<'a> {
     pub(crate) id: [u8; 32],
     pub(crate) decision: Decision,
@@ -24,7 +24,7 @@ pub(crate) struct TalliesRun<'a> {
 }
 
 /// Log replies of a certificate.
-#[derive(Debug, Drop)]
+#[derive(Drop)]
 pub(crate) struct LogsRun<'a> {
     pub(crate) id: [u8; 32],
     pub(crate) shard: u8,
@@ -34,7 +34,7 @@ pub(crate) struct LogsRun<'a> {
 }
 
 /// Log replies of an invoke.
-#[derive(Debug, Drop)]
+#[derive(Drop)]
 pub(crate) struct RepliesRun<'a> {
     pub(crate) id: [u8; 32],
     pub(crate) shard: u8,
@@ -42,7 +42,7 @@ pub(crate) struct RepliesRun<'a> {
 }
 
 /// Election words of a view.
-#[derive(Debug, Drop)]
+#[derive(Drop)]
 pub(crate) struct WordsRun<'a> {
     pub(crate) id: [u8; 32],
     pub(crate) shard: u8,
@@ -51,7 +51,7 @@ pub(crate) struct WordsRun<'a> {
 }
 
 /// The signatures of one list.
-#[derive(Debug, Drop)]
+#[derive(Drop)]
 pub(crate) enum Run<'a> {
     Nothing,
     Tallies(TalliesRun<'a>),
@@ -85,7 +85,8 @@ impl<'a> TalliesRun<'a> {
         shard: u8,
         votes: VotesView<'a>,
     ) -> TalliesRun<'a>
-        ensures { tallies_walk result ≡ tally_signed id decision (record { shard = shard; votes = votes_of votes.entry }) }
+        ensures { tallies_walk result ≡ tally_signed id decision
+            (record { shard = shard; votes = votes_of votes.entry }) }
     {
         TalliesRun {
             id,
@@ -123,7 +124,8 @@ impl<'a> LogsRun<'a> {
         decided: u64,
         logs: LogsView<'a>,
     ) -> LogsRun<'a>
-        ensures { logs_walk result ≡ logged_signed id (record { shard = shard; decision = decision; decided = decided; logs = logs_of logs.entry }) }
+        ensures { logs_walk result ≡ logged_signed id
+            (record { shard = shard; decision = decision; decided = decided; logs = logs_of logs.entry }) }
     {
         LogsRun {
             id,

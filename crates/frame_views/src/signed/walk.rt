@@ -15,7 +15,7 @@ use crate::items::VoteItem;
 use basil_types::party::Decision;
 
 /// The signatures of a frame that are left, in the order of the frame's bytes.
-#[derive(Debug, Drop)]
+#[derive(Drop)]
 pub struct Signatures<'a> {
     pub(crate) front: Option<SignedItem<'a>>,
     pub(crate) run: Run<'a>,
@@ -46,7 +46,8 @@ impl<'a> Iterator for Signatures<'a> {
 /// The signatures of a certificate of a kind that may commit.
 fn commit_run<'a>(certificate: CertificateView<'a>) -> Run<'a>
     requires { is_commit (certificate_of certificate).body ≡ true }
-    ensures { run_left result ≡ commit_signed (as_commit (certificate_of certificate.entry)).id (as_commit (certificate_of certificate.entry)).body }
+    ensures { run_left result ≡ commit_signed (as_commit (certificate_of certificate.entry)).id
+        (as_commit (certificate_of certificate.entry)).body }
 {
     let id = certificate.id();
     match certificate.body() {

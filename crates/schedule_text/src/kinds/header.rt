@@ -12,7 +12,7 @@ use crate::words::{eight, seven};
 use basil_types::cluster::Cluster;
 
 /// A cluster's numbers as a header spells them, before it is known whether there is such a cluster.
-#[derive(Clone, Copy, Debug)]
+#[derive(Clone, Copy)]
 pub struct ClusterNumbers {
     pub f: u64,
     pub shards: u64,
@@ -21,7 +21,7 @@ pub struct ClusterNumbers {
 }
 
 /// What a header's words say.
-#[derive(Clone, Copy, Debug)]
+#[derive(Clone, Copy)]
 pub struct HeaderFields {
     pub numbers: ClusterNumbers,
     pub clock: u64,

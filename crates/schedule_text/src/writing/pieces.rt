@@ -14,7 +14,7 @@ use basil_types::party::{Decision, Party};
 use itoa::Buffer;
 
 /// A piece of a line: mostly one word.
-#[derive(Clone, Copy, Debug)]
+#[derive(Clone, Copy)]
 pub enum Piece<'a> {
     /// A word as it stands.
     Text(&'a [u8]),

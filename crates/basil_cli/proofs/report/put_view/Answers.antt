@@ -2,7 +2,7 @@ use Rattle.std.proofs.Common.{◌≡◌, List, ◌+◌, sym, ap, ◌∙◌, opti
 use Rattle.basil_types.specs.Replayed.{Replayed, put_writes}
 use Rattle.basil_types.specs.Shown.{transaction_of, write_of}
 use Rattle.basil_types.specs.declared.transaction.parts.WritePart.{WritePart}
-use Rattle.txn_meta.proofs.Walks.{drop_here, drop_past, drop_short}
+use Rattle.basil_types.proofs.Walks.{drop_here, drop_past, drop_short}
 use Rattle.basil_cli.proofs.report.put_view.Goals as goal
 
 pub returns-in_default : goal.returns-in_default

@@ -1,7 +1,7 @@
 use Rattle.std.proofs.Common.{◌≡◌, ◌+◌, length, not}
 use Rattle.frame_views.specs.Walks.{signed_left}
 use Rattle.certificates.specs.Accepted.{accepts, first_refused}
-use Rattle.certificates.proofs.WalkLaws.{place_from}
+use Rattle.basil_types.proofs.Walks.{place_from}
 use Rattle.certificates.proofs.signatures.all_accepted.Given as goal
 
 abbrev pub invariant-loop-item : goal.invariant-loop-item

@@ -3,7 +3,7 @@ use Rattle.std.specs.BTreeMap.{insert_entry}
 use Rattle.std.specs.List.Sorted.{IsStrictlyIncreasing}
 use Rattle.std.specs.Map.{values_of}
 use Rattle.std.specs.Ordering.{nat_cmp}
-use Rattle.fallback_leader.specs.declared.words.ElectWord.{ElectWord}
+use Rattle.frame_values.specs.declared.owned.parts.ElectPart.{ElectPart}
 use Rattle.fallback_leader.specs.Elections.{words_of, by_replica}
 use Rattle.fallback_leader.proofs.OrderLaws.{by_replica_push, replicas_ascend}
 use Rattle.fallback_leader.proofs.election.propose.Goals as goal
@@ -15,4 +15,4 @@ returns-clause-ascend c =
     let last = c.args.last.now in
     let is : c.from_vec.result.items ≡ values_of es = search rules in
     let put : es ≡ by_replica (words ++ last ∷ []) = c.in_ok-put_copy.ensures.entries ∙ ap (λ es. insert_entry nat_cmp es last.replica last) c.in_ok-copies.ensures ∙ sym (by_replica_push words last) in
-    subst (λ (words : List ElectWord). IsStrictlyIncreasing (map (λ w. w.replica) words)) (sym is) (replicas_ascend es (words ++ last ∷ []) put c.in_ok-put_copy.ensures.ordered)
+    subst (λ (words : List ElectPart). IsStrictlyIncreasing (map (λ w. w.replica) words)) (sym is) (replicas_ascend es (words ++ last ∷ []) put c.in_ok-put_copy.ensures.ordered)

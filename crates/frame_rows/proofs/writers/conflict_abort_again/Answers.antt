@@ -1,7 +1,7 @@
 use Rattle.std.proofs.Common.{◌≡◌, ℕ, List, sym, subst}
-use Rattle.frame_views.specs.Fitting.{widest, FitsCertificate}
-use Rattle.frame_views.specs.Shown.{certificate_of, body_of}
-use Rattle.frame_views.specs.Values.{BodyValue, CertificateValue}
+use Rattle.basil_codec.specs.Fitting.{widest, FitsCertificate}
+use Rattle.basil_codec.specs.Shown.{certificate_of, body_of}
+use Rattle.basil_codec.specs.Values.{BodyValue, CertificateValue}
 use Rattle.frame_views.specs.declared.certificates.body.CertBody.TheVariants.{ConflictAbort}
 use Rattle.frame_rows.proofs.writers.conflict_abort_again.Goals as goal
 

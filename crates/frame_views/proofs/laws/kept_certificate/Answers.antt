@@ -1,4 +1,4 @@
-use Rattle.std.proofs.Common.{◌≡◌, arith}
+use Rattle.std.proofs.Common.{arith}
 use Rattle.basil_types.specs.Setting.{Setting, IsSetting}
 use Rattle.frame_views.specs.Fitting.{bounds_of, Within, widest}
 use Rattle.frame_views.proofs.CertificateLaws.{again-spells}

@@ -12,6 +12,6 @@ returns-in_err-check_signature-clause-refused c =
     let key = c.args.key.now in
     let rest = c.args.rest.now in
     let set : is_some (set_in key) ≡ true = search rules in
-    let size : c.size_of_set-size.result ≡ size_under key = search rules in
-    let room : c.size_of_set-size.result + 56 ≤ length rest = search rules in
-    rw (p.1, p.2) (above_refused c.args.level key rest c.size_of_set-size.result c.in_err-check_signature.field-0.0 set size room c.in_err-check_signature.ensures.refused)
+    let size : c.size-size.result ≡ size_under key = search rules in
+    let room : c.size-size.result + 56 ≤ length rest = search rules in
+    rw (p.1, p.2) (above_refused c.args.level key rest c.size-size.result c.in_err-check_signature.field-0.0 set size room c.in_err-check_signature.ensures.refused)

@@ -14,10 +14,15 @@ returns-then-is_own c held noted s =
     let own : is_own c.args.home.now (write_of c.args.item).key ≡ true = sym c.is_own.ensures ∙ c.if-is_own.true in
     c.reader_across.ensures held noted s
     ∙ ap (λ (v : Version). reader_across (write_of c.args.item).key v held) c.requires
-    ∙ sym (ap (λ (b : Bool). hits (λ h. b && (below (version_of (transaction_of c.args.t)) (version h) && reads_key_below (write_of c.args.item).key (version_of (transaction_of c.args.t)) h.transaction)) held) own)
+    ∙ sym (ap (λ (b : Bool). hits (λ h. b
+    && (below (version_of (transaction_of c.args.t)) (version h)
+    && reads_key_below (write_of c.args.item).key (version_of (transaction_of c.args.t)) h.transaction)) held) own)
 
 pub returns-else-is_own : goal.returns-else-is_own
 returns-else-is_own c held noted s =
     let other : is_own c.args.home.now (write_of c.args.item).key ≡ false = sym c.is_own.ensures ∙ c.if-is_own.false in
     c.none.ensures
-    ∙ sym (ap (λ (b : Bool). hits (λ h. b && (below (version_of (transaction_of c.args.t)) (version h) && reads_key_below (write_of c.args.item).key (version_of (transaction_of c.args.t)) h.transaction)) held) other ∙ hits_nothing held)
+    ∙ sym (ap (λ (b : Bool). hits (λ h. b
+    && (below (version_of (transaction_of c.args.t)) (version h)
+    && reads_key_below (write_of c.args.item).key (version_of (transaction_of c.args.t)) h.transaction)) held) other
+    ∙ hits_nothing held)

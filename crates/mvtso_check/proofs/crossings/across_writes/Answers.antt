@@ -1,6 +1,6 @@
 use Rattle.std.proofs.Common.{sym, ap, ◌∙◌, arith, option_map}
 use Rattle.basil_types.specs.Shown.{transaction_of, write_of}
-use Rattle.mvtso_check.specs.Verdict.{is_write_under}
+use Rattle.mvtso_check.specs.Crossings.{is_write_under}
 use Rattle.mvtso_check.proofs.SearchLaws.{goes_on, ends, ends_short}
 use Rattle.mvtso_check.proofs.crossings.across_writes.Goals as goal
 

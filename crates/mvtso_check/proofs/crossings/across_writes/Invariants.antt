@@ -3,8 +3,8 @@ use Rattle.std.specs.List.{list_any}
 use Rattle.basil_types.specs.Shown.{transaction_of}
 use Rattle.mv_store.specs.Held.{Held, NotedRead, hits}
 use Rattle.mv_store.specs.Store.{Stands}
-use Rattle.mvtso_check.specs.Crossings.{joined}
-use Rattle.mvtso_check.specs.Verdict.{is_write_under, writes_under}
+use Rattle.mv_store.specs.Hits.{joined}
+use Rattle.mvtso_check.specs.Crossings.{is_write_under, writes_under}
 use Rattle.mvtso_check.proofs.crossings.across_writes.Given as goal
 
 abbrev pub invariant-loop-place : goal.invariant-loop-place

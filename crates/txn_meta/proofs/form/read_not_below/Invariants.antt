@@ -1,9 +1,12 @@
-use Rattle.std.proofs.Common.{◌≡◌, ◌+◌, drop}
-use Rattle.std.specs.Prelude.{option_map}
-use Rattle.basil_types.specs.Shown.{transaction_of}
+use Rattle.std.proofs.Common.{◌≡◌, ◌≤◌, ◌+◌, length, not}
+use Rattle.basil_types.specs.Shown.{transaction_of, reads_left}
+use Rattle.basil_types.specs.Version.{below}
+use Rattle.basil_types.proofs.Walks.{place_from}
 use Rattle.txn_meta.specs.Form.{first_not_below}
 use Rattle.txn_meta.proofs.form.read_not_below.Given as goal
 
-abbrev pub invariant-loop-place : goal.invariant-loop-place
-invariant-loop-place l =
-    first_not_below l.version (transaction_of l.t).reads ≡ option_map (λ k. l.place + k) (first_not_below l.version (drop l.place (transaction_of l.t).reads))
+abbrev pub invariant-loop-item : goal.invariant-loop-item
+invariant-loop-item l = record {
+  found : first_not_below l.version (transaction_of l.fn.t).reads ≡ place_from (λ r. not (below r.version l.version)) l.place (reads_left l.item-iterator);
+  few : l.place + length (reads_left l.item-iterator) ≤ 32;
+}

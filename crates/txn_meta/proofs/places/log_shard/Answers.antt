@@ -9,20 +9,23 @@ use Rattle.txn_meta.proofs.places.log_shard.Goals as goal
 pub nonzero_rem-place : goal.nonzero_rem-place
 nonzero_rem-place c =
     let some = some_involved c.args.cluster.now (transaction_of c.args.t) (omega arith) (omega arith) c.requires in
-    let listed : length (members c.involved-shards.result) ≡ length (involved c.args.cluster.now (transaction_of c.args.t)) = ap (λ marks. length (members marks)) c.involved-shards.ensures in
+    let listed : length (members c.involved-shards.result) ≡ length (involved c.args.cluster.now (transaction_of c.args.t)) =
+    ap (λ marks. length (members marks)) c.involved-shards.ensures in
     omega arith
 
 pub overflow_cast-place : goal.overflow_cast-place
 overflow_cast-place c =
     let some = some_involved c.args.cluster.now (transaction_of c.args.t) (omega arith) (omega arith) c.requires in
-    let listed : length (members c.involved-shards.result) ≡ length (involved c.args.cluster.now (transaction_of c.args.t)) = ap (λ marks. length (members marks)) c.involved-shards.ensures in
+    let listed : length (members c.involved-shards.result) ≡ length (involved c.args.cluster.now (transaction_of c.args.t)) =
+    ap (λ marks. length (members marks)) c.involved-shards.ensures in
     let positive : 0 < c.from.result = omega arith in
     omega (arith, mod-lt c.time.result positive)
 
 pub unreachable-requires : goal.unreachable-requires
 unreachable-requires c =
     let some = some_involved c.args.cluster.now (transaction_of c.args.t) (omega arith) (omega arith) c.requires in
-    let listed : length (members c.involved-shards.result) ≡ length (involved c.args.cluster.now (transaction_of c.args.t)) = ap (λ marks. length (members marks)) c.involved-shards.ensures in
+    let listed : length (members c.involved-shards.result) ≡ length (involved c.args.cluster.now (transaction_of c.args.t)) =
+    ap (λ marks. length (members marks)) c.involved-shards.ensures in
     let positive : 0 < c.from.result = omega arith in
     let past = got_within (members c.involved-shards.result) (c.time.result % c.from.result) (sym c.nth.ensures ∙ c.in-None.is) in
     omega (arith, mod-lt c.time.result positive)
@@ -36,7 +39,8 @@ returns-clause-value c =
 pub returns-clause-involved : goal.returns-clause-involved
 returns-clause-involved c =
     listed_involved c.args.cluster.now (transaction_of c.args.t) (c.time.result % c.from.result) c.in-Some.shard
-    (ap (λ marks. slice_get (members marks) (c.time.result % c.from.result)) (sym c.involved-shards.ensures) ∙ sym c.nth.ensures ∙ c.in-Some.is)
+    (ap (λ marks. slice_get (members marks) (c.time.result % c.from.result)) (sym c.involved-shards.ensures) ∙ sym c.nth.ensures
+    ∙ c.in-Some.is)
 
 pub returns-clause-in_range : goal.returns-clause-in_range
 returns-clause-in_range c =

@@ -3,10 +3,12 @@ use Rattle.std.proofs.lemmas.List.Sums.{sum_by-cons}
 use Rattle.basil_types.specs.declared.party.Decision.{Decision}
 use Rattle.basil_types.specs.declared.party.Decision.TheVariants.{Commit, Abort}
 use Rattle.vote_tally.specs.declared.votes.FirstVote.{FirstVote}
-use Rattle.vote_tally.specs.Votes.{is_commit, is_abort, commits_of, aborts_of}
+use Rattle.basil_types.specs.Decision.{is_commit, is_abort}
+use Rattle.vote_tally.specs.Votes.{commits_of, aborts_of}
 use Rattle.vote_tally.proofs.laws.each_vote_is_one_of_two.Goals as goal
 
-one_more : (d : Decision) (commits aborts n : ℕ) → commits + aborts ≡ n → (cond (is_commit d) 1 0 + commits) + (cond (is_abort d) 1 0 + aborts) ≡ suc n
+one_more : (d : Decision) (commits aborts n : ℕ) → commits + aborts ≡ n →
+    (cond (is_commit d) 1 0 + commits) + (cond (is_abort d) 1 0 + aborts) ≡ suc n
 one_more Commit commits aborts n e = omega arith
 one_more Abort commits aborts n e = omega arith
 

@@ -7,16 +7,19 @@ use Rattle.std.proofs.lemmas.Map.Steps.{length-le_from_distinct_below}
 use Rattle.vote_tally.specs.declared.votes.FirstVote.{FirstVote}
 use Rattle.vote_tally.proofs.laws.first_votes_are_few.Goals as goal
 
-all_mapped : (P : ℕ → Type 0) (votes : List FirstVote) → AllByRecursion (λ (w : FirstVote). P w.replica) votes → AllByRecursion P (map (λ (w : FirstVote). w.replica) votes)
+all_mapped : (P : ℕ → Type 0) (votes : List FirstVote) → AllByRecursion (λ (w : FirstVote). P w.replica) votes →
+    AllByRecursion P (map (λ (w : FirstVote). w.replica) votes)
 all_mapped P [] h = tt
 all_mapped P (v ∷ votes) h = (h.0, all_mapped P votes h.1)
 
-distinct_mapped : (votes : List FirstVote) → IsDistinct (λ v w. v.replica == w.replica) votes → IsDistinct eqb (map (λ (w : FirstVote). w.replica) votes)
+distinct_mapped : (votes : List FirstVote) → IsDistinct (λ v w. v.replica == w.replica) votes →
+    IsDistinct eqb (map (λ (w : FirstVote). w.replica) votes)
 unfolding IsDistinct
 distinct_mapped [] h = tt
 distinct_mapped (v ∷ votes) h = (all_mapped (λ k. eqb v.replica k ≡ false) votes h.0, distinct_mapped votes h.1)
 
-below : (n k : ℕ) (votes : List FirstVote) → All (λ v. v.replica < n) votes → list_any (eqb k) (map (λ (w : FirstVote). w.replica) votes) ≡ true → k < n
+below : (n k : ℕ) (votes : List FirstVote) → All (λ v. v.replica < n) votes →
+    list_any (eqb k) (map (λ (w : FirstVote). w.replica) votes) ≡ true → k < n
 below n k [] h e = absurd cc
 below n k (v ∷ votes) h e =
     elim (eqb_tells k v.replica) [

@@ -1,10 +1,13 @@
-use Rattle.std.proofs.Common.{◌≡◌, ◌+◌, ◌*◌, ◌++◌, ◌∷◌, [], Option, length, false, ap, subst, sym, ◌∙◌, arith}
+use Rattle.std.proofs.Common.{◌≡◌, List, ◌+◌, ◌++◌, ◌∷◌, [], Option, length, false, ap, subst, sym, ◌∙◌, arith}
 use Rattle.std.specs.Prelude.{IfSome}
 use Rattle.std.specs.List.Sorted.{IsPermutation}
+use Rattle.quorum_laws.specs.Numbers.{log_quorum}
 use Rattle.fallback_leader.specs.declared.words.KeptWord.{KeptWord}
 use Rattle.fallback_leader.specs.declared.words.Proposal.{Proposal}
-use Rattle.fallback_leader.specs.Elections.{words_of, has_word, ascending, AreApart, Elects}
+use Rattle.fallback_leader.specs.Elections.{words_of, has_word, ascending, Elects}
+use Rattle.fallback_leader.specs.Collectors.{IsKept}
 use Rattle.fallback_leader.proofs.WordLaws.{apart_push}
+use Rattle.fallback_leader.proofs.IndexLaws.{index_push}
 use Rattle.fallback_leader.proofs.OrderLaws.{proposed-permutation, proposed-elects}
 use Rattle.fallback_leader.proofs.collector.Collector.collect.Goals as goal
 use Rattle.fallback_leader.proofs.collector.Collector.collect.Goals.{then-standing-quorum+in_ok-propose, else-standing-quorum}
@@ -16,7 +19,11 @@ invariant_of-self-2 c =
     let unheard : has_word kept k.id k.view k.word.replica ≡ false =
     sym (c.if-has_word_of.ensures ∙ ap (λ kept. has_word kept k.id k.view k.word.replica) c.as_slice-else-quorum-standing.ensures.value) in
     let pushed : c.push_reserved.new.self.items ≡ kept ++ k ∷ [] = c.push_reserved.ensures.items ∙ ap (λ ks. ks ++ k ∷ []) c.reserve.ensures.items in
-    subst AreApart (sym pushed) (apart_push kept k c.self.invariant unheard)
+    subst (λ ks. IsKept ks c.add.new.self) (sym pushed)
+    (record {
+      apart = apart_push kept k c.self.invariant.apart unheard;
+      indexed = index_push kept k c.self.inside.index c.add.new.self c.len.result c.self.invariant.indexed (c.len.ensures ∙ c.reserve.ensures.len ∙ sym c.as_slice.ensures.len ∙ ap (λ (ks : List KeptWord). length ks) c.as_slice.ensures.value) c.in_ok-add.ensures.added;
+    })
 
 pub returns-clause-same_words : goal.returns-clause-same_words
 returns-clause-same_words c =
@@ -30,7 +37,7 @@ returns-clause-same_words c =
       | then-standing-quorum+in_ok-propose w ↦
           let here = w.as_slice-then-standing-quorum.ensures.value ∙ c.reserve.ensures.items in
           let words = w.in_ok-propose.ensures.words ∙ ap (λ kept. ascending (words_of kept k.id k.view ++ k.word ∷ [])) here in
-          subst Same (sym w.proposal-is) (proposed-permutation kept c.push_reserved.new.self.items k w.in_ok-propose.field-0.words.items c.self.invariant unheard pushed words)
+          subst Same (sym w.proposal-is) (proposed-permutation kept c.push_reserved.new.self.items k w.in_ok-propose.field-0.words.items c.self.invariant.apart unheard pushed words)
       | else-standing-quorum w ↦ subst Same (sym w.proposal-is) tt
     ]
 
@@ -46,8 +53,8 @@ returns-clause-elects c =
           let here = w.as_slice-then-standing-quorum.ensures.value ∙ c.reserve.ensures.items in
           let words = w.in_ok-propose.ensures.words ∙ ap (λ kept. ascending (words_of kept k.id k.view ++ k.word ∷ [])) here in
           let counted = c.count_of-standing.ensures ∙ ap (λ kept. length (words_of kept k.id k.view)) c.as_slice.ensures.value in
-          let full : length (words_of kept k.id k.view) + 1 ≡ 4 * c.args.cluster.now.f + 1 = omega (arith, counted, w.if-standing-quorum.true, c.from-quorum.ensures, c.log_quorum.ensures) in
+          let full : length (words_of kept k.id k.view) + 1 ≡ log_quorum c.args.cluster.now.f = omega (arith, counted, w.if-standing-quorum.true, c.from-quorum.ensures, c.log_quorum.ensures) in
           subst Elected (sym w.proposal-is)
-          (proposed-elects c.args.cluster.now.f kept k w.in_ok-propose.field-0.words.items w.in_ok-propose.field-0.decision c.self.invariant unheard words full w.in_ok-propose.ensures.ascend w.in_ok-propose.ensures.decision)
+          (proposed-elects c.args.cluster.now.f kept k w.in_ok-propose.field-0.words.items w.in_ok-propose.field-0.decision c.self.invariant.apart unheard words full w.in_ok-propose.ensures.ascend w.in_ok-propose.ensures.decision)
       | else-standing-quorum w ↦ subst Elected (sym w.proposal-is) tt
     ]

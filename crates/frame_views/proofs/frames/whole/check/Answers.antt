@@ -1,5 +1,4 @@
-use Rattle.std.proofs.Common.{◌≡◌, Ok, subst, arith}
-use Rattle.basil_types.specs.Texts.{IsBytes}
+use Rattle.std.proofs.Common.{subst, arith}
 use Rattle.frame_views.specs.declared.bounds.Bounds.{Bounds}
 use Rattle.frame_views.specs.Fitting.{bounds_of}
 use Rattle.frame_views.specs.Frames.{Answers, frame_in}
@@ -11,10 +10,14 @@ answered : (c : goal.After-checked) → Answers message_of c.checked.result (fra
 answered c = subst (λ (b : Bounds). Answers message_of c.checked.result (frame_in b c.args.frame.now)) c.of.ensures.value c.checked.ensures
 
 pub returns-clause-found : goal.returns-clause-found
-returns-clause-found c = is_found message_of c.args.cluster.now c.args.frame.now c.checked.result (λ i. omega (arith, c.type_inv.frame i)) (answered c)
+returns-clause-found c =
+    is_found message_of c.args.cluster.now c.args.frame.now c.checked.result (λ i. omega (arith, c.type_inv.frame i)) (answered c)
 
 pub returns-clause-only : goal.returns-clause-only
-returns-clause-only c = λ m is. subst (λ r. Answers message_of c.checked.result r) (frame_again c.args.cluster.now c.args.frame.now m is) (answered c)
+returns-clause-only c =
+    λ m is. subst (λ r. Answers message_of c.checked.result r) (frame_again c.args.cluster.now c.args.frame.now m is) (answered c)
 
 pub returns-clause-spoken : goal.returns-clause-spoken
-returns-clause-spoken c = is_spoken message_of c.args.cluster.now c.args.frame.now c.checked.result (is_found message_of c.args.cluster.now c.args.frame.now c.checked.result (λ i. omega (arith, c.type_inv.frame i)) (answered c))
+returns-clause-spoken c =
+    is_spoken message_of c.args.cluster.now c.args.frame.now c.checked.result
+    (is_found message_of c.args.cluster.now c.args.frame.now c.checked.result (λ i. omega (arith, c.type_inv.frame i)) (answered c))

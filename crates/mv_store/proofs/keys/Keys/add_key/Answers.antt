@@ -23,7 +23,9 @@ returns-clause-as_before c =
     let bytes : Vec ℕ Global = c.in_ok-bytes.bytes in
     let items : bytes.items ≡ key = c.in_ok-bytes.ensures.items in
     let none : index_of c.args.self.now key ≡ None = nothing _ (sym c.contains_key.ensures ∙ c.if-contains_key.false) in
-    let absent : get_by (λ x. bytes_eq bytes.items x.items) c.args.self.now.map ≡ None = ap (λ b. get_by (λ x. bytes_eq b x.items) c.args.self.now.map) items ∙ none in
+    let absent : get_by (λ x. bytes_eq bytes.items x.items) c.args.self.now.map
+    ≡ None = ap (λ b. get_by (λ x. bytes_eq b x.items) c.args.self.now.map) items ∙ none in
     rooms_for_key c.args.self.now _ key w none
-    (pushed c.args.self.now _ key bytes w items none (c.in_ok-insert.ensures.entries ∙ insert_entry-new same_bytes c.args.self.now.map bytes w absent))
+    (pushed c.args.self.now _ key bytes w items none (c.in_ok-insert.ensures.entries
+    ∙ insert_entry-new same_bytes c.args.self.now.map bytes w absent))
     c.new.ensures.writers c.new.ensures.readers c.new.ensures.noted

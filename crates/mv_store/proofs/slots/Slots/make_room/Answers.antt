@@ -4,10 +4,11 @@ use Rattle.std.specs.Ordering.{is_eq}
 use Rattle.std.specs.BTreeMap.{get}
 use Rattle.basil_types.specs.Version.{version_cmp}
 use Rattle.basil_types.specs.declared.version.Version.{Version}
-use Rattle.mv_store.proofs.VersionLaws.{version_tells}
+use Rattle.basil_types.proofs.VersionLaws.{version_tells}
 use Rattle.mv_store.proofs.slots.Slots.make_room.Goals as goal
 
-same_told : {T : Type 0} (version v : Version) (at : Version → Option (Option T)) (now : Option (Option T)) (b : Bool) → is_eq (version_cmp version v) ≡ b → now ≡ cond b (Some None) (at v) → at version ≡ None → unwrap_or now None ≡ unwrap_or (at v) None
+same_told : {T : Type 0} (version v : Version) (at : Version → Option (Option T)) (now : Option (Option T)) (b : Bool)
+    → is_eq (version_cmp version v) ≡ b → now ≡ cond b (Some None) (at v) → at version ≡ None → unwrap_or now None ≡ unwrap_or (at v) None
 same_told version v at now true e is none =
     ap (λ o. unwrap_or o None) is ∙ sym (ap (λ o. unwrap_or o None) (ap at (sym (version_tells version v e)) ∙ none))
 same_told version v at now false e is none = ap (λ o. unwrap_or o None) is

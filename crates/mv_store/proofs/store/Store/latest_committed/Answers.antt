@@ -5,8 +5,12 @@ use Rattle.mv_store.proofs.store.Store.latest_committed.Goals as goal
 
 pub returns-in_err-find : goal.returns-in_err-find
 returns-in_err-find c =
-    λ held noted s. let none : c.from_residual.result ≡ None = search rules in none ∙ no_latest c.args.self.now c.args.key.now held noted s true c.args.below.now (sym c.find.ensures ∙ ap option_copied c.in_err-find.was)
+    λ held noted s. let none : c.from_residual.result ≡ None = search rules in none
+    ∙ no_latest c.args.self.now c.args.key.now held noted s true c.args.below.now (sym c.find.ensures
+    ∙ ap option_copied c.in_err-find.was)
 
 pub returns : goal.returns
 returns c =
-    λ held noted s. c.latest.ensures.value ∙ latest_found c.args.self.now c.args.key.now held noted s (c.in_ok-find.field-0).now true c.args.below.now (sym c.find.ensures ∙ ap option_copied c.in_ok-find.was) c.latest.ensures.ordered
+    λ held noted s. c.latest.ensures.value
+    ∙ latest_found c.args.self.now c.args.key.now held noted s (c.in_ok-find.field-0).now true c.args.below.now (sym c.find.ensures
+    ∙ ap option_copied c.in_ok-find.was) c.latest.ensures.ordered

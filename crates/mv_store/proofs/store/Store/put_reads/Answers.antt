@@ -33,7 +33,8 @@ loop-place-preserved c =
       readers =
           subst (λ xs. Puts key_of_read (slot_of_read c.args.told) xs c.args.version.now (reader_slot c.args.self.now.keys) (reader_slot c.put_reader.new.self)) (sym (take_more reads c.loop-place.place r (sym c.in-Some.ensures)))
           (puts_more key_of_read (slot_of_read c.args.told) (take c.loop-place.place reads) r c.args.version.now (reader_slot c.args.self.now.keys) (reader_slot c.loop-place.self.keys) (reader_slot c.put_reader.new.self) so_far.readers
-          (λ k v. put.readers k v ∙ ap (λ s. cond (bytes_eq r.key k && same_version c.args.version.now v) s (reader_slot c.loop-place.self.keys k v)) slot)
+          (λ k v. put.readers k v
+          ∙ ap (λ s. cond (bytes_eq r.key k && same_version c.args.version.now v) s (reader_slot c.loop-place.self.keys k v)) slot)
           (λ y h e. reads_apart _ reads c.loop-place.place r y c.bytes.ensures.in_range.reads (sym c.in-Some.ensures) h e));
       noted = λ k. put.noted k ∙ so_far.noted k;
       keys = λ k h. put.keys k (so_far.keys k h);

@@ -11,7 +11,8 @@ returns-then-not-contains c =
     let asker = c.args.asker in
     let items = c.in-Open.askers.items in
     let absent : list_any (λ p. same_party p asker) items ≡ false =
-    ap (list_any (λ p. same_party p asker)) (sym c.as_slice.ensures) ∙ sym (listed asker c.as_slice.result.now) ∙ sym c.contains.ensures.value ∙ c.if-not-contains.true in
+    ap (list_any (λ p. same_party p asker)) (sym c.as_slice.ensures) ∙ sym (listed asker c.as_slice.result.now)
+    ∙ sym c.contains.ensures.value ∙ c.if-not-contains.true in
     let vote : waiting c.push.new.self.items ≡ asked_vote asker (vote_of c.args.self.now.stage) =
     ap waiting (c.push.ensures.items ∙ sym (ap (λ b. if b then items else items ++ asker ∷ []) absent)) ∙ asked_open asker items
     ∙ ap (λ (s : Stage). asked_vote asker (vote_of s)) (sym c.in-Open.is) in
@@ -22,7 +23,8 @@ returns-else-not-contains c =
     let asker = c.args.asker in
     let items = c.in-Open.askers.items in
     let present : list_any (λ p. same_party p asker) items ≡ true =
-    ap (list_any (λ p. same_party p asker)) (sym c.as_slice.ensures) ∙ sym (listed asker c.as_slice.result.now) ∙ sym c.contains.ensures.value ∙ c.if-not-contains.false in
+    ap (list_any (λ p. same_party p asker)) (sym c.as_slice.ensures) ∙ sym (listed asker c.as_slice.result.now)
+    ∙ sym c.contains.ensures.value ∙ c.if-not-contains.false in
     let vote : waiting items ≡ asked_vote asker (vote_of c.args.self.now.stage) =
     ap waiting (sym (ap (λ b. if b then items else items ++ asker ∷ []) present)) ∙ asked_open asker items
     ∙ ap (λ (s : Stage). asked_vote asker (vote_of s)) (sym c.in-Open.is) in

@@ -40,24 +40,31 @@ loop-place-preserved c =
           record {
             here = ap (λ (d : Dependencies). d.here) w.found-is ∙ c.loop-place.invariant.here ∙ sym (ap (depends s es) more);
             aborted = ap (λ (d : Dependencies). d.aborted) w.found-is ∙ c.loop-place.invariant.aborted ∙ sym (ap (some_aborted s es) more);
-            committed = ap (λ (d : Dependencies). d.committed) w.found-is ∙ c.loop-place.invariant.committed ∙ sym (ap (all_committed s es) more);
+            committed = ap (λ (d : Dependencies). d.committed) w.found-is ∙ c.loop-place.invariant.committed
+                ∙ sym (ap (all_committed s es) more);
           }
     ]
 
 pub returns-clause-here : goal.returns-clause-here
 returns-clause-here c =
     let reads = (transaction_of c.args.t).reads in
-    let all : take c.loop-place.place reads ≡ reads = take_short reads c.loop-place.place (omega (arith, c.bytes.ensures.in_range.few_reads)) in
-    c.loop-place.invariant.here ∙ ap (λ (rs : List ReadPart). depends c.args.supposed.now c.args.self.now.entries (filter (is_dependency c.args.home.now) rs)) all
+    let all : take c.loop-place.place reads
+    ≡ reads = take_short reads c.loop-place.place (omega (arith, c.bytes.ensures.in_range.few_reads)) in
+    c.loop-place.invariant.here
+    ∙ ap (λ (rs : List ReadPart). depends c.args.supposed.now c.args.self.now.entries (filter (is_dependency c.args.home.now) rs)) all
 
 pub returns-clause-aborted : goal.returns-clause-aborted
 returns-clause-aborted c =
     let reads = (transaction_of c.args.t).reads in
-    let all : take c.loop-place.place reads ≡ reads = take_short reads c.loop-place.place (omega (arith, c.bytes.ensures.in_range.few_reads)) in
-    c.loop-place.invariant.aborted ∙ ap (λ (rs : List ReadPart). some_aborted c.args.supposed.now c.args.self.now.entries (filter (is_dependency c.args.home.now) rs)) all
+    let all : take c.loop-place.place reads
+    ≡ reads = take_short reads c.loop-place.place (omega (arith, c.bytes.ensures.in_range.few_reads)) in
+    c.loop-place.invariant.aborted
+    ∙ ap (λ (rs : List ReadPart). some_aborted c.args.supposed.now c.args.self.now.entries (filter (is_dependency c.args.home.now) rs)) all
 
 pub returns-clause-committed : goal.returns-clause-committed
 returns-clause-committed c =
     let reads = (transaction_of c.args.t).reads in
-    let all : take c.loop-place.place reads ≡ reads = take_short reads c.loop-place.place (omega (arith, c.bytes.ensures.in_range.few_reads)) in
-    c.loop-place.invariant.committed ∙ ap (λ (rs : List ReadPart). all_committed c.args.supposed.now c.args.self.now.entries (filter (is_dependency c.args.home.now) rs)) all
+    let all : take c.loop-place.place reads
+    ≡ reads = take_short reads c.loop-place.place (omega (arith, c.bytes.ensures.in_range.few_reads)) in
+    c.loop-place.invariant.committed
+    ∙ ap (λ (rs : List ReadPart). all_committed c.args.supposed.now c.args.self.now.entries (filter (is_dependency c.args.home.now) rs)) all

@@ -7,6 +7,8 @@ abbrev pub invariant-loop-place : goal.invariant-loop-place
 invariant-loop-place l =
     record {
       here : l.found.here ≡ depends l.supposed l.self.entries (filter (is_dependency l.home) (take l.place (transaction_of l.t).reads));
-      aborted : l.found.aborted ≡ some_aborted l.supposed l.self.entries (filter (is_dependency l.home) (take l.place (transaction_of l.t).reads));
-      committed : l.found.committed ≡ all_committed l.supposed l.self.entries (filter (is_dependency l.home) (take l.place (transaction_of l.t).reads));
+      aborted : l.found.aborted
+          ≡ some_aborted l.supposed l.self.entries (filter (is_dependency l.home) (take l.place (transaction_of l.t).reads));
+      committed : l.found.committed
+          ≡ all_committed l.supposed l.self.entries (filter (is_dependency l.home) (take l.place (transaction_of l.t).reads));
     }

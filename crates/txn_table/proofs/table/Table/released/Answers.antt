@@ -1,31 +1,24 @@
-use Rattle.std.proofs.Common.{◌≡◌, ℕ, Option, sym, ap, ◌∙◌, option_map, arith}
+use Rattle.std.proofs.Common.{◌≡◌, ℕ, List, sym, ap, subst, ◌∙◌}
+use Rattle.std.specs.Prelude.{IfOk, IfSome}
 use Rattle.std.specs.Global.{Vec}
-use Rattle.std.specs.Option.{option_and_then}
 use Rattle.basil_types.specs.declared.party.Decision.{Decision}
 use Rattle.txn_table.specs.declared.released.Home.{Home}
 use Rattle.txn_table.specs.declared.released.Supposed.{Supposed}
-use Rattle.txn_table.specs.Entries.{EntryValue}
-use Rattle.txn_table.specs.Released.{released_vote}
-use Rattle.txn_table.proofs.Reading.{given_some, given_none, found_at}
+use Rattle.txn_table.specs.Released.{released_among}
+use Rattle.txn_table.specs.Shown.{entry_of}
+use Rattle.txn_table.specs.Tables.{id_of}
+use Rattle.txn_table.specs.Waiters.{places_on}
+use Rattle.txn_table.proofs.Listing.{among}
 use Rattle.txn_table.proofs.table.Table.released.Goals as goal
-use Rattle.txn_table.proofs.table.Table.released.Goals.{in-Some+in_ok-push, in_default}
 
-pub loop-at-preserved : goal.loop-at-preserved
-loop-at-preserved c =
+pub returns-in-Some : goal.returns-in-Some
+returns-in-Some c =
     let home : Home = record { cluster = c.args.cluster.now; shard = c.args.shard } in
     let s : Supposed = record { place = c.args.place; outcome = c.args.outcome } in
     let es = c.args.self.now.entries in
-    let i = c.loop-at.at in
-    let f : ℕ × EntryValue → Option (ℕ × Decision) = λ x. option_map (λ vote. (x.0, vote)) (released_vote home s es x.0 x.1) in
-    let found = found_at es i (omega (arith, c.loop-at-test.true, c.len-at-end.ensures.value)) in
-    let vote : c.released_vote.result ≡ released_vote home s es i found.0 = c.released_vote.ensures ∙ ap (option_and_then (released_vote home s es i)) found.1 in
-    elim c.match-released_vote.branch [
-      | in-Some+in_ok-push w ↦
-          given_some f es i found.0 (i, w.in-Some.vote) c.loop-at.released.items c.match-released_vote.released.items found.1
-          (ap (option_map (λ (vote : Decision). let x : ℕ × Decision = (i, vote) in x)) (sym vote ∙ w.in-Some.is)) c.loop-at.invariant
-          (ap (λ (v : Vec (ℕ × Decision)). v.items) w.released-is ∙ w.in_ok-push.ensures.items)
-      | in_default w ↦
-          ap (λ (v : Vec (ℕ × Decision)). v.items) w.released-is
-          ∙ given_none f es i found.0 c.loop-at.released.items found.1
-          (ap (option_map (λ (vote : Decision). let x : ℕ × Decision = (i, vote) in x)) (sym vote ∙ w.in_default.is)) c.loop-at.invariant
-    ]
+    let e = entry_of c.entry.result.now in
+    let listed : c.in-Some.places.now ≡ places_on c.id.result es =
+    subst (λ o. IfSome o (λ places. places.now ≡ places_on c.id.result es)) c.in-Some.is c.places_on.ensures in
+    subst (λ (xs : List (ℕ × Decision)). IfOk c.released_among.result (λ r. r.items ≡ xs))
+    (ap (released_among home s es) (listed ∙ ap (λ id. places_on id es) c.id.ensures) ∙ among home s es e c.entry.ensures.entry)
+    c.released_among.ensures

@@ -18,7 +18,8 @@ invariant_of-self c =
     let at = c.index_mut-entry.ensures.value in
     let same : w.transaction ≡ e.transaction = ap (λ (e : EntryValue). e.transaction) c.make_room.ensures.same in
     let distinct : IsDistinct bytes_eq (ids_of (shown m)) = subst (λ (t : TableValue). IsDistinct bytes_eq (ids_of t.entries)) (sym c.self.view_is) c.requires.held.distinct in
-    let place : place_of (shown m) c.args.id ≡ Some c.args.place = ap (λ (t : TableValue). place_of t.entries c.args.id) c.self.view_is ∙ c.requires.place in
+    let place : place_of (shown m) c.args.id ≡ Some c.args.place = ap (λ (t : TableValue). place_of t.entries c.args.id) c.self.view_is
+    ∙ c.requires.place in
     kept-changed m askers c.args.place e w at same c.self.inside.room (Some c.args.id)
     (λ place is. proof-at m askers c.self.inside.room c.args.place e at c.self.invariant place (sym (ap (λ (e : EntryValue). proof_of e.vote) c.make_room.ensures.same) ∙ is))
     (λ id is. subst (HasRoom _ askers) (same_Some c.args.id id is) (room-placed m askers c.args.place c.args.id e w at distinct place same c.in-Ok.ensures.room))
@@ -34,7 +35,8 @@ invariant_of-self-in-Err c =
     let same : w.transaction ≡ e.transaction = ap (λ (e : EntryValue). e.transaction) c.make_room.ensures.same in
     kept-changed m askers c.args.place e w at same c.self.inside.room c.self.inside.room
     (λ place is. proof-at m askers c.self.inside.room c.args.place e at c.self.invariant place (sym (ap (λ (e : EntryValue). proof_of e.vote) c.make_room.ensures.same) ∙ is))
-    (λ id is. room-changed m askers c.args.place e w at same id (λ h. ap has_room c.in-Err.ensures.as_before ∙ h) (c.self.invariant.made id is))
+    (λ id is. room-changed m askers c.args.place e w at same id (λ h. ap has_room c.in-Err.ensures.as_before
+    ∙ h) (c.self.invariant.made id is))
     c.self.invariant
 
 pub returns-in-Ok-clause-made : goal.returns-in-Ok-clause-made

@@ -13,7 +13,8 @@ invariant_of-self c =
     let m' = c.room_for_entry.new.entries in
     let same = c.room_for_entry.ensures.same in
     let absent : place_of (shown m') c.args.id ≡ None =
-    ap (λ es. place_of (map entry_of (values_of es)) c.args.id) same ∙ ap (λ (t : TableValue). place_of t.entries c.args.id) c.self.view_is ∙ c.requires in
+    ap (λ es. place_of (map entry_of (values_of es)) c.args.id) same ∙ ap (λ (t : TableValue). place_of t.entries c.args.id) c.self.view_is
+    ∙ c.requires in
     kept-same m m' same c.self.inside.askers c.room_for_entry.new.askers c.self.inside.room (Some c.args.id) c.room_for_entry.ensures.same_askers
     (λ id is. subst (HasRoom m' c.room_for_entry.new.askers) (same_Some c.args.id id is) (room-new m' c.room_for_entry.new.askers c.args.id c.in-Ok.ensures.room absent))
     c.self.invariant

@@ -13,7 +13,8 @@ invariant_of-self c =
     let same : w.transaction ≡ e.transaction = ap (λ (e : EntryValue). e.transaction) c.set_outcome.ensures.entry in
     kept-changed m c.self.inside.askers c.args.place e w at same c.self.inside.room c.self.inside.room
     (λ place is. proof-at m c.self.inside.askers c.self.inside.room c.args.place e at c.self.invariant place (sym (ap (λ (e : EntryValue). proof_of e.vote) c.set_outcome.ensures.entry) ∙ is))
-    (λ id is. room-changed m c.self.inside.askers c.args.place e w at same id (λ h. c.set_outcome.ensures.room ∙ h) (c.self.invariant.made id is))
+    (λ id is. room-changed m c.self.inside.askers c.args.place e w at same id (λ h. c.set_outcome.ensures.room
+    ∙ h) (c.self.invariant.made id is))
     c.self.invariant
 
 pub returns : goal.returns

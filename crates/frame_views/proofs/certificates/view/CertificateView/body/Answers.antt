@@ -1,4 +1,4 @@
-use Rattle.std.proofs.Common.{◌≡◌, ap}
+use Rattle.std.proofs.Common.{ap}
 use Rattle.frame_views.specs.Values.{CertificateValue}
 use Rattle.frame_views.specs.Shown.{parts_of}
 use Rattle.frame_views.proofs.CertificateLaws.{whole-never, whole-shows}
@@ -8,4 +8,6 @@ pub unreachable-requires : goal.unreachable-requires
 unreachable-requires c = whole-never c.args.self.now.bytes.now c.in-Err.field-0 c.args.self.now.whole c.in-Err.ensures.gives
 
 pub returns-clause-shows : goal.returns-clause-shows
-returns-clause-shows c = ap (λ (v : CertificateValue). v.body) (whole-shows c.args.self.now.bytes.now (parts_of c.in-Ok.parts, c.in-Ok._rest.now) c.args.self.now.whole c.in-Ok.ensures.gives)
+returns-clause-shows c =
+    ap (λ (v : CertificateValue). v.body) (whole-shows c.args.self.now.bytes.now
+    (parts_of c.in-Ok.parts, c.in-Ok._rest.now) c.args.self.now.whole c.in-Ok.ensures.gives)

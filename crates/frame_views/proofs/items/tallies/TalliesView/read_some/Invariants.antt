@@ -5,4 +5,5 @@ use Rattle.basil_types.proofs.ListLaws.{GoesOn}
 use Rattle.frame_views.proofs.items.tallies.TalliesView.read_some.Given as goal
 
 abbrev pub invariant-loop : goal.invariant-loop
-invariant-loop l = GoesOn (tally_at l.bounds) after_tally l.count l.counter l.floor l.rest (items_at (tally_at l.bounds) after_tally l.count 0 l.bytes)
+invariant-loop l =
+    GoesOn (tally_at l.bounds) after_tally l.count l.counter l.floor l.rest (items_at (tally_at l.bounds) after_tally l.count 0 l.bytes)

@@ -6,4 +6,9 @@ use Rattle.frame_views.specs.Grammar.{vote_at}
 use Rattle.frame_views.proofs.items.votes.VotesView.at.Given as goal
 
 abbrev pub invariant-loop-i : goal.invariant-loop-i
-invariant-loop-i l = record { reads : GoesOn (vote_at widest) after_vote l.self.count l.i l.floor l.rest (items_at (vote_at widest) after_vote l.self.count 0 l.self.bytes.now); before : l.i ≤ l.place }
+invariant-loop-i l =
+    record {
+      reads : GoesOn (vote_at widest) after_vote l.self.count l.i l.floor l.rest
+          (items_at (vote_at widest) after_vote l.self.count 0 l.self.bytes.now);
+      before : l.i ≤ l.place;
+    }

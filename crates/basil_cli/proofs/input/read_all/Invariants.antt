@@ -1,7 +1,0 @@
-use Rattle.std.proofs.Common.{◌≡◌, ◌≤◌, length}
-use Rattle.std.specs.Io.KnownBytes.{Consumes}
-use Rattle.basil_cli.proofs.input.read_all.Given as goal
-
-abbrev pub invariant-turns : goal.invariant-turns
-invariant-turns g l =
-    Consumes (g.S.Source.left l.fn.source) (g.S.Source.left l.source) l.all.items × (g.S.Source.faults l.fn.source ≤ g.S.Source.faults l.source)

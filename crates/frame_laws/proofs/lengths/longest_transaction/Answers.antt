@@ -1,5 +1,0 @@
-use Rattle.frame_laws.proofs.LengthLaws.{transaction_length}
-use Rattle.frame_laws.proofs.lengths.longest_transaction.Goals as goal
-
-pub returns : goal.returns
-returns c = λ t is. transaction_length t is

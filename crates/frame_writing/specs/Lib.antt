@@ -1,0 +1,3 @@
+pub mod Draft
+pub mod Written
+pub mod Unsigned

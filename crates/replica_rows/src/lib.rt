@@ -1,0 +1,21 @@
+//! Tests of what a replica is made of, as tables.
+#![tactic(auto)]
+
+#[cfg(test)]
+mod elections;
+#[cfg(test)]
+mod logs;
+#[cfg(test)]
+mod making;
+#[cfg(test)]
+mod quorums;
+#[cfg(test)]
+mod stores;
+#[cfg(test)]
+mod tables;
+#[cfg(test)]
+mod tallies;
+#[cfg(test)]
+mod verdicts;
+#[cfg(test)]
+mod views;

@@ -1,0 +1,16 @@
+//! Tests that cross crates: one-time, LMS and HSS signatures of other programs, what is refused, and keyrings over
+//! them.
+#![tactic(auto)]
+
+#[cfg(test)]
+mod hss;
+#[cfg(test)]
+mod keyrings;
+#[cfg(test)]
+mod lms;
+#[cfg(test)]
+mod one_time;
+#[cfg(test)]
+mod plain;
+#[cfg(test)]
+mod vectors;
