@@ -19,7 +19,7 @@ fn conflict_abort_carries_two_pairs(rt: HostRuntime) -> Result<(), Fail> {
     let mut place = 0usize;
     for transaction in transactions(&message) {
         let (from, to) = *TRANSACTIONS.get(place).ok_or("one more")?;
-        assert!(rt; transaction.bytes() == &frame[from..to]);
+        assert!(rt; transaction.bytes() == frame.get(from..to).ok_or("short")?);
         place = place.wrapping_add(1);
     }
     assert!(rt; place == 2);
@@ -27,8 +27,8 @@ fn conflict_abort_carries_two_pairs(rt: HostRuntime) -> Result<(), Fail> {
     for pair in pairs(&message) {
         let (from, to) = *TRANSACTIONS.get(place).ok_or("one more")?;
         let behind = *CERTIFICATES.get(place).ok_or("one more")?;
-        assert!(rt; pair.transaction.bytes() == &frame[from..to]);
-        assert!(rt; pair.certificate.bytes() == &frame[behind..]);
+        assert!(rt; pair.transaction.bytes() == frame.get(from..to).ok_or("short")?);
+        assert!(rt; pair.certificate.bytes() == frame.get(behind..).ok_or("short")?);
         place = place.wrapping_add(1);
     }
     assert!(rt; place == 2);
