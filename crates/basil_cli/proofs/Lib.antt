@@ -1,4 +1,5 @@
 pub mod Fitting
 pub mod Cutting
 pub mod Settling
+pub mod Stopping
 pub mod NeedLaws

@@ -9,7 +9,7 @@ use Rattle.std.proofs.lemmas.List.Splits.{slice_split-cons_yes, slice_split-cons
 use Rattle.basil_types.specs.Setting.{Setting}
 use Rattle.schedule_text.specs.Complaints.{reason_of}
 use Rattle.schedule_text.specs.Limits.{longest_line, most_lines}
-use Rattle.schedule_text.specs.Reading.{line_at, line_value, numbered, answered, is_header}
+use Rattle.schedule_text.specs.Reading.{line_at, line_value, numbered, answered, is_header, is_skipped}
 use Rattle.schedule_text.specs.declared.complaint.Complaint.{Complaint}
 use Rattle.schedule_text.specs.declared.complaint.Complaint.TheVariants.{OutOfSize}
 use Rattle.schedule_text.specs.declared.line.Line.{Line}
@@ -19,7 +19,7 @@ use Rattle.basil_cli.specs.Lines.{lines_of, but_empty_last}
 use Rattle.basil_cli.proofs.Cutting.{pieces}
 use Rattle.basil_cli.specs.Outcome.{longest_input, is_too_long}
 use Rattle.basil_cli.specs.Reading.{IsRead, IsReadThrough, beginning, is_settled, passed, reached}
-use Rattle.basil_cli.specs.Replay.{Ended, Refusal, ReplayState, ended_lines, ended_of, ended_with, first_replay, first_said, go_on, is_skipped, later_reason, opened, run_lines, step, step_said}
+use Rattle.basil_cli.specs.Replay.{Ended, Refusal, ReplayState, ended_lines, ended_of, ended_with, first_replay, first_said, go_on, later_reason, opened, run_lines, step, step_said}
 use Rattle.basil_cli.specs.declared.place.Place.{Place}
 
 -- ---- lines that are refused whatever follows
@@ -262,7 +262,7 @@ alike (b ∷ bs) q ended many more h l e =
     (λ n s. alike bs (q ++ b ∷ []) ended (many + 1) more (free-longer q b h n) (one-longer q b many l) (behind-other b ended many bs n s e))
     (b == 10) refl (nat_lt ended most_lines) refl (nat_lt many longest_line) refl
 
-none : (o : Option Place) → is_none o ≡ true → o ≡ None
+pub none : (o : Option Place) → is_none o ≡ true → o ≡ None
 none None e = refl
 none (Some place) e = absurd cc
 
@@ -272,7 +272,7 @@ settled read rest e = ended_alike (lines_of read) (lines_of (read ++ rest)) 1 (a
 
 -- ---- what was read of the source
 
-reached-more : (place : Option Place) (xs ys : List ℕ) → reached place (xs ++ ys) ≡ reached (reached place xs) ys
+pub reached-more : (place : Option Place) (xs ys : List ℕ) → reached place (xs ++ ys) ≡ reached (reached place xs) ys
 reached-more None xs ys = refl
 reached-more (Some place) [] ys = refl
 reached-more (Some place) (x ∷ xs) ys = reached-more (passed place x) xs ys

@@ -1,5 +1,6 @@
 -- How far an input is read.
-use Rattle.std.specs.Prelude.{◌≡◌, ◌⊎◌, ℕ, ◌+◌, ◌==◌, nat_lt, Bool, true, List, [], ◌∷◌, ◌++◌, Option, Some, None, is_none, ⊤, if◌then◌else◌}
+use Rattle.std.specs.Prelude.{◌≡◌, ◌⊎◌, ℕ, ◌+◌, ◌<◌, ◌==◌, nat_lt, Bool, true, List, [], ◌∷◌, ◌++◌, length}
+use Rattle.std.specs.Prelude.{Option, Some, None, is_none, ⊤, if◌then◌else◌}
 use Rattle.schedule_text.specs.Limits.{longest_line, most_lines}
 use Rattle.basil_cli.specs.Outcome.{is_too_long}
 use Rattle.basil_cli.specs.declared.command.Command.{Command}
@@ -47,7 +48,20 @@ pub record IsReadThrough (enough : List ℕ → Bool) (bytes : List ℕ) (left :
   pub read : List ℕ
   pub is : IsRead enough bytes read left
 
--- the same for words that are a command
+-- the most bytes that are read at once
+abbrev pub longest_piece : ℕ
+longest_piece = 4096
+
+-- of bytes of which these are left, fewer than a piece were taken beyond any that decide
+pub record StopsSoon (enough : List ℕ → Bool) (bytes : List ℕ) (left : Option (List ℕ)) : Type 0 where
+  pub soon : (decided beyond rest : List ℕ) → bytes ≡ decided ++ beyond ++ rest → left ≡ Some rest →
+      enough decided ≡ true → length beyond < longest_piece
+
+-- both for words that are a command
 abbrev pub IsReadFor : Option Command → List ℕ → Option (List ℕ) → Type 0
 IsReadFor None bytes left = ⊤
 IsReadFor (Some command) bytes left = IsReadThrough (is_enough command) bytes left
+
+abbrev pub StopsSoonFor : Option Command → List ℕ → Option (List ℕ) → Type 0
+StopsSoonFor None bytes left = ⊤
+StopsSoonFor (Some command) bytes left = StopsSoon (is_enough command) bytes left

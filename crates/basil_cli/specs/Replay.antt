@@ -7,7 +7,8 @@ use Rattle.cluster_world.specs.Shown.{waiting}
 use Rattle.cluster_world.specs.State.{State, start}
 use Rattle.cluster_world.specs.declared.event.CallFault.{CallFault}
 use Rattle.basil_cli.specs.Lines.{lines_of}
-use Rattle.schedule_text.specs.Reading.{line_at, is_header}
+use Rattle.schedule_text.specs.Limits.{longest_line}
+use Rattle.schedule_text.specs.Reading.{line_at, is_header, is_skipped}
 use Rattle.schedule_text.specs.declared.line.KeysKind.{KeysKind}
 use Rattle.schedule_text.specs.declared.line.KeysKind.TheVariants.{Plain}
 use Rattle.schedule_text.specs.declared.line.Line.{Line}
@@ -57,7 +58,7 @@ line_step s r _ = Err 10
 
 -- a later header is reason 2 for anything, unless it is too long
 abbrev pub later_reason : List ℕ → ℕ → ℕ
-later_reason line reason = if nat_le (length line) 2200000 && is_header line then 2 else reason
+later_reason line reason = if nat_le (length line) longest_line && is_header line then 2 else reason
 
 -- what the line of this number does
 abbrev pub step_said : Setting → ReplayState → List ℕ → Result Line LineFault → Result ReplayState ℕ
@@ -101,11 +102,6 @@ abbrev pub first_line : Line → First
 first_line (Header cluster clock keys journal) = if is_built cluster keys journal then Opens cluster clock else Fails 10
 first_line Skipped = Skips
 first_line _ = Fails 1
-
--- an empty line, or one that begins with `#`
-abbrev pub is_skipped : List ℕ → Bool
-is_skipped [] = true
-is_skipped (b ∷ bytes) = b == 35
 
 -- the first line that isn't skipped is reason 1 where it is refused for anything
 abbrev pub first_said : List ℕ → Result Line LineFault → First

@@ -9,7 +9,7 @@ ghost use Rattle.basil_cli.specs.Replay.{first_line, first_said};
 use basil_types::cluster::Cluster;
 use basil_types::memory::NoMemory;
 use schedule_text::line::{KeysKind, Line, LineFault};
-use schedule_text::reading::read_line;
+use schedule_text::reading::{is_skipped, read_line};
 use std::alloc::Global;
 
 /// What a line does where no header came before it.
@@ -38,16 +38,6 @@ fn is_built(cluster: &Cluster, keys: KeysKind, journal: bool) -> bool
     ensures { result ≡ Replay.is_built cluster.now keys journal }
 {
     cluster.f == 0 && cluster.shards == 1 && is_plain(keys) && !journal
-}
-
-/// Whether the line is empty or begins with `#`.
-fn is_skipped(line: &[u8]) -> bool
-    ensures { result ≡ Replay.is_skipped line.now }
-{
-    match line {
-        [] => true,
-        [first, ..] => *first == b'#',
-    }
 }
 
 /// What a value does where no header came before it.

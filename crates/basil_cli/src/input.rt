@@ -5,7 +5,7 @@ ghost use Rattle.basil_types.specs.Causes.{Rose};
 ghost use Rattle.basil_cli.specs.Lines.{lines_of};
 ghost use Rattle.basil_cli.specs.Outcome.{is_too_long};
 ghost use Rattle.basil_cli.specs.Parts.{IsWhole};
-ghost use Rattle.basil_cli.specs.Reading.{IsRead, IsReadThrough, is_settled};
+ghost use Rattle.basil_cli.specs.Reading.{IsRead, IsReadThrough, StopsSoon, is_settled};
 ghost use Rattle.basil_cli.specs.Replay.{ended_of};
 
 use crate::place::Place;
@@ -16,6 +16,9 @@ use std::alloc::Global;
 
 /// The most bytes of an input that is read whole.
 const LONGEST_INPUT: usize = 16_777_216;
+
+/// The most bytes that are read at once.
+const PIECE: usize = 4096;
 
 /// Why a source was not read to its end.
 #[derive(Clone, Copy)]
@@ -42,11 +45,12 @@ pub(crate) fn read_schedule<S: Source>(alloc: Global, source: &mut S) -> Result<
     ensures same { IfOk result (λ v. IfSome (S.left source.old) (λ bytes. ended_of v.items ≡ ended_of bytes)) }
     ensures through { IfOk result (λ v. IfSome (S.left source.old) (λ bytes.
         IsRead is_settled bytes v.items (S.left source.new))) }
+    ensures soon { IfSome (S.left source.old) (λ bytes. StopsSoon is_settled bytes (S.left source.new)) }
     ensures failed { IsErrOf result InputFail.Failed → Rose (S.faults source.old) (S.faults source.new) }
     ensures told { S.faults source.old < S.faults source.new → IsErrOf result InputFail.Failed }
 {
     let mut all = Vec::new(alloc);
-    let mut buf = [0u8; 4096];
+    let mut buf = [0u8; PIECE];
     let mut place = Place::beginning();
     'turns: for _ in 0..u64::MAX {
         let count = match source.read(&mut buf) {
@@ -80,11 +84,12 @@ pub(crate) fn read_whole<S: Source>(alloc: Global, source: &mut S) -> Result<Who
     ensures bytes { IfOk result (λ whole. IfSome (S.left source.old) (λ bytes. IsWhole whole bytes)) }
     ensures through { IfOk result (λ _. IfSome (S.left source.old) (λ bytes.
         IsReadThrough is_too_long bytes (S.left source.new))) }
+    ensures soon { IfSome (S.left source.old) (λ bytes. StopsSoon is_too_long bytes (S.left source.new)) }
     ensures failed { IsErrOf result InputFail.Failed → Rose (S.faults source.old) (S.faults source.new) }
     ensures told { S.faults source.old < S.faults source.new → IsErrOf result InputFail.Failed }
 {
     let mut all = Vec::new(alloc);
-    let mut buf = [0u8; 4096];
+    let mut buf = [0u8; PIECE];
     'turns: for _ in 0..u64::MAX {
         match source.read(&mut buf) {
             Ok(0) => return Ok(Whole::Bytes(Bytes::from_vec(all))),

@@ -9,7 +9,7 @@ ghost use Rattle.basil_cli.specs.Commands.{command_of, words_read, reads, HasLea
 ghost use Rattle.basil_cli.specs.Outcome.{text_of, Usage, BadLine, Refused};
 ghost use Rattle.basil_cli.specs.Output.{outcome_of, output_of};
 ghost use Rattle.basil_cli.specs.Parts.{outcome_is};
-ghost use Rattle.basil_cli.specs.Reading.{IsReadFor, IsReadThrough, is_enough, is_settled};
+ghost use Rattle.basil_cli.specs.Reading.{IsReadFor, IsReadThrough, StopsSoon, StopsSoonFor, is_enough, is_settled};
 ghost use Rattle.basil_cli.specs.Replay.{ended_of};
 
 use crate::check::check;
@@ -108,6 +108,7 @@ fn replay<S: Source>(alloc: Global, source: &mut S) -> Result<Ending, InputFail>
     ensures safe { IfOk result (λ _. IfSome (S.left source.old) (λ bytes. IsSafeEnd (ended_of bytes))) }
     ensures through { IfOk result (λ _. IfSome (S.left source.old) (λ bytes.
         IsReadThrough is_settled bytes (S.left source.new))) }
+    ensures soon { IfSome (S.left source.old) (λ bytes. StopsSoon is_settled bytes (S.left source.new)) }
     ensures failed { IsErrOf result InputFail.Failed → Rose (S.faults source.old) (S.faults source.new) }
     ensures told { S.faults source.old < S.faults source.new → IsErrOf result InputFail.Failed }
 {
@@ -131,6 +132,8 @@ fn ending_for<S: Source>(
     ensures unread { reads command.now ≡ false → source.new ≡ source.old }
     ensures through { reads command.now ≡ true → IfOk result (λ _. IfSome (S.left source.old) (λ bytes.
         IsReadThrough (is_enough command.now) bytes (S.left source.new))) }
+    ensures soon { IfSome (S.left source.old) (λ bytes.
+        StopsSoon (is_enough command.now) bytes (S.left source.new)) }
     ensures safe { command.now ≡ Command.Replay → IfOk result (λ _.
         IfSome (S.left source.old) (λ bytes. IsSafeEnd (ended_of bytes))) }
     ensures failed { IsErrOf result InputFail.Failed → Rose (S.faults source.old) (S.faults source.new) }
@@ -176,6 +179,8 @@ fn run_command<S: Source, K: Sink>(
     ensures unread { reads command.now ≡ false → source.new ≡ source.old }
     ensures through { reads command.now ≡ true → is_outcomes result ≡ true → IfSome (S.left source.old) (λ bytes.
         IsReadThrough (is_enough command.now) bytes (S.left source.new)) }
+    ensures soon { IfSome (S.left source.old) (λ bytes.
+        StopsSoon (is_enough command.now) bytes (S.left source.new)) }
     ensures complete { (Rose (S.faults source.old) (S.faults source.new) → ⊥) →
         (Rose (K.faults sink.old) (K.faults sink.new) → ⊥) →
         IfSome (S.left source.old) (λ bytes. IsTold result (output_of command.now bytes)) }
@@ -246,6 +251,9 @@ pub fn run<S: Source, K: Sink, L: Links, C: Clock>(
     ensures through { words_read (command_of (map string_bytes words.now)) ≡ true → is_outcomes result ≡ true →
         IfSome (S.left source.old) (λ bytes.
         IsReadFor (command_of (map string_bytes words.now)) bytes (S.left source.new)) }
+    // Whatever is answered, fewer than a piece of the source's bytes were taken beyond those that decide.
+    ensures soon { IfSome (S.left source.old) (λ bytes.
+        StopsSoonFor (command_of (map string_bytes words.now)) bytes (S.left source.new)) }
     // The words alone decide on this answer.
     ensures words { result ≡ Status.BadWords → command_of (map string_bytes words.now) ≡ None }
     ensures other_words { command_of (map string_bytes words.now) ≡ None →

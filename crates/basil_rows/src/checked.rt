@@ -1,6 +1,6 @@
 //! Certificates, by the command `check`. The frames are those of independent programs.
 
-use crate::support::run_words;
+use crate::support::{is_answer, run_words};
 use basil_cli::status::Status;
 use basil_types::party::{Decision, Party};
 use basil_types::words::Words;
@@ -290,6 +290,29 @@ fn are_told(alloc: Global, table: &[Checked]) -> Result<bool, Fail> {
     Ok(true)
 }
 
+/// The same text with other keys in its header.
+fn with_slow_keys(alloc: Global, text: &str) -> Result<String, Fail> {
+    Ok(text.replacen(alloc, "keys=plain", "keys=w8h10", 1)?)
+}
+
+/// Whether a certificate is refused, and not for a signature.
+fn needs_no_key(answer: &str) -> bool {
+    answer.starts_with("refused ") && answer != "refused 6"
+}
+
+/// Whether each row that needs no key is answered so with keys that take seconds each to make.
+fn are_told_without_keys(alloc: Global, table: &[Checked]) -> Result<bool, Fail> {
+    for row in table {
+        if needs_no_key(row.answer) {
+            let header = with_slow_keys(alloc, row.header)?;
+            if !says(alloc, header.as_str(), row.frame, row.answer)? {
+                return Ok(false);
+            }
+        }
+    }
+    Ok(true)
+}
+
 #[test]
 fn one_of_each_kind(rt: HostRuntime) -> Result<(), Fail> {
     assert!(rt; are_told(rt.alloc(), TOLD)?);
@@ -308,6 +331,14 @@ fn certificates_with_another_inside(rt: HostRuntime) -> Result<(), Fail> {
     Ok(())
 }
 
+/// To make the signers' keys would take longer than a test may.
+#[test]
+fn what_no_signature_decides_makes_no_key(rt: HostRuntime) -> Result<(), Fail> {
+    assert!(rt; are_told_without_keys(rt.alloc(), ALONE)?);
+    assert!(rt; are_told_without_keys(rt.alloc(), NESTED)?);
+    Ok(())
+}
+
 #[test]
 fn a_large_certificate(rt: HostRuntime) -> Result<(), Fail> {
     assert!(rt; says(rt.alloc(), EIGHT_SHARDS, LARGE, "commit")?);
@@ -316,7 +347,7 @@ fn a_large_certificate(rt: HostRuntime) -> Result<(), Fail> {
 
 /// An input that is refused at a line.
 struct BadLine {
-    input: &'static [u8],
+    input: &'static str,
     line: u64,
     reason: u8,
 }
@@ -325,128 +356,140 @@ struct BadLine {
 const BAD_LINES: &[BadLine] = &[
     // no input
     BadLine {
-        input: b"",
+        input: "",
         line: 1,
         reason: 1,
     },
     // an empty line first
     BadLine {
-        input: b"\n",
+        input: "\n",
         line: 1,
         reason: 1,
     },
     // a comment first
     BadLine {
-        input: b"#\nbasil 1 f=1 shards=1 reads=2 delta=100 clock=50 keys=plain\n0701000000000000000a010001016100027831012c05d55955a67c7b2d552c41c183b8433d6f2aea3709642bef3b7298bbcf7158010006000020d17ba9b479b2c2cf6b13b608f7eff5dd627ef785fc88c830f762e3d4189f33440100208fffcd9a0830cbe7417deca3c67cfb2d550eb186e3cfdb2c75ceb401f70f99390200201ea23e4ccbfac176c12d38c211f73953544665a9f4bf5cf76b51d2a1ba74eeed0300208bb8436a07a1d40487f041f09314f8a3e755aa1acd037a1cb1959801582fde9f0400209b11cfeb86b29f8297cc192e5ce0377d819d2ab0b5d560041cc4b9cb456d07ad050020c2552ee979575e3502104849863f295fca5f346a5c2e03b5c1e428b33abcea06",
+        input: "#\nbasil 1 f=1 shards=1 reads=2 delta=100 clock=50 keys=plain\n0701000000000000000a010001016100027831012c05d55955a67c7b2d552c41c183b8433d6f2aea3709642bef3b7298bbcf7158010006000020d17ba9b479b2c2cf6b13b608f7eff5dd627ef785fc88c830f762e3d4189f33440100208fffcd9a0830cbe7417deca3c67cfb2d550eb186e3cfdb2c75ceb401f70f99390200201ea23e4ccbfac176c12d38c211f73953544665a9f4bf5cf76b51d2a1ba74eeed0300208bb8436a07a1d40487f041f09314f8a3e755aa1acd037a1cb1959801582fde9f0400209b11cfeb86b29f8297cc192e5ce0377d819d2ab0b5d560041cc4b9cb456d07ad050020c2552ee979575e3502104849863f295fca5f346a5c2e03b5c1e428b33abcea06",
         line: 1,
         reason: 1,
     },
     // no header
     BadLine {
-        input: b"begin t1 1 10\n0701000000000000000a010001016100027831012c05d55955a67c7b2d552c41c183b8433d6f2aea3709642bef3b7298bbcf7158010006000020d17ba9b479b2c2cf6b13b608f7eff5dd627ef785fc88c830f762e3d4189f33440100208fffcd9a0830cbe7417deca3c67cfb2d550eb186e3cfdb2c75ceb401f70f99390200201ea23e4ccbfac176c12d38c211f73953544665a9f4bf5cf76b51d2a1ba74eeed0300208bb8436a07a1d40487f041f09314f8a3e755aa1acd037a1cb1959801582fde9f0400209b11cfeb86b29f8297cc192e5ce0377d819d2ab0b5d560041cc4b9cb456d07ad050020c2552ee979575e3502104849863f295fca5f346a5c2e03b5c1e428b33abcea06",
+        input: "begin t1 1 10\n0701000000000000000a010001016100027831012c05d55955a67c7b2d552c41c183b8433d6f2aea3709642bef3b7298bbcf7158010006000020d17ba9b479b2c2cf6b13b608f7eff5dd627ef785fc88c830f762e3d4189f33440100208fffcd9a0830cbe7417deca3c67cfb2d550eb186e3cfdb2c75ceb401f70f99390200201ea23e4ccbfac176c12d38c211f73953544665a9f4bf5cf76b51d2a1ba74eeed0300208bb8436a07a1d40487f041f09314f8a3e755aa1acd037a1cb1959801582fde9f0400209b11cfeb86b29f8297cc192e5ce0377d819d2ab0b5d560041cc4b9cb456d07ad050020c2552ee979575e3502104849863f295fca5f346a5c2e03b5c1e428b33abcea06",
         line: 1,
         reason: 1,
     },
     // a refused cluster
     BadLine {
-        input: b"basil 1 f=7 shards=1 reads=2 delta=100 clock=50 keys=plain\n0701000000000000000a010001016100027831012c05d55955a67c7b2d552c41c183b8433d6f2aea3709642bef3b7298bbcf7158010006000020d17ba9b479b2c2cf6b13b608f7eff5dd627ef785fc88c830f762e3d4189f33440100208fffcd9a0830cbe7417deca3c67cfb2d550eb186e3cfdb2c75ceb401f70f99390200201ea23e4ccbfac176c12d38c211f73953544665a9f4bf5cf76b51d2a1ba74eeed0300208bb8436a07a1d40487f041f09314f8a3e755aa1acd037a1cb1959801582fde9f0400209b11cfeb86b29f8297cc192e5ce0377d819d2ab0b5d560041cc4b9cb456d07ad050020c2552ee979575e3502104849863f295fca5f346a5c2e03b5c1e428b33abcea06",
+        input: "basil 1 f=7 shards=1 reads=2 delta=100 clock=50 keys=plain\n0701000000000000000a010001016100027831012c05d55955a67c7b2d552c41c183b8433d6f2aea3709642bef3b7298bbcf7158010006000020d17ba9b479b2c2cf6b13b608f7eff5dd627ef785fc88c830f762e3d4189f33440100208fffcd9a0830cbe7417deca3c67cfb2d550eb186e3cfdb2c75ceb401f70f99390200201ea23e4ccbfac176c12d38c211f73953544665a9f4bf5cf76b51d2a1ba74eeed0300208bb8436a07a1d40487f041f09314f8a3e755aa1acd037a1cb1959801582fde9f0400209b11cfeb86b29f8297cc192e5ce0377d819d2ab0b5d560041cc4b9cb456d07ad050020c2552ee979575e3502104849863f295fca5f346a5c2e03b5c1e428b33abcea06",
         line: 1,
         reason: 1,
     },
     // batched signatures
     BadLine {
-        input: b"basil 1 f=1 shards=1 reads=2 delta=100 clock=50 keys=batch\n0701000000000000000a010001016100027831012c05d55955a67c7b2d552c41c183b8433d6f2aea3709642bef3b7298bbcf7158010006000020d17ba9b479b2c2cf6b13b608f7eff5dd627ef785fc88c830f762e3d4189f33440100208fffcd9a0830cbe7417deca3c67cfb2d550eb186e3cfdb2c75ceb401f70f99390200201ea23e4ccbfac176c12d38c211f73953544665a9f4bf5cf76b51d2a1ba74eeed0300208bb8436a07a1d40487f041f09314f8a3e755aa1acd037a1cb1959801582fde9f0400209b11cfeb86b29f8297cc192e5ce0377d819d2ab0b5d560041cc4b9cb456d07ad050020c2552ee979575e3502104849863f295fca5f346a5c2e03b5c1e428b33abcea06",
+        input: "basil 1 f=1 shards=1 reads=2 delta=100 clock=50 keys=batch\n0701000000000000000a010001016100027831012c05d55955a67c7b2d552c41c183b8433d6f2aea3709642bef3b7298bbcf7158010006000020d17ba9b479b2c2cf6b13b608f7eff5dd627ef785fc88c830f762e3d4189f33440100208fffcd9a0830cbe7417deca3c67cfb2d550eb186e3cfdb2c75ceb401f70f99390200201ea23e4ccbfac176c12d38c211f73953544665a9f4bf5cf76b51d2a1ba74eeed0300208bb8436a07a1d40487f041f09314f8a3e755aa1acd037a1cb1959801582fde9f0400209b11cfeb86b29f8297cc192e5ce0377d819d2ab0b5d560041cc4b9cb456d07ad050020c2552ee979575e3502104849863f295fca5f346a5c2e03b5c1e428b33abcea06",
         line: 1,
         reason: 1,
     },
     // no second line
     BadLine {
-        input: b"basil 1 f=1 shards=1 reads=2 delta=100 clock=50 keys=plain",
+        input: "basil 1 f=1 shards=1 reads=2 delta=100 clock=50 keys=plain",
         line: 2,
         reason: 8,
     },
     // no second line behind a newline
     BadLine {
-        input: b"basil 1 f=1 shards=1 reads=2 delta=100 clock=50 keys=plain\n",
+        input: "basil 1 f=1 shards=1 reads=2 delta=100 clock=50 keys=plain\n",
         line: 2,
         reason: 8,
     },
     // an empty second line
     BadLine {
-        input: b"basil 1 f=1 shards=1 reads=2 delta=100 clock=50 keys=plain\n\n",
+        input: "basil 1 f=1 shards=1 reads=2 delta=100 clock=50 keys=plain\n\n",
         line: 2,
         reason: 8,
     },
     // no hex
     BadLine {
-        input: b"basil 1 f=1 shards=1 reads=2 delta=100 clock=50 keys=plain\nframe",
+        input: "basil 1 f=1 shards=1 reads=2 delta=100 clock=50 keys=plain\nframe",
         line: 2,
         reason: 8,
     },
     // hex in capitals
     BadLine {
-        input: b"basil 1 f=1 shards=1 reads=2 delta=100 clock=50 keys=plain\n0701000000000000000A010001016100027831012C05D55955A67C7B2D552C41C183B8433D6F2AEA3709642BEF3B7298BBCF7158010006000020D17BA9B479B2C2CF6B13B608F7EFF5DD627EF785FC88C830F762E3D4189F33440100208FFFCD9A0830CBE7417DECA3C67CFB2D550EB186E3CFDB2C75CEB401F70F99390200201EA23E4CCBFAC176C12D38C211F73953544665A9F4BF5CF76B51D2A1BA74EEED0300208BB8436A07A1D40487F041F09314F8A3E755AA1ACD037A1CB1959801582FDE9F0400209B11CFEB86B29F8297CC192E5CE0377D819D2AB0B5D560041CC4B9CB456D07AD050020C2552EE979575E3502104849863F295FCA5F346A5C2E03B5C1E428B33ABCEA06",
+        input: "basil 1 f=1 shards=1 reads=2 delta=100 clock=50 keys=plain\n0701000000000000000A010001016100027831012C05D55955A67C7B2D552C41C183B8433D6F2AEA3709642BEF3B7298BBCF7158010006000020D17BA9B479B2C2CF6B13B608F7EFF5DD627EF785FC88C830F762E3D4189F33440100208FFFCD9A0830CBE7417DECA3C67CFB2D550EB186E3CFDB2C75CEB401F70F99390200201EA23E4CCBFAC176C12D38C211F73953544665A9F4BF5CF76B51D2A1BA74EEED0300208BB8436A07A1D40487F041F09314F8A3E755AA1ACD037A1CB1959801582FDE9F0400209B11CFEB86B29F8297CC192E5CE0377D819D2AB0B5D560041CC4B9CB456D07AD050020C2552EE979575E3502104849863F295FCA5F346A5C2E03B5C1E428B33ABCEA06",
         line: 2,
         reason: 8,
     },
     // a digit too few
     BadLine {
-        input: b"basil 1 f=1 shards=1 reads=2 delta=100 clock=50 keys=plain\n0701000000000000000a010001016100027831012c05d55955a67c7b2d552c41c183b8433d6f2aea3709642bef3b7298bbcf7158010006000020d17ba9b479b2c2cf6b13b608f7eff5dd627ef785fc88c830f762e3d4189f33440100208fffcd9a0830cbe7417deca3c67cfb2d550eb186e3cfdb2c75ceb401f70f99390200201ea23e4ccbfac176c12d38c211f73953544665a9f4bf5cf76b51d2a1ba74eeed0300208bb8436a07a1d40487f041f09314f8a3e755aa1acd037a1cb1959801582fde9f0400209b11cfeb86b29f8297cc192e5ce0377d819d2ab0b5d560041cc4b9cb456d07ad050020c2552ee979575e3502104849863f295fca5f346a5c2e03b5c1e428b33abcea0",
+        input: "basil 1 f=1 shards=1 reads=2 delta=100 clock=50 keys=plain\n0701000000000000000a010001016100027831012c05d55955a67c7b2d552c41c183b8433d6f2aea3709642bef3b7298bbcf7158010006000020d17ba9b479b2c2cf6b13b608f7eff5dd627ef785fc88c830f762e3d4189f33440100208fffcd9a0830cbe7417deca3c67cfb2d550eb186e3cfdb2c75ceb401f70f99390200201ea23e4ccbfac176c12d38c211f73953544665a9f4bf5cf76b51d2a1ba74eeed0300208bb8436a07a1d40487f041f09314f8a3e755aa1acd037a1cb1959801582fde9f0400209b11cfeb86b29f8297cc192e5ce0377d819d2ab0b5d560041cc4b9cb456d07ad050020c2552ee979575e3502104849863f295fca5f346a5c2e03b5c1e428b33abcea0",
         line: 2,
         reason: 8,
     },
     // a byte too few
     BadLine {
-        input: b"basil 1 f=1 shards=1 reads=2 delta=100 clock=50 keys=plain\n0701000000000000000a010001016100027831012c05d55955a67c7b2d552c41c183b8433d6f2aea3709642bef3b7298bbcf7158010006000020d17ba9b479b2c2cf6b13b608f7eff5dd627ef785fc88c830f762e3d4189f33440100208fffcd9a0830cbe7417deca3c67cfb2d550eb186e3cfdb2c75ceb401f70f99390200201ea23e4ccbfac176c12d38c211f73953544665a9f4bf5cf76b51d2a1ba74eeed0300208bb8436a07a1d40487f041f09314f8a3e755aa1acd037a1cb1959801582fde9f0400209b11cfeb86b29f8297cc192e5ce0377d819d2ab0b5d560041cc4b9cb456d07ad050020c2552ee979575e3502104849863f295fca5f346a5c2e03b5c1e428b33abcea",
+        input: "basil 1 f=1 shards=1 reads=2 delta=100 clock=50 keys=plain\n0701000000000000000a010001016100027831012c05d55955a67c7b2d552c41c183b8433d6f2aea3709642bef3b7298bbcf7158010006000020d17ba9b479b2c2cf6b13b608f7eff5dd627ef785fc88c830f762e3d4189f33440100208fffcd9a0830cbe7417deca3c67cfb2d550eb186e3cfdb2c75ceb401f70f99390200201ea23e4ccbfac176c12d38c211f73953544665a9f4bf5cf76b51d2a1ba74eeed0300208bb8436a07a1d40487f041f09314f8a3e755aa1acd037a1cb1959801582fde9f0400209b11cfeb86b29f8297cc192e5ce0377d819d2ab0b5d560041cc4b9cb456d07ad050020c2552ee979575e3502104849863f295fca5f346a5c2e03b5c1e428b33abcea",
         line: 2,
         reason: 8,
     },
     // a byte too many
     BadLine {
-        input: b"basil 1 f=1 shards=1 reads=2 delta=100 clock=50 keys=plain\n0701000000000000000a010001016100027831012c05d55955a67c7b2d552c41c183b8433d6f2aea3709642bef3b7298bbcf7158010006000020d17ba9b479b2c2cf6b13b608f7eff5dd627ef785fc88c830f762e3d4189f33440100208fffcd9a0830cbe7417deca3c67cfb2d550eb186e3cfdb2c75ceb401f70f99390200201ea23e4ccbfac176c12d38c211f73953544665a9f4bf5cf76b51d2a1ba74eeed0300208bb8436a07a1d40487f041f09314f8a3e755aa1acd037a1cb1959801582fde9f0400209b11cfeb86b29f8297cc192e5ce0377d819d2ab0b5d560041cc4b9cb456d07ad050020c2552ee979575e3502104849863f295fca5f346a5c2e03b5c1e428b33abcea0600",
+        input: "basil 1 f=1 shards=1 reads=2 delta=100 clock=50 keys=plain\n0701000000000000000a010001016100027831012c05d55955a67c7b2d552c41c183b8433d6f2aea3709642bef3b7298bbcf7158010006000020d17ba9b479b2c2cf6b13b608f7eff5dd627ef785fc88c830f762e3d4189f33440100208fffcd9a0830cbe7417deca3c67cfb2d550eb186e3cfdb2c75ceb401f70f99390200201ea23e4ccbfac176c12d38c211f73953544665a9f4bf5cf76b51d2a1ba74eeed0300208bb8436a07a1d40487f041f09314f8a3e755aa1acd037a1cb1959801582fde9f0400209b11cfeb86b29f8297cc192e5ce0377d819d2ab0b5d560041cc4b9cb456d07ad050020c2552ee979575e3502104849863f295fca5f346a5c2e03b5c1e428b33abcea0600",
         line: 2,
         reason: 8,
     },
     // of a larger cluster
     BadLine {
-        input: b"basil 1 f=0 shards=1 reads=1 delta=100 clock=50 keys=plain\n0701000000000000000a010001016100027831012c05d55955a67c7b2d552c41c183b8433d6f2aea3709642bef3b7298bbcf7158010006000020d17ba9b479b2c2cf6b13b608f7eff5dd627ef785fc88c830f762e3d4189f33440100208fffcd9a0830cbe7417deca3c67cfb2d550eb186e3cfdb2c75ceb401f70f99390200201ea23e4ccbfac176c12d38c211f73953544665a9f4bf5cf76b51d2a1ba74eeed0300208bb8436a07a1d40487f041f09314f8a3e755aa1acd037a1cb1959801582fde9f0400209b11cfeb86b29f8297cc192e5ce0377d819d2ab0b5d560041cc4b9cb456d07ad050020c2552ee979575e3502104849863f295fca5f346a5c2e03b5c1e428b33abcea06",
+        input: "basil 1 f=0 shards=1 reads=1 delta=100 clock=50 keys=plain\n0701000000000000000a010001016100027831012c05d55955a67c7b2d552c41c183b8433d6f2aea3709642bef3b7298bbcf7158010006000020d17ba9b479b2c2cf6b13b608f7eff5dd627ef785fc88c830f762e3d4189f33440100208fffcd9a0830cbe7417deca3c67cfb2d550eb186e3cfdb2c75ceb401f70f99390200201ea23e4ccbfac176c12d38c211f73953544665a9f4bf5cf76b51d2a1ba74eeed0300208bb8436a07a1d40487f041f09314f8a3e755aa1acd037a1cb1959801582fde9f0400209b11cfeb86b29f8297cc192e5ce0377d819d2ab0b5d560041cc4b9cb456d07ad050020c2552ee979575e3502104849863f295fca5f346a5c2e03b5c1e428b33abcea06",
         line: 2,
         reason: 8,
     },
     // another kind
     BadLine {
-        input: b"basil 1 f=1 shards=1 reads=2 delta=100 clock=50 keys=plain\n0301000000000000000a0100010161000278310020b7ce6222f675a2b67a124d4894840b2e26b2b6bee0809dd2c429ea5e33f23d6b",
+        input: "basil 1 f=1 shards=1 reads=2 delta=100 clock=50 keys=plain\n0301000000000000000a0100010161000278310020b7ce6222f675a2b67a124d4894840b2e26b2b6bee0809dd2c429ea5e33f23d6b",
         line: 2,
         reason: 2,
     },
     // a third line
     BadLine {
-        input: b"basil 1 f=1 shards=1 reads=2 delta=100 clock=50 keys=plain\n0701000000000000000a010001016100027831012c05d55955a67c7b2d552c41c183b8433d6f2aea3709642bef3b7298bbcf7158010006000020d17ba9b479b2c2cf6b13b608f7eff5dd627ef785fc88c830f762e3d4189f33440100208fffcd9a0830cbe7417deca3c67cfb2d550eb186e3cfdb2c75ceb401f70f99390200201ea23e4ccbfac176c12d38c211f73953544665a9f4bf5cf76b51d2a1ba74eeed0300208bb8436a07a1d40487f041f09314f8a3e755aa1acd037a1cb1959801582fde9f0400209b11cfeb86b29f8297cc192e5ce0377d819d2ab0b5d560041cc4b9cb456d07ad050020c2552ee979575e3502104849863f295fca5f346a5c2e03b5c1e428b33abcea06\nend\n",
+        input: "basil 1 f=1 shards=1 reads=2 delta=100 clock=50 keys=plain\n0701000000000000000a010001016100027831012c05d55955a67c7b2d552c41c183b8433d6f2aea3709642bef3b7298bbcf7158010006000020d17ba9b479b2c2cf6b13b608f7eff5dd627ef785fc88c830f762e3d4189f33440100208fffcd9a0830cbe7417deca3c67cfb2d550eb186e3cfdb2c75ceb401f70f99390200201ea23e4ccbfac176c12d38c211f73953544665a9f4bf5cf76b51d2a1ba74eeed0300208bb8436a07a1d40487f041f09314f8a3e755aa1acd037a1cb1959801582fde9f0400209b11cfeb86b29f8297cc192e5ce0377d819d2ab0b5d560041cc4b9cb456d07ad050020c2552ee979575e3502104849863f295fca5f346a5c2e03b5c1e428b33abcea06\nend\n",
         line: 3,
         reason: 2,
     },
     // an empty third line
     BadLine {
-        input: b"basil 1 f=1 shards=1 reads=2 delta=100 clock=50 keys=plain\n0701000000000000000a010001016100027831012c05d55955a67c7b2d552c41c183b8433d6f2aea3709642bef3b7298bbcf7158010006000020d17ba9b479b2c2cf6b13b608f7eff5dd627ef785fc88c830f762e3d4189f33440100208fffcd9a0830cbe7417deca3c67cfb2d550eb186e3cfdb2c75ceb401f70f99390200201ea23e4ccbfac176c12d38c211f73953544665a9f4bf5cf76b51d2a1ba74eeed0300208bb8436a07a1d40487f041f09314f8a3e755aa1acd037a1cb1959801582fde9f0400209b11cfeb86b29f8297cc192e5ce0377d819d2ab0b5d560041cc4b9cb456d07ad050020c2552ee979575e3502104849863f295fca5f346a5c2e03b5c1e428b33abcea06\n\n",
+        input: "basil 1 f=1 shards=1 reads=2 delta=100 clock=50 keys=plain\n0701000000000000000a010001016100027831012c05d55955a67c7b2d552c41c183b8433d6f2aea3709642bef3b7298bbcf7158010006000020d17ba9b479b2c2cf6b13b608f7eff5dd627ef785fc88c830f762e3d4189f33440100208fffcd9a0830cbe7417deca3c67cfb2d550eb186e3cfdb2c75ceb401f70f99390200201ea23e4ccbfac176c12d38c211f73953544665a9f4bf5cf76b51d2a1ba74eeed0300208bb8436a07a1d40487f041f09314f8a3e755aa1acd037a1cb1959801582fde9f0400209b11cfeb86b29f8297cc192e5ce0377d819d2ab0b5d560041cc4b9cb456d07ad050020c2552ee979575e3502104849863f295fca5f346a5c2e03b5c1e428b33abcea06\n\n",
         line: 3,
         reason: 2,
     },
     // a third line behind a certificate that is refused
     BadLine {
-        input: b"basil 1 f=1 shards=1 reads=2 delta=100 clock=50 keys=plain\n0701000000000000000a010001016100027831012c05d55955a67c7b2d552c41c183b8433d6f2aea3709642bef3b7298bbcf7158010005000020d17ba9b479b2c2cf6b13b608f7eff5dd627ef785fc88c830f762e3d4189f33440100208fffcd9a0830cbe7417deca3c67cfb2d550eb186e3cfdb2c75ceb401f70f99390200201ea23e4ccbfac176c12d38c211f73953544665a9f4bf5cf76b51d2a1ba74eeed0300208bb8436a07a1d40487f041f09314f8a3e755aa1acd037a1cb1959801582fde9f0400209b11cfeb86b29f8297cc192e5ce0377d819d2ab0b5d560041cc4b9cb456d07ad\n#",
+        input: "basil 1 f=1 shards=1 reads=2 delta=100 clock=50 keys=plain\n0701000000000000000a010001016100027831012c05d55955a67c7b2d552c41c183b8433d6f2aea3709642bef3b7298bbcf7158010005000020d17ba9b479b2c2cf6b13b608f7eff5dd627ef785fc88c830f762e3d4189f33440100208fffcd9a0830cbe7417deca3c67cfb2d550eb186e3cfdb2c75ceb401f70f99390200201ea23e4ccbfac176c12d38c211f73953544665a9f4bf5cf76b51d2a1ba74eeed0300208bb8436a07a1d40487f041f09314f8a3e755aa1acd037a1cb1959801582fde9f0400209b11cfeb86b29f8297cc192e5ce0377d819d2ab0b5d560041cc4b9cb456d07ad\n#",
         line: 3,
         reason: 2,
     },
 ];
 
+/// Whether an input is refused at this line, for this reason.
+fn is_bad(alloc: Global, input: &str, line: u64, reason: u8) -> Result<bool, Fail> {
+    let told = run_words(alloc, &["check"], input.as_bytes(), &[], &[])?;
+    let text = format!(in alloc; "line {line} reason {reason}\n")?;
+    Ok(is_answer(&told, Status::BadInput { line, reason }, text.as_bytes()))
+}
+
 #[test]
 fn bad_lines_come_first(rt: HostRuntime) -> Result<(), Fail> {
     for row in BAD_LINES {
-        let told = run_words(rt.alloc(), &["check"], row.input, &[], &[])?;
-        let (line, reason) = (row.line, row.reason);
-        let text = format!(in rt.alloc(); "line {line} reason {reason}\n")?;
-        assert!(rt; told.status == Status::BadInput { line, reason });
-        assert!(rt; told.text.as_slice() == text.as_bytes());
+        assert!(rt; is_bad(rt.alloc(), row.input, row.line, row.reason)?);
+    }
+    Ok(())
+}
+
+#[test]
+fn bad_lines_make_no_key(rt: HostRuntime) -> Result<(), Fail> {
+    for row in BAD_LINES {
+        let input = with_slow_keys(rt.alloc(), row.input)?;
+        assert!(rt; is_bad(rt.alloc(), input.as_str(), row.line, row.reason)?);
     }
     Ok(())
 }
@@ -455,8 +498,7 @@ fn bad_lines_come_first(rt: HostRuntime) -> Result<(), Fail> {
 fn an_input_may_be_too_long(rt: HostRuntime) -> Result<(), Fail> {
     let zeros = vec![in rt.alloc(); 0u8; 16_777_217]?;
     let told = run_words(rt.alloc(), &["check"], &zeros, &[], &[])?;
-    assert!(rt; told.status == Status::TooLong);
-    assert!(rt; told.text.as_slice() == b"too long 16777216\n".as_slice());
+    assert!(rt; is_answer(&told, Status::TooLong, b"too long 16777216\n"));
     Ok(())
 }
 
@@ -480,24 +522,33 @@ fn frame_with(alloc: Global, signature: &str) -> Result<String, Fail> {
     Ok(format!(in alloc; "07{transaction}01{ID}01000100092c{signature}")?)
 }
 
-#[test]
-fn certificates_by_lms_keys(rt: HostRuntime) -> Result<(), Fail> {
-    let alloc = rt.alloc();
-    let header = "basil 1 f=0 shards=1 reads=1 delta=100 clock=50 keys=w4h5";
-    let mut id = [0u8; 32];
-    hex::decode_to_slice(ID, &mut id).map_err(|_| "no id")?;
-    let signature = vote_signature(alloc, &id)?;
-    let frame = frame_with(alloc, &signature)?;
-    assert!(rt; says(alloc, header, frame.as_str(), "commit")?);
-    // the same signature as that of another certificate's vote: its last byte is changed
-    let changed = signature.get(..4694).ok_or("short")?;
-    let another = if signature.ends_with("00") {
+/// The same signature with another last byte.
+fn with_another_end(alloc: Global, signature: &str) -> Result<String, Fail> {
+    let front = signature.get(..4694).ok_or("short")?;
+    let end = if signature.ends_with("00") {
         "01"
     } else {
         "00"
     };
-    let signature = format!(in alloc; "{changed}{another}")?;
-    let frame = frame_with(alloc, &signature)?;
-    assert!(rt; says(alloc, header, frame.as_str(), "refused 6")?);
+    Ok(format!(in alloc; "{front}{end}")?)
+}
+
+const LMS_KEYS: &str = "basil 1 f=0 shards=1 reads=1 delta=100 clock=50 keys=w4h5";
+
+/// Whether a writeback with this vote is answered so.
+fn votes_so(alloc: Global, signature: &str, answer: &str) -> Result<bool, Fail> {
+    let frame = frame_with(alloc, signature)?;
+    says(alloc, LMS_KEYS, frame.as_str(), answer)
+}
+
+#[test]
+fn certificates_by_lms_keys(rt: HostRuntime) -> Result<(), Fail> {
+    let alloc = rt.alloc();
+    let mut id = [0u8; 32];
+    hex::decode_to_slice(ID, &mut id).map_err(|_| "no id")?;
+    let signature = vote_signature(alloc, &id)?;
+    assert!(rt; votes_so(alloc, signature.as_str(), "commit")?);
+    let another = with_another_end(alloc, signature.as_str())?;
+    assert!(rt; votes_so(alloc, another.as_str(), "refused 6")?);
     Ok(())
 }

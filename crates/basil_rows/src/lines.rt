@@ -21,18 +21,38 @@ pub(crate) struct Row {
     pub reason: u8,
 }
 
+/// Whether a value is written as this line.
+pub(crate) fn spells(alloc: Global, value: &Line, line: &[u8]) -> bool {
+    let mut out = Vec::new(alloc);
+    write_line(value, &mut out).is_ok() && out.pop() == Some(b'\n') && out.as_slice() == line
+}
+
+/// What comes of a line with a number: whether its value's spelling is that line, or the reason of its refusal (99 where
+/// memory is wanting). A line that is skipped is empty or begins with #.
+pub(crate) fn told(alloc: Global, line: &[u8], number: u64) -> Result<bool, u8> {
+    match read_line(alloc, line, number) {
+        Ok(Line::Skipped) => Ok(line.is_empty() || line.starts_with(b"#")),
+        Ok(value) => Ok(spells(alloc, &value, line)),
+        Err(LineFault::BadLine { reason, .. }) => Err(reason),
+        Err(LineFault::NoMemory) => Err(99),
+    }
+}
+
 /// The reason of a line's refusal; 0 where it is read and its value's spelling is that line, and 99 otherwise.
-pub(crate) fn reason_of(alloc: Global, line: &[u8]) -> u8 {
-    match read_line(alloc, line, 7) {
-        Err(LineFault::BadLine { reason, .. }) => reason,
-        Err(LineFault::NoMemory) => 99,
-        Ok(Line::Skipped) => 0,
-        Ok(value) => {
-            let mut out = Vec::new(alloc);
-            if write_line(&value, &mut out).is_err() || out.pop() != Some(b'\n') {
-                return 99;
-            }
-            if out.as_slice() == line { 0 } else { 99 }
+fn reason_of(alloc: Global, line: &[u8]) -> u8 {
+    match told(alloc, line, 7) {
+        Ok(true) => 0,
+        Ok(false) => 99,
+        Err(reason) => reason,
+    }
+}
+
+/// Whether each line is read, or refused for its reason.
+pub(crate) fn are_told(alloc: Global, rows: &[Row]) -> bool {
+    for row in rows {
+        if reason_of(alloc, row.line) != row.reason {
+            return false;
         }
     }
+    true
 }

@@ -5,7 +5,7 @@ mod headers;
 mod later;
 mod sizes;
 
-use crate::support::replay;
+use crate::support::{is_answer, replay};
 use basil_cli::status::Status;
 use basil_types::memory::NoMemory;
 use std::alloc::Global;
@@ -22,5 +22,5 @@ pub(crate) struct Refused {
 pub(crate) fn agrees(alloc: Global, case: &Refused) -> Result<bool, NoMemory> {
     let given = replay(alloc, case.schedule)?;
     let (line, reason) = (case.line, case.reason);
-    Ok(given.text.as_slice() == case.text && given.status == Status::BadInput { line, reason })
+    Ok(is_answer(&given, Status::BadInput { line, reason }, case.text))
 }

@@ -1,6 +1,6 @@
 //! Keys and signatures of LMS, by their commands. The values are those of Bouncy Castle and of a C program.
 
-use crate::support::{Answer, run_words};
+use crate::support::{Answer, is_answer, run_words};
 use basil_cli::status::Status;
 use basil_types::memory::NoMemory;
 use std::alloc::Global;
@@ -143,17 +143,29 @@ fn signatures_are_made_and_verified(rt: HostRuntime) -> Result<(), Fail> {
     Ok(())
 }
 
+/// The signature of a message with leaf 31 of the key of w4h5, and a newline.
+fn last_signature(alloc: Global, message: &[u8]) -> Result<Vec<u8>, Fail> {
+    let given = answer(alloc, &["sign", "w4h5", SEED, IDENT, "31"], message)?;
+    if given.status != Status::Done {
+        return Err("not signed".into());
+    }
+    Ok(given.text)
+}
+
+/// Whether a signature with its newline is accepted.
+fn is_accepted(alloc: Global, signature: &[u8], message: &[u8]) -> Result<bool, Fail> {
+    let signature = str::from_utf8(signature).map_err(|_| "no text")?;
+    let words = ["verify", PUBLIC_W4, signature.trim_end()];
+    Ok(writes(alloc, &words, message, Status::Done, "accepted")?)
+}
+
 #[test]
 fn the_last_leaf_signs(rt: HostRuntime) -> Result<(), Fail> {
     let message = hex::decode(rt.alloc(), MESSAGE_W4)?;
-    let last = ["sign", "w4h5", SEED, IDENT, "31"];
-    let answer = answer(rt.alloc(), &last, &message)?;
-    assert!(rt; answer.status == Status::Done);
-    assert!(rt; answer.text.len() == 4697);
-    assert!(rt; answer.text.starts_with(b"0000001f00000003"));
-    let signature = str::from_utf8(&answer.text).map_err(|_| "no text")?;
-    let again = ["verify", PUBLIC_W4, signature.trim_end()];
-    assert!(rt; writes(rt.alloc(), &again, &message, Status::Done, "accepted")?);
+    let signature = last_signature(rt.alloc(), &message)?;
+    assert!(rt; signature.len() == 4697);
+    assert!(rt; signature.starts_with(b"0000001f00000003"));
+    assert!(rt; is_accepted(rt.alloc(), &signature, &message)?);
     Ok(())
 }
 
@@ -180,9 +192,7 @@ const CHANGED: [(usize, &str, Status, &[u8]); 3] = [
 #[test]
 fn changed_signatures_are_refused(rt: HostRuntime) -> Result<(), Fail> {
     for (place, digits, status, text) in &CHANGED {
-        let given = verified(rt.alloc(), *place, digits)?;
-        assert!(rt; given.status == *status);
-        assert!(rt; given.text.as_slice() == *text);
+        assert!(rt; is_answer(&verified(rt.alloc(), *place, digits)?, *status, text));
     }
     Ok(())
 }
@@ -238,20 +248,24 @@ fn other_words_are_no_command(rt: HostRuntime) -> Result<(), Fail> {
     Ok(())
 }
 
-/// So many zeros as an input to `verify`.
-fn verify_zeros(alloc: Global, count: usize) -> Result<Answer, NoMemory> {
+/// Whether so many zeros as an input to `verify` are answered so.
+fn zeros_end_so(
+    alloc: Global,
+    count: usize,
+    status: Status,
+    text: &[u8],
+) -> Result<bool, NoMemory> {
     let zeros = vec![in alloc; 0u8; count]?;
-    answer(alloc, &["verify", PUBLIC, SIGNATURE], &zeros)
+    let given = answer(alloc, &["verify", PUBLIC, SIGNATURE], &zeros)?;
+    Ok(is_answer(&given, status, text))
 }
 
 #[test]
 fn an_input_may_be_too_long(rt: HostRuntime) -> Result<(), Fail> {
-    let longest = verify_zeros(rt.alloc(), 16_777_216)?;
-    assert!(rt; longest.status == Status::Refused { reason: 6 });
-    assert!(rt; longest.text.as_slice() == b"refused 6\n".as_slice());
-    let longer = verify_zeros(rt.alloc(), 16_777_217)?;
-    assert!(rt; longer.status == Status::TooLong);
-    assert!(rt; longer.text.as_slice() == b"too long 16777216\n".as_slice());
+    let refused = Status::Refused { reason: 6 };
+    assert!(rt; zeros_end_so(rt.alloc(), 16_777_216, refused, b"refused 6\n")?);
+    let long = Status::TooLong;
+    assert!(rt; zeros_end_so(rt.alloc(), 16_777_217, long, b"too long 16777216\n")?);
     Ok(())
 }
 

@@ -1,7 +1,8 @@
 //! The limits on lines and on their number.
 
-use crate::support::{replay, run_words};
+use crate::support::{is_answer, replay, run_words};
 use basil_cli::status::Status;
+use basil_types::memory::NoMemory;
 use std::alloc::{AllocError, Global};
 use std::test::Fail;
 
@@ -16,18 +17,21 @@ fn followed(alloc: Global, front: &[u8], byte: u8, count: u32) -> Result<Vec<u8>
     Ok(bytes)
 }
 
+/// Whether a schedule's replay ends so.
+fn ends_so(alloc: Global, schedule: &[u8], status: Status, text: &[u8]) -> Result<bool, NoMemory> {
+    let given = replay(alloc, schedule)?;
+    Ok(is_answer(&given, status, text))
+}
+
 #[test]
 fn a_million_lines_and_one_more(rt: HostRuntime) -> Result<(), Fail> {
     let mut schedule = followed(rt.alloc(), HEADER, b'\n', 999_999)?;
-    let given = replay(rt.alloc(), &schedule)?;
-    assert!(rt; given.text.as_slice() == b"end 0\n".as_slice());
-    assert!(rt; given.status == Status::Done);
+    assert!(rt; ends_so(rt.alloc(), &schedule, Status::Done, b"end 0\n")?);
     let (line, reason) = (1_000_001, 8);
+    let refused = Status::BadInput { line, reason };
     for _ in 0..2 {
         schedule.push(b'\n')?;
-        let given = replay(rt.alloc(), &schedule)?;
-        assert!(rt; given.text.as_slice() == b"line 1000001 reason 8\n".as_slice());
-        assert!(rt; given.status == Status::BadInput { line, reason });
+        assert!(rt; ends_so(rt.alloc(), &schedule, refused, b"line 1000001 reason 8\n")?);
     }
     Ok(())
 }
@@ -67,13 +71,16 @@ const LONG: &[Long] = &[
     },
 ];
 
+/// Whether a long schedule's replay ends as it is told.
+fn long_ends_so(alloc: Global, case: &Long) -> Result<bool, NoMemory> {
+    let schedule = followed(alloc, case.front, b'x', case.count)?;
+    ends_so(alloc, &schedule, case.status, case.text)
+}
+
 #[test]
 fn a_line_above_the_limit(rt: HostRuntime) -> Result<(), Fail> {
     for case in LONG {
-        let schedule = followed(rt.alloc(), case.front, b'x', case.count)?;
-        let given = replay(rt.alloc(), &schedule)?;
-        assert!(rt; given.text.as_slice() == case.text);
-        assert!(rt; given.status == case.status);
+        assert!(rt; long_ends_so(rt.alloc(), case)?);
     }
     Ok(())
 }
@@ -81,12 +88,16 @@ fn a_line_above_the_limit(rt: HostRuntime) -> Result<(), Fail> {
 /// Reads of 1,000 bytes each, the last of which is needed.
 const NEEDED: u64 = 2_201;
 
+/// How the replay of a line far above the limit ends, where one of the reads fails.
+fn ended_by(alloc: Global, failing: u64) -> Result<Status, NoMemory> {
+    let schedule = followed(alloc, HEADER, b'x', 2_300_000)?;
+    let given = run_words(alloc, &["replay"], &schedule, &[failing], &[])?;
+    Ok(given.status)
+}
+
 #[test]
 fn a_line_past_its_length_is_read_no_further(rt: HostRuntime) -> Result<(), Fail> {
-    let schedule = followed(rt.alloc(), HEADER, b'x', 2_300_000)?;
-    let behind = run_words(rt.alloc(), &["replay"], &schedule, &[NEEDED + 1], &[])?;
-    assert!(rt; behind.status == Status::BadInput { line: 2, reason: 8 });
-    let within = run_words(rt.alloc(), &["replay"], &schedule, &[NEEDED], &[])?;
-    assert!(rt; within.status == Status::ReadFault);
+    assert!(rt; ended_by(rt.alloc(), NEEDED + 1)? == Status::BadInput { line: 2, reason: 8 });
+    assert!(rt; ended_by(rt.alloc(), NEEDED)? == Status::ReadFault);
     Ok(())
 }

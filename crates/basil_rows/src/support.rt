@@ -10,10 +10,19 @@ use basil_types::source::MemSource;
 use std::alloc::Global;
 
 /// What a call ended with, and what it wrote.
-#[derive(Debug, Drop)]
+#[derive(Drop)]
 pub(crate) struct Answer {
     pub status: Status,
     pub text: Vec<u8>,
+}
+
+/// The command words.
+fn given_words(alloc: Global, words: &[&str]) -> Result<Vec<String>, NoMemory> {
+    let mut given = Vec::new(alloc);
+    for word in words {
+        given.push(String::from_str(alloc, word)?)?;
+    }
+    Ok(given)
 }
 
 /// Runs one command word, and more where given, over a source that gives these bytes in pieces; the listed reads and
@@ -25,10 +34,7 @@ pub(crate) fn run_words(
     failing_reads: &[u64],
     failing_writes: &[u64],
 ) -> Result<Answer, NoMemory> {
-    let mut given = Vec::new(alloc);
-    for word in words {
-        given.push(String::from_str(alloc, word)?)?;
-    }
+    let given = given_words(alloc, words)?;
     let bytes = Vec::from_slice(alloc, input)?;
     let mut source = MemSource::new(bytes, 1000, Vec::from_slice(alloc, failing_reads)?);
     let mut sink = MemSink::new(alloc, 10_000, Vec::from_slice(alloc, failing_writes)?)?;
@@ -49,4 +55,9 @@ pub(crate) fn run_words(
 /// Replays a schedule.
 pub(crate) fn replay(alloc: Global, schedule: &[u8]) -> Result<Answer, NoMemory> {
     run_words(alloc, &["replay"], schedule, &[], &[])
+}
+
+/// Whether a call ended so, and wrote this text.
+pub(crate) fn is_answer(given: &Answer, status: Status, text: &[u8]) -> bool {
+    given.status == status && given.text.as_slice() == text
 }

@@ -79,24 +79,37 @@ fn world_after(alloc: Global, events: &[Event<'_>]) -> Result<World, Fail> {
     Ok(world)
 }
 
+/// Whether that write alone is decided and committed.
+fn has_committed(alloc: Global, world: &World) -> Result<bool, Fail> {
+    let committed = world.committed(alloc)?;
+    let first = committed.get(0).ok_or("none")?;
+    Ok(committed.len() == 1 && first.view().bytes() == WRITES.as_slice())
+}
+
+/// Whether its three messages went to and fro.
+fn has_sent_three(world: &World) -> bool {
+    world.messages() == 3
+        && world.addresses(1) == Some((CLIENT, REPLICA))
+        && world.addresses(2) == Some((REPLICA, CLIENT))
+        && world.addresses(4).is_none()
+}
+
+/// Whether no message waits.
+fn rests(alloc: Global, world: &World) -> Result<bool, Fail> {
+    Ok(world.undelivered(1).is_none() && world.waiting(alloc)?.is_empty() && !world.ended())
+}
+
 #[test]
 fn a_write_commits(rt: HostRuntime) -> Result<(), Fail> {
     let alloc = rt.alloc();
     let world = world_after(alloc, &one_write(10))?;
-    assert!(rt; world.messages() == 3);
-    assert!(rt; world.decision_of(&ID) == Some(Decision::Commit));
-    assert!(rt; world.decision_of(&LATE).is_none());
-    let committed = world.committed(alloc)?;
-    assert!(rt; committed.len() == 1);
-    let first = committed.get(0).ok_or("none")?;
-    assert!(rt; first.view().bytes() == WRITES.as_slice());
-    assert!(rt; world.undelivered(1).is_none());
-    assert!(rt; world.addresses(1) == Some((CLIENT, REPLICA)));
-    assert!(rt; world.addresses(2) == Some((REPLICA, CLIENT)));
-    assert!(rt; world.addresses(4).is_none());
+    assert!(rt;
+        world.decision_of(&ID) == Some(Decision::Commit) && world.decision_of(&LATE).is_none()
+    );
+    assert!(rt; has_committed(alloc, &world)?);
+    assert!(rt; has_sent_three(&world));
     assert!(rt; world.transaction(0).is_some());
-    assert!(rt; world.waiting(alloc)?.is_empty());
-    assert!(rt; !world.ended());
+    assert!(rt; rests(alloc, &world)?);
     Ok(())
 }
 
@@ -135,15 +148,22 @@ const WAITS: [Waits; 5] = [
     },
 ];
 
+/// Whether so many messages wait behind the first of these events.
+fn waits_so(alloc: Global, events: &[Event<'_>], case: &Waits) -> Result<bool, Fail> {
+    let world = world_after(alloc, events.get(..case.events).ok_or("too few")?)?;
+    Ok(
+        world.undelivered(0) == case.first
+            && world.waiting(alloc)?.len() == case.count
+            && world.transaction(0).is_some() == (case.events > 2),
+    )
+}
+
 #[test]
 fn messages_wait_until_they_are_delivered(rt: HostRuntime) -> Result<(), Fail> {
     let alloc = rt.alloc();
     let events = one_write(10);
     for case in &WAITS {
-        let world = world_after(alloc, events.get(..case.events).ok_or("too few")?)?;
-        assert!(rt; world.undelivered(0) == case.first);
-        assert!(rt; world.waiting(alloc)?.len() == case.count);
-        assert!(rt; world.transaction(0).is_some() == (case.events > 2));
+        assert!(rt; waits_so(alloc, &events, case)?);
     }
     Ok(())
 }

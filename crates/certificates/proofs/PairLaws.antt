@@ -16,7 +16,7 @@ use Rattle.frame_views.specs.declared.certificates.body.CertBody.TheVariants as 
 use Rattle.frame_views.specs.Shown.{body_of, certificate_of, HoldsCommit}
 use Rattle.certificates.specs.declared.pair.Pair.{Pair}
 use Rattle.certificates.specs.Refusals.{PairValue, nested_in}
-use Rattle.certificates.specs.Shown.{pair_of}
+use Rattle.certificates.specs.Pairs.{pair_of}
 
 -- a certificate of a kind that may commit, seen as one
 pub seen_again : (c : CertificateValue) → is_commit c.body ≡ true → as_certificate (as_commit c) ≡ c

@@ -3,8 +3,17 @@ pub mod Voters
 pub mod Tallies
 pub mod Deciding
 pub mod Refusals
-pub mod Shown
+pub mod Pairs
 pub mod Numbers
 pub mod Marks
 pub mod Quorums
 pub mod Laws
+-- what public clauses cite of lower crates
+pub use Rattle.basil_types.specs.Setting
+pub use Rattle.basil_types.specs.Transaction
+pub use Rattle.frame_views.specs.Values
+pub use Rattle.frame_views.specs.Fitting
+pub use Rattle.frame_views.specs.Shown
+pub use Rattle.frame_views.specs.Items
+pub use Rattle.frame_views.specs.Spelling
+pub use Rattle.frame_views.specs.Signed

@@ -9,7 +9,7 @@ ghost use Rattle.frame_views.specs.Signed.{certificate_signed};
 ghost use Rattle.frame_views.specs.Walks.{signed_left};
 ghost use Rattle.certificates.specs.Deciding.{HasGoodForm, Commits, Aborts, Proves};
 ghost use Rattle.certificates.specs.Refusals.{Refuses, refusal, refusal_of};
-ghost use Rattle.certificates.specs.Shown.{pair_of};
+ghost use Rattle.certificates.specs.Pairs.{pair_of};
 
 use crate::conflicts::conflicts;
 use crate::counts::enough_of_all;

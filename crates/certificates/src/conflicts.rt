@@ -7,7 +7,7 @@ ghost use Rattle.txn_meta.specs.Form as forms;
 ghost use Rattle.certificates.specs.Deciding.{HasGoodForm};
 ghost use Rattle.certificates.specs.Refusals as refusals;
 ghost use Rattle.certificates.specs.Refusals.{Refuses, no_conflict};
-ghost use Rattle.certificates.specs.Shown.{pair_of};
+ghost use Rattle.certificates.specs.Pairs.{pair_of};
 
 use crate::pair::Pair;
 use crate::refusal::CertRefusal;

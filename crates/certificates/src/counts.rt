@@ -3,7 +3,7 @@
 ghost use Rattle.std.specs.Prelude.{◌≡◌, option_map};
 ghost use Rattle.frame_views.specs.Items.{tallies_of};
 ghost use Rattle.certificates.specs.Refusals.{Refuses, few, few_listed, too_few, shortages};
-ghost use Rattle.certificates.specs.Shown.{pair_of};
+ghost use Rattle.certificates.specs.Pairs.{pair_of};
 
 use crate::pair::Pair;
 use crate::refusal::CertRefusal;

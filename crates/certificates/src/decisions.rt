@@ -4,7 +4,7 @@ ghost use Rattle.std.specs.Prelude.{◌≡◌, option_map};
 ghost use Rattle.frame_views.specs.Shown.{body_of};
 ghost use Rattle.certificates.specs.Refusals as refusals;
 ghost use Rattle.certificates.specs.Refusals.{Refuses, mixed, mixed_pairs};
-ghost use Rattle.certificates.specs.Shown.{pair_of};
+ghost use Rattle.certificates.specs.Pairs.{pair_of};
 
 use crate::pair::Pair;
 use crate::refusal::CertRefusal;

@@ -2,7 +2,7 @@
 
 ghost use Rattle.std.specs.Prelude.{◌≡◌, option_map};
 ghost use Rattle.certificates.specs.Refusals.{Refuses, wrong_id, wrong_ids};
-ghost use Rattle.certificates.specs.Shown.{pair_of};
+ghost use Rattle.certificates.specs.Pairs.{pair_of};
 
 use crate::pair::Pair;
 use crate::refusal::CertRefusal;

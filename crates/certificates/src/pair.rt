@@ -5,7 +5,7 @@ ghost use Rattle.basil_types.specs.Shown.{transaction_of};
 ghost use Rattle.frame_views.specs.Shown.{HoldsCommit, certificate_of};
 ghost use Rattle.certificates.specs.Deciding.{HasGoodForm};
 ghost use Rattle.certificates.specs.Refusals.{nested};
-ghost use Rattle.certificates.specs.Shown.{pair_of};
+ghost use Rattle.certificates.specs.Pairs.{pair_of};
 
 use basil_types::transaction::TransactionView;
 use frame_views::certificates::{CertBody, CertificateView};

@@ -8,7 +8,7 @@ ghost use Rattle.frame_views.specs.Signed.{certificate_signed};
 ghost use Rattle.frame_views.specs.Walks.{signed_left};
 ghost use Rattle.certificates.specs.Deciding.{HasGoodForm, ProvesConflict};
 ghost use Rattle.certificates.specs.Refusals.{Refuses, proof_refusal, rival_refusal, no_rival_signed};
-ghost use Rattle.certificates.specs.Shown.{pair_of};
+ghost use Rattle.certificates.specs.Pairs.{pair_of};
 
 use crate::conflicts::ill_formed;
 use crate::counts::enough_of;

@@ -9,7 +9,7 @@ ghost use Rattle.certificates.specs.Deciding.{HasGoodForm};
 ghost use Rattle.certificates.specs.Refusals as refusals;
 ghost use Rattle.certificates.specs.Refusals.{Refuses, all_shards, stray, stray_listed, stray_logged, stray_alone};
 ghost use Rattle.certificates.specs.Refusals.{not_involved, strays};
-ghost use Rattle.certificates.specs.Shown.{pair_of};
+ghost use Rattle.certificates.specs.Pairs.{pair_of};
 ghost use Rattle.certificates.specs.Tallies.{lists};
 
 use crate::pair::Pair;

@@ -1,6 +1,6 @@
 //! Frames that clients send: reads, both stages, and recovery.
 
-use crate::telling::{By, Sample, told};
+use crate::telling::{By, Sample, are_told};
 use std::test::Fail;
 
 const FIRST: &[Sample] = &[
@@ -32,9 +32,7 @@ const FIRST: &[Sample] = &[
 /// Reads and first stages.
 #[test]
 fn reads_and_first_stages_are_told(rt: HostRuntime) -> Result<(), Fail> {
-    for row in FIRST {
-        told(&rt, rt.alloc(), row)?;
-    }
+    assert!(rt; are_told(rt.alloc(), FIRST)?);
     Ok(())
 }
 
@@ -96,9 +94,7 @@ const SECOND: &[Sample] = &[
 /// Second stages.
 #[test]
 fn second_stages_are_told(rt: HostRuntime) -> Result<(), Fail> {
-    for row in SECOND {
-        told(&rt, rt.alloc(), row)?;
-    }
+    assert!(rt; are_told(rt.alloc(), SECOND)?);
     Ok(())
 }
 
@@ -148,8 +144,6 @@ const RECOVERY: &[Sample] = &[
 /// A recover, and an invoke.
 #[test]
 fn recovery_is_told(rt: HostRuntime) -> Result<(), Fail> {
-    for row in RECOVERY {
-        told(&rt, rt.alloc(), row)?;
-    }
+    assert!(rt; are_told(rt.alloc(), RECOVERY)?);
     Ok(())
 }

@@ -1,18 +1,18 @@
 //! The longest frames.
 
+use crate::answers::encoded;
 use basil_codec::lengths::{below_the_limit, longest_certificates, longest_transaction};
 use basil_codec::signed::Signatures;
-use basil_codec::wider::{fitting_may_be_written, may_be_written};
+use basil_codec::wider::may_be_written;
 use basil_codec::{
     Certificate, CertificateBody, Message, ShardVotes, VotePart, WritebackMessage, check,
-    encode_into, fits, signatures,
+    signatures,
 };
 use basil_types::bytes::{Bytes, id_of};
 use basil_types::cluster::Cluster;
 use basil_types::list::List;
 use basil_types::transaction::Transaction;
 use std::alloc::Global;
-use std::process::Abort;
 use std::test::Fail;
 
 /// Votes of all replicas of a shard with f = 6, whose signatures have so many bytes each.
@@ -35,10 +35,11 @@ fn full_tallies(alloc: Global, size: usize) -> Result<List<ShardVotes>, Fail> {
     Ok(List::from_vec(tallies))
 }
 
-fn signature_count(frame: &[u8], cluster: &Cluster) -> Result<usize, Fail> {
+/// How many signatures a frame has. None where it is refused.
+fn signature_count(frame: &[u8], cluster: &Cluster) -> Option<usize> {
     match check(frame, cluster) {
-        Ok(message) => Ok(count(signatures(&message))),
-        Err(_) => Err(Fail::from("refused")),
+        Ok(message) => Some(count(signatures(&message))),
+        Err(_) => None,
     }
 }
 
@@ -65,6 +66,11 @@ fn full_writeback(alloc: Global, size: usize) -> Result<Message, Fail> {
     }))
 }
 
+/// Its frame, with signatures of so many bytes. None where it is too long.
+fn full_frame(alloc: Global, cluster: &Cluster, size: usize) -> Result<Option<Vec<u8>>, Fail> {
+    encoded(alloc, cluster, full_writeback(alloc, size)?)
+}
+
 /// The longest commit certificate has 622,778 bytes, and stands behind a kind and a transaction of 12 bytes.
 #[test]
 fn longest_commit_is_written(rt: HostRuntime) -> Result<(), Fail> {
@@ -73,31 +79,16 @@ fn longest_commit_is_written(rt: HostRuntime) -> Result<(), Fail> {
     longest_transaction();
     longest_certificates();
     let cluster = Cluster::new(6, 8, 7, 100)?;
-    let message = full_writeback(rt.alloc(), 2508)?;
-    written(&rt, rt.alloc(), &cluster, &message)
+    let frame = full_frame(rt.alloc(), &cluster, 2508)?.ok_or("too long")?;
+    assert!(rt; frame.len() == 622_791);
+    assert!(rt; signature_count(&frame, &cluster) == Some(248));
+    Ok(())
 }
 
 /// The longest signatures make a frame that is too long.
 #[test]
 fn too_long_a_frame_does_not_fit(rt: HostRuntime) -> Result<(), Fail> {
     let cluster = Cluster::new(6, 8, 7, 100)?;
-    let message = full_writeback(rt.alloc(), 8192)?;
-    assert!(&rt; !fits(&message, &cluster));
-    Ok(())
-}
-
-/// The writeback of the longest commit certificate is written, and 248 signatures are read in it.
-fn written(
-    rt: &impl Abort,
-    alloc: Global,
-    cluster: &Cluster,
-    message: &Message,
-) -> Result<(), Fail> {
-    assert!(rt; fits(message, cluster));
-    fitting_may_be_written(cluster, message);
-    let mut out = Vec::new(alloc);
-    encode_into(message, &mut out)?;
-    assert_eq!(rt; out.len(), 622_791);
-    assert_eq!(rt; signature_count(&out, cluster)?, 248);
+    assert!(rt; full_frame(rt.alloc(), &cluster, 8192)?.is_none());
     Ok(())
 }

@@ -1,6 +1,7 @@
 //! Frames that are refused, each for its first fault.
 
-use basil_codec::{BadFrame, check};
+use crate::answers::fault_of;
+use basil_codec::BadFrame;
 use basil_types::cluster::Cluster;
 use std::test::Fail;
 
@@ -20,7 +21,7 @@ fn faults_come_first(rt: HostRuntime) -> Result<(), Fail> {
     let cluster = Cluster::new(1, 1, 2, 100)?;
     for (frame, fault) in REFUSED {
         let bytes = hex::decode(rt.alloc(), frame)?;
-        assert_eq!(&rt; check(&bytes, &cluster).err(), Some(*fault));
+        assert!(rt; fault_of(&bytes, &cluster) == Some(*fault));
     }
     Ok(())
 }

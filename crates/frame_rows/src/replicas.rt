@@ -1,6 +1,6 @@
 //! Frames that replicas send: read replies, votes, log replies, and the election of a leader.
 
-use crate::telling::{By, Sample, told};
+use crate::telling::{By, Sample, are_told};
 use std::test::Fail;
 
 const READ_REPLIES: &[Sample] = &[
@@ -98,9 +98,7 @@ const READ_REPLIES: &[Sample] = &[
 /// Read replies: of nothing, of a prepared writer, and of both.
 #[test]
 fn read_replies_are_told(rt: HostRuntime) -> Result<(), Fail> {
-    for row in READ_REPLIES {
-        told(&rt, rt.alloc(), row)?;
-    }
+    assert!(rt; are_told(rt.alloc(), READ_REPLIES)?);
     Ok(())
 }
 
@@ -169,9 +167,7 @@ const VOTES: &[Sample] = &[
 /// Votes to commit, to abort, and to abort with a proof.
 #[test]
 fn votes_are_told(rt: HostRuntime) -> Result<(), Fail> {
-    for row in VOTES {
-        told(&rt, rt.alloc(), row)?;
-    }
+    assert!(rt; are_told(rt.alloc(), VOTES)?);
     Ok(())
 }
 
@@ -235,8 +231,6 @@ const ELECTION: &[Sample] = &[
 /// A log reply, an elect, and a decide.
 #[test]
 fn log_replies_and_elections_are_told(rt: HostRuntime) -> Result<(), Fail> {
-    for row in ELECTION {
-        told(&rt, rt.alloc(), row)?;
-    }
+    assert!(rt; are_told(rt.alloc(), ELECTION)?);
     Ok(())
 }

@@ -4,17 +4,14 @@ ghost use Rattle.std.specs.Prelude.{◌≡◌};
 ghost use Rattle.basil_codec.specs.Fitting.{bounds_of, FitsMessage};
 ghost use Rattle.basil_codec.specs.Shown.{message_of};
 
+use crate::answers::{encoded, fault_of};
 use crate::unsigned::put_in_two;
 use basil_codec::signed::Signatures;
-use basil_codec::wider::{checked_may_be_written, fitting_may_be_written};
-use basil_codec::{
-    BadFrame, Message, MessageView, SignedItem, check, decode, encode_into, fits, put_message,
-    signatures,
-};
+use basil_codec::wider::checked_may_be_written;
+use basil_codec::{BadFrame, MessageView, SignedItem, check, decode, put_message, signatures};
 use basil_types::cluster::Cluster;
 use basil_types::party::Party;
 use std::alloc::Global;
-use std::process::Abort;
 use std::test::Fail;
 
 /// Whose a signature is: the shard and the number of a replica, or the number of a client.
@@ -66,78 +63,113 @@ fn told_in(alloc: Global, all: Signatures<'_>, signed: &[Signed]) -> Result<usiz
     Ok(place)
 }
 
-/// An owned message fits, and its frame is this one.
-fn is_encoded(
-    rt: &impl Abort,
-    alloc: Global,
-    cluster: &Cluster,
-    owned: &Message,
-    frame: &[u8],
-) -> Result<(), Fail> {
-    assert!(rt; fits(owned, cluster));
-    fitting_may_be_written(cluster, owned);
-    let mut out = Vec::new(alloc);
-    encode_into(owned, &mut out)?;
-    assert!(rt; out.as_slice() == frame);
-    Ok(())
-}
-
-/// The frame of borrowed parts is this one.
-fn is_put(
-    rt: &impl Abort,
+/// Whether the message, owned, has this frame.
+fn is_owned(
     alloc: Global,
     cluster: &Cluster,
     message: &MessageView<'_>,
     frame: &[u8],
-) -> Result<(), Fail>
+) -> Result<bool, Fail> {
+    let again = encoded(alloc, cluster, decode(alloc, message)?)?;
+    Ok(again.as_deref() == Some(frame))
+}
+
+/// Whether the frame of borrowed parts is this one.
+fn is_put(
+    alloc: Global,
+    cluster: &Cluster,
+    message: &MessageView<'_>,
+    frame: &[u8],
+) -> Result<bool, Fail>
     requires { FitsMessage (bounds_of cluster.now) (message_of message.now) }
 {
     checked_may_be_written(cluster, message);
     let mut out = Vec::new(alloc);
     put_message(message, &mut out)?;
-    assert!(rt; out.as_slice() == frame);
-    out.truncate(0);
-    if put_in_two(message, &mut out)? {
-        assert!(rt; out.as_slice() == frame);
-    }
-    Ok(())
+    Ok(out.as_slice() == frame)
 }
 
-/// Bytes that end too early are short at each length, and one byte more is trailing.
-fn ends_exactly(
-    rt: &impl Abort,
+/// Whether it is this one in two parts too, where its kind is written so.
+fn is_put_in_two(
+    alloc: Global,
+    cluster: &Cluster,
+    message: &MessageView<'_>,
+    frame: &[u8],
+) -> Result<bool, Fail>
+    requires { FitsMessage (bounds_of cluster.now) (message_of message.now) }
+{
+    checked_may_be_written(cluster, message);
+    let mut out = Vec::new(alloc);
+    Ok(!put_in_two(message, &mut out)? || out.as_slice() == frame)
+}
+
+/// Whether bytes that end too early are short at each length.
+fn is_short_before_its_end(cluster: &Cluster, frame: &[u8]) -> bool {
+    for len in 0..frame.len() {
+        if !matches!(fault_of(&frame[..len], cluster), Some(BadFrame::Short(_))) {
+            return false;
+        }
+    }
+    true
+}
+
+/// Whether one byte more is trailing.
+fn is_trailed(alloc: Global, cluster: &Cluster, frame: &[u8]) -> Result<bool, Fail> {
+    let mut longer = frame.to_vec(alloc)?;
+    longer.push(0)?;
+    Ok(fault_of(&longer, cluster) == Some(BadFrame::Trailing(frame.len())))
+}
+
+/// Whether a message has these signatures, in order, and is spelled again as its frame: as an owned message, of its
+/// borrowed parts, and up to its signature.
+fn is_message_told(
+    alloc: Global,
+    cluster: &Cluster,
+    message: &MessageView<'_>,
+    frame: &[u8],
+    signed: &[Signed],
+) -> Result<bool, Fail>
+    requires { FitsMessage (bounds_of cluster.now) (message_of message.now) }
+{
+    Ok(
+        told_in(alloc, signatures(message), signed)? == signed.len()
+            && is_owned(alloc, cluster, message, frame)?
+            && is_put(alloc, cluster, message, frame)?
+            && is_put_in_two(alloc, cluster, message, frame)?,
+    )
+}
+
+/// Whether a frame is read, and its message is told so.
+fn is_frame_told(
     alloc: Global,
     cluster: &Cluster,
     frame: &[u8],
-) -> Result<(), Fail> {
-    for len in 0..frame.len() {
-        assert!(rt; matches!(check(&frame[..len], cluster), Err(BadFrame::Short(_))));
+    signed: &[Signed],
+) -> Result<bool, Fail> {
+    match check(frame, cluster) {
+        Ok(message) => is_message_told(alloc, cluster, &message, frame, signed),
+        Err(_) => Ok(false),
     }
-    let mut longer = frame.to_vec(alloc)?;
-    longer.push(0)?;
-    assert!(rt;
-        matches!(check(&longer, cluster), Err(BadFrame::Trailing(at)) if at == frame.len())
-    );
-    Ok(())
 }
 
-/// The frame is read, its signatures are these, in order, and it is spelled again: as an owned message, of its
-/// borrowed parts, and up to its signature.
-pub(crate) fn told(rt: &impl Abort, alloc: Global, row: &Sample) -> Result<(), Fail> {
+/// Whether a frame is told so, no shorter and no longer.
+fn is_row_told(alloc: Global, row: &Sample) -> Result<bool, Fail> {
     let [f, shards, reads, delta] = row.cluster;
     let cluster = Cluster::new(f, shards, reads, u64::from(delta))?;
-    let bytes = hex::decode(alloc, row.frame)?;
-    ends_exactly(rt, alloc, &cluster, &bytes)?;
-    match check(&bytes, &cluster) {
-        Ok(message) => {
-            assert_eq!(rt;
-                told_in(alloc, signatures(&message), row.signed)?,
-                row.signed.len()
-            );
-            let owned = decode(alloc, &message)?;
-            is_encoded(rt, alloc, &cluster, &owned, &bytes)?;
-            is_put(rt, alloc, &cluster, &message, &bytes)
+    let frame = hex::decode(alloc, row.frame)?;
+    Ok(
+        is_short_before_its_end(&cluster, &frame)
+            && is_trailed(alloc, &cluster, &frame)?
+            && is_frame_told(alloc, &cluster, &frame, row.signed)?,
+    )
+}
+
+/// Whether each frame is told so.
+pub(crate) fn are_told(alloc: Global, rows: &[Sample]) -> Result<bool, Fail> {
+    for row in rows {
+        if !is_row_told(alloc, row)? {
+            return Ok(false);
         }
-        Err(_) => Err(Fail::from("refused")),
     }
+    Ok(true)
 }

@@ -1,6 +1,6 @@
 //! Writebacks, with certificates of each kind.
 
-use crate::telling::{By, Sample, told};
+use crate::telling::{By, Sample, are_told};
 use std::test::Fail;
 
 /// The writeback of a conflict abort.
@@ -80,9 +80,7 @@ const COMMITS: &[Sample] = &[
 /// A fast commit, and log replies.
 #[test]
 fn commits_are_told(rt: HostRuntime) -> Result<(), Fail> {
-    for row in COMMITS {
-        told(&rt, rt.alloc(), row)?;
-    }
+    assert!(rt; are_told(rt.alloc(), COMMITS)?);
     Ok(())
 }
 
@@ -142,8 +140,6 @@ const ABORTS: &[Sample] = &[
 /// A fast abort, and a conflict abort.
 #[test]
 fn aborts_are_told(rt: HostRuntime) -> Result<(), Fail> {
-    for row in ABORTS {
-        told(&rt, rt.alloc(), row)?;
-    }
+    assert!(rt; are_told(rt.alloc(), ABORTS)?);
     Ok(())
 }

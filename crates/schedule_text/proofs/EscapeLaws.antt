@@ -6,6 +6,7 @@ use Rattle.std.proofs.lemmas.List.Folds.{list_all-append}
 use Rattle.std.specs.List.{list_all}
 use Rattle.hex.specs.Hex.{IsBytes, lower_digits, encode_lower, encode_with}
 use Rattle.hex.proofs.HexLemmas.{decode_of-encode_lower, length-encode_with}
+use Rattle.basil_types.specs.Limits.{frame_limit}
 use Rattle.schedule_text.specs.Words.{Word}
 use Rattle.schedule_text.specs.Fields.{is_plain, is_lower_hex, escape, onto, unescaped, text, value, hex, frame}
 use Rattle.schedule_text.specs.Spelling.{spelled_byte, key_word, value_word}
@@ -97,6 +98,6 @@ hex-again bytes l h =
     let twice = length-encode_with lower_digits bytes in
     rw (lt-yes 0 (length (encode_lower bytes)) (omega (arith, twice)), hex-tests is_lower_hex digit-is-lower bytes h, decode_of-encode_lower bytes h) refl
 
-pub frame-again : (bytes : List ℕ) → HasBytes 1 1048576 bytes → frame (encode_lower bytes) ≡ Ok bytes
+pub frame-again : (bytes : List ℕ) → HasBytes 1 frame_limit bytes → frame (encode_lower bytes) ≡ Ok bytes
 unfolding frame
-frame-again bytes h = rw (hex-again bytes h.0 h.2, le-yes (length bytes) 1048576 h.1) refl
+frame-again bytes h = rw (hex-again bytes h.0 h.2, le-yes (length bytes) frame_limit h.1) refl

@@ -7,6 +7,7 @@ use Rattle.std.specs.List.{list_all}
 use Rattle.hex.specs.Hex.{IsBytes, lower_digits, encode_lower, encode_with, decode_of, decode_pairs, pair_value, value_at, hex_digit_value, digit_or_error, ◌>>=◌}
 use Rattle.hex.specs.declared.error.FromHexError.{FromHexError}
 use Rattle.hex.proofs.HexLemmas.{decode_of-ok, decode_of-even}
+use Rattle.basil_types.specs.Limits.{frame_limit}
 use Rattle.schedule_text.specs.declared.complaint.Complaint.{Complaint}
 use Rattle.schedule_text.specs.declared.complaint.Complaint.TheVariants.{Misspelt, OutOfSize}
 use Rattle.schedule_text.specs.Words.{Word}
@@ -241,14 +242,14 @@ hex-takes w bytes h =
     decoded (Ok bs) e h = e ∙ ap (λ (z : List ℕ). Ok z) (ok-is bs bytes h)
     decoded (Err f) e h = cc h
 
-pub frame-takes : (w : Word) (bytes : List ℕ) → frame w ≡ Ok bytes → (encode_lower bytes ≡ w) × HasBytes 1 1048576 bytes
+pub frame-takes : (w : Word) (bytes : List ℕ) → frame w ≡ Ok bytes → (encode_lower bytes ≡ w) × HasBytes 1 frame_limit bytes
 unfolding frame
 frame-takes w bytes h = read (hex w) refl h
   where
-    read : (r : Result (List ℕ) Complaint) → hex w ≡ r → sized_frame r ≡ Ok bytes → (encode_lower bytes ≡ w) × HasBytes 1 1048576 bytes
+    read : (r : Result (List ℕ) Complaint) → hex w ≡ r → sized_frame r ≡ Ok bytes → (encode_lower bytes ≡ w) × HasBytes 1 frame_limit bytes
     read (Err c) e h = cc h
     read (Ok bs) e h =
-        let p = if-ok (nat_le (length bs) 1048576) (Ok bs) OutOfSize bytes h in
+        let p = if-ok (nat_le (length bs) frame_limit) (Ok bs) OutOfSize bytes h in
         let t = hex-takes w bytes (e ∙ p.1) in
         let s : bs ≡ bytes = ok-is bs bytes p.1 in
-        (t.0, (t.1, subst (λ (z : List ℕ). length z ≤ 1048576) s (le-of (length bs) 1048576 p.0), t.2))
+        (t.0, (t.1, subst (λ (z : List ℕ). length z ≤ frame_limit) s (le-of (length bs) frame_limit p.0), t.2))

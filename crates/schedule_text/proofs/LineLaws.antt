@@ -8,6 +8,7 @@ use Rattle.hex.specs.Hex.{encode_lower}
 use Rattle.schedule_text.specs.declared.line.Line.{Line}
 use Rattle.schedule_text.specs.declared.line.Line.TheVariants.{Header, Skipped, Faulty, Begin, Read, Write, Delete, Claim, Prepare, Settle, Recover, Invoke, Round, Deliver, Lose, Divert, Clock, Vote, Second, Logged, Elect, Decide, Raw, Show, Stop}
 use Rattle.schedule_text.specs.Words.{Word, words}
+use Rattle.schedule_text.specs.Limits.{longest_line, most_lines}
 use Rattle.schedule_text.specs.Reading.{said, line_value, line_at}
 use Rattle.schedule_text.specs.Spelling.{line_words, spelling, key_word, value_word, writer_word, party_words, decision_word}
 use Rattle.schedule_text.specs.Fitting.{Fits, SpellingIsRead}
@@ -65,10 +66,10 @@ value-again (Divert i p) h = cut-again (codes "divert") (decimal i ∷ party_wor
 value-again (Raw a b f) h = cut-again (codes "raw") (party_words a ++ party_words b ++ encode_lower f ∷ []) (Raw a b f) refl (clean-raw a b f h) (said-raw a b f h)
 value-again (Header s c k j) h = cut-again (codes "basil") (header_rest s c k j) (Header s c k j) refl (clean-header s c k j h) (said-header s c k j h)
 
-pub below-limit : (line : List ℕ) → length line ≤ 2200000 → nat_lt 2200000 (length line) ≡ false
+pub below-limit : (line : List ℕ) → length line ≤ longest_line → nat_lt longest_line (length line) ≡ false
 below-limit line h = grind (arith, common_steps)
 
 pub spelling-is-read : SpellingIsRead
 unfolding line_at
 spelling-is-read value number fits long late =
-    rw (below-limit (spelling value) long, value-again value fits, le-yes number 1000000 late) refl
+    rw (below-limit (spelling value) long, value-again value fits, le-yes number most_lines late) refl

@@ -17,8 +17,9 @@ use Rattle.schedule_text.specs.Lines.{line_of}
 use Rattle.schedule_text.specs.Spelling.{spelling, line_words}
 use Rattle.schedule_text.specs.declared.line.LineFault.{LineFault}
 use Rattle.schedule_text.specs.declared.line.LineFault.TheVariants.{BadLine}
-use Rattle.schedule_text.specs.Reading.{said, of_kind, line_value, line_at, answered, numbered}
-use Rattle.schedule_text.specs.Fitting.{Says, is_skipped, GrammarIsRead, OneValue}
+use Rattle.schedule_text.specs.Limits.{longest_line, most_lines}
+use Rattle.schedule_text.specs.Reading.{said, of_kind, is_skipped, line_value, line_at, answered, numbered}
+use Rattle.schedule_text.specs.Fitting.{Says, GrammarIsRead, OneValue}
 use Rattle.schedule_text.proofs.ResultTakes.{ok-is, some-is}
 use Rattle.schedule_text.proofs.FieldTakes.{text-is, le-of}
 use Rattle.schedule_text.proofs.FieldLaws.{le-yes}
@@ -158,31 +159,36 @@ says-value line v (inr s) = ap line_value (sym s.2) ∙ value-again v s.1
 line-fault-is : (a b : Line) → ◌≡◌ {A = Result Line LineFault} (Ok a) (Ok b) → a ≡ b
 line-fault-is a b h = cc
 
-answered-takes : (number : ℕ) (r : Result Line Complaint) (v : Line) → answered number (numbered number r) ≡ Ok v → (r ≡ Ok v) × (number ≤ 1000000)
+answered-takes : (number : ℕ) (r : Result Line Complaint) (v : Line) → answered number (numbered number r) ≡ Ok v
+    → (r ≡ Ok v) × (number ≤ most_lines)
 answered-takes number (Err c) v h = cc h
-answered-takes number (Ok x) v h = tested (nat_le number 1000000) refl h
+answered-takes number (Ok x) v h = tested (nat_le number most_lines) refl h
   where
-    tested : (q : Bool) → nat_le number 1000000 ≡ q → answered number (if q then Ok x else Err OutOfSize) ≡ Ok v → (◌≡◌ {A = Result Line Complaint} (Ok x) (Ok v)) × (number ≤ 1000000)
-    tested true i h = (ap (λ (z : Line). Ok z) (line-fault-is x v h), le-of number 1000000 i)
+    tested : (q : Bool) → nat_le number most_lines ≡ q → answered number (if q then Ok x else Err OutOfSize) ≡ Ok v
+        → (◌≡◌ {A = Result Line Complaint} (Ok x) (Ok v)) × (number ≤ most_lines)
+    tested true i h = (ap (λ (z : Line). Ok z) (line-fault-is x v h), le-of number most_lines i)
     tested false i h = cc h
 
-within-limit : (line : List ℕ) → nat_lt 2200000 (length line) ≡ false → length line ≤ 2200000
+within-limit : (line : List ℕ) → nat_lt longest_line (length line) ≡ false → length line ≤ longest_line
 within-limit line h = grind (arith, common_steps)
 
-read-says : (line : List ℕ) (number : ℕ) (v : Line) → line_at line number ≡ Ok v → Says line v × (length line ≤ 2200000) × (number ≤ 1000000)
+read-says : (line : List ℕ) (number : ℕ) (v : Line) → line_at line number ≡ Ok v
+    → Says line v × (length line ≤ longest_line) × (number ≤ most_lines)
 unfolding line_at
-read-says line number v h = tested (nat_lt 2200000 (length line)) refl h
+read-says line number v h = tested (nat_lt longest_line (length line)) refl h
   where
-    tested : (q : Bool) → nat_lt 2200000 (length line) ≡ q → (if q then Err (BadLine number 8) else answered number (numbered number (line_value line))) ≡ Ok v
-        → Says line v × (length line ≤ 2200000) × (number ≤ 1000000)
+    tested : (q : Bool) → nat_lt longest_line (length line) ≡ q
+        → (if q then Err (BadLine number 8) else answered number (numbered number (line_value line))) ≡ Ok v
+        → Says line v × (length line ≤ longest_line) × (number ≤ most_lines)
     tested true i h = cc h
     tested false i h =
         let a = answered-takes number (line_value line) v h in
         (value-says line v a.0, within-limit line i, a.1)
 
-says-read : (line : List ℕ) (number : ℕ) (v : Line) → Says line v → length line ≤ 2200000 → number ≤ 1000000 → line_at line number ≡ Ok v
+says-read : (line : List ℕ) (number : ℕ) (v : Line) → Says line v → length line ≤ longest_line → number ≤ most_lines
+    → line_at line number ≡ Ok v
 unfolding line_at
-says-read line number v s long late = rw (below-limit line long, says-value line v s, le-yes number 1000000 late) refl
+says-read line number v s long late = rw (below-limit line long, says-value line v s, le-yes number most_lines late) refl
 
 pub grammar-is-read : GrammarIsRead
 grammar-is-read line number v = (read-says line number v, λ h. says-read line number v h.0 h.1 h.2)

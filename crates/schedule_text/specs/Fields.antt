@@ -6,6 +6,7 @@ use Rattle.hex.specs.Hex.{decode_of}
 use Rattle.hex.specs.declared.error.FromHexError.{FromHexError}
 use Rattle.basil_types.specs.declared.party.Decision.{Decision}
 use Rattle.basil_types.specs.declared.party.Decision.TheVariants.{Commit, Abort}
+use Rattle.basil_types.specs.Limits.{frame_limit}
 use Rattle.schedule_text.specs.declared.line.KeysKind.{KeysKind}
 use Rattle.schedule_text.specs.declared.line.KeysKind.TheVariants.{Plain, W4H5, W4H10, W8H5, W8H10, Batch}
 use Rattle.schedule_text.specs.declared.complaint.Complaint.{Complaint}
@@ -152,10 +153,10 @@ unfoldable pub hex : Word → Result (List ℕ) Complaint
 hex word = if nat_lt 0 (length word) && list_all is_lower_hex word then spelt (decode_of word) else Err Misspelt
 
 abbrev pub sized_frame : Result (List ℕ) Complaint → Result (List ℕ) Complaint
-sized_frame (Ok bytes) = if nat_le (length bytes) 1048576 then Ok bytes else Err OutOfSize
+sized_frame (Ok bytes) = if nat_le (length bytes) frame_limit then Ok bytes else Err OutOfSize
 sized_frame (Err c) = Err c
 
--- the hex of a frame of at most 1,048,576 bytes
+-- the hex of a frame that isn't above its limit
 unfoldable pub frame : Word → Result (List ℕ) Complaint
 frame word = sized_frame (hex word)
 

@@ -1,13 +1,15 @@
 -- The values that lines have.
-use Rattle.std.specs.Prelude.{Bool, List, None, Ok, Option, Some, [], length, true, ℕ, ⊤, ◌<◌, ◌==◌, ◌^◌, ◌↔◌, ◌∷◌, ◌≡◌, ◌≢◌, ◌≤◌, ◌⊎◌}
+use Rattle.std.specs.Prelude.{List, None, Ok, Option, Some, length, true, ℕ, ⊤, ◌<◌, ◌^◌, ◌↔◌, ◌≡◌, ◌≢◌, ◌≤◌, ◌⊎◌}
 use Rattle.hex.specs.Hex.{IsBytes}
+use Rattle.basil_types.specs.Limits.{frame_limit}
 use Rattle.basil_types.specs.Setting.{IsSetting}
 use Rattle.basil_types.specs.declared.party.Party.{Party}
 use Rattle.basil_types.specs.declared.party.Party.TheVariants.{Replica, Client}
 use Rattle.schedule_text.specs.declared.line.Line.{Line}
 use Rattle.schedule_text.specs.declared.line.Line.TheVariants.{Header, Skipped, Faulty, Begin, Read, Write, Delete, Claim, Prepare, Settle, Recover, Invoke, Round, Deliver, Lose, Divert, Clock, Vote, Second, Logged, Elect, Decide, Raw, Show, Stop}
 use Rattle.schedule_text.specs.Fields.{is_name}
-use Rattle.schedule_text.specs.Reading.{line_at}
+use Rattle.schedule_text.specs.Limits.{longest_line, most_lines}
+use Rattle.schedule_text.specs.Reading.{is_skipped, line_at}
 use Rattle.schedule_text.specs.Spelling.{spelling}
 
 abbrev pub IsName : List ℕ → Type 0
@@ -59,15 +61,10 @@ Fits (Logged shard replica name decision decided current client) =
     IsPlace shard replica × IsName name × (decided ≤ current) × IsU64 current × IsClient client
 Fits (Elect shard replica name decision view) = IsPlace shard replica × IsName name × (1 ≤ view) × IsU64 view
 Fits (Decide shard replica name decision view to) = IsPlace shard replica × IsName name × (1 ≤ view) × IsU64 view × (to ≤ 30)
-Fits (Raw from to frame) = IsParty from × IsParty to × HasBytes 1 1048576 frame
-Fits (Show frame) = HasBytes 1 1048576 frame
+Fits (Raw from to frame) = IsParty from × IsParty to × HasBytes 1 frame_limit frame
+Fits (Show frame) = HasBytes 1 frame_limit frame
 Fits (Stop shard replica message write bytes) =
     IsPlace shard replica × IsU64 message × (1 ≤ write) × (write ≤ 2) × (1 ≤ length bytes) × IsBytes bytes
-
--- an empty line, or one that begins with `#`
-abbrev pub is_skipped : List ℕ → Bool
-is_skipped [] = true
-is_skipped (b ∷ line) = b == 35
 
 -- the grammar: a skipped line says Skipped, and any other value is said by its one spelling
 abbrev pub Says : List ℕ → Line → Type 0
@@ -77,7 +74,8 @@ Says line value =
 -- a line is read as a value exactly where it says it, isn't too long, and doesn't stand behind the millionth
 abbrev pub GrammarIsRead : Type 0
 GrammarIsRead =
-    (line : List ℕ) (number : ℕ) (value : Line) → (line_at line number ≡ Ok value) ↔ (Says line value × (length line ≤ 2200000) × (number ≤ 1000000))
+    (line : List ℕ) (number : ℕ) (value : Line) →
+    (line_at line number ≡ Ok value) ↔ (Says line value × (length line ≤ longest_line) × (number ≤ most_lines))
 
 -- a line says at most one value
 abbrev pub OneValue : Type 0
@@ -86,4 +84,5 @@ OneValue = (line : List ℕ) (a b : Line) → Says line a → Says line b → a 
 -- the spelling of a value that fits is read as that value, where it isn't too long and has a line's number
 abbrev pub SpellingIsRead : Type 0
 SpellingIsRead =
-    (value : Line) (number : ℕ) → Fits value → length (spelling value) ≤ 2200000 → number ≤ 1000000 → line_at (spelling value) number ≡ Ok value
+    (value : Line) (number : ℕ) → Fits value → length (spelling value) ≤ longest_line → number ≤ most_lines →
+    line_at (spelling value) number ≡ Ok value

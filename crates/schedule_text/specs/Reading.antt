@@ -1,5 +1,5 @@
 -- What a line of a schedule says, or the one reason why it says nothing.
-use Rattle.std.specs.Prelude.{ℕ, Bool, false, codes, bytes_eq, List, [], ◌∷◌, ◌==◌, length, nat_lt, nat_le, if◌then◌else◌, Option, Some, None, Result, Ok, Err}
+use Rattle.std.specs.Prelude.{ℕ, Bool, true, false, codes, bytes_eq, List, [], ◌∷◌, ◌==◌, length, nat_lt, nat_le, if◌then◌else◌, Option, Some, None, Result, Ok, Err}
 use Rattle.schedule_text.specs.declared.line.Line.{Line}
 use Rattle.schedule_text.specs.declared.line.Line.TheVariants.{Skipped}
 use Rattle.schedule_text.specs.declared.line.LineFault.{LineFault}
@@ -22,10 +22,14 @@ unfoldable pub said : List Word → Result Line Complaint
 said [] = Err Misspelt
 said (first ∷ rest) = of_kind (kind_of first) rest
 
--- an empty line and one that begins with `#` are skipped, whatever follows
+-- an empty line, or one that begins with `#`
+abbrev pub is_skipped : List ℕ → Bool
+is_skipped [] = true
+is_skipped (b ∷ rest) = b == 35
+
+-- a skipped line is so whatever follows
 unfoldable pub line_value : List ℕ → Result Line Complaint
-line_value [] = Ok Skipped
-line_value (b ∷ rest) = if b == 35 then Ok Skipped else said (words (b ∷ rest))
+line_value line = if is_skipped line then Ok Skipped else said (words line)
 
 -- no line stands behind the millionth
 abbrev pub numbered : ℕ → Result Line Complaint → Result Line Complaint

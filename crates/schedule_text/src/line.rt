@@ -22,7 +22,7 @@ pub enum KeysKind {
 }
 
 /// What one line of a schedule says. Names are a lower-case letter and up to 15 lower-case letters or digits, keys
-/// have 1 to 64 bytes, values up to 256 and frames up to 1,048,576. A shard is 0 to 7, a replica's index 0 to 30 and a
+/// have 1 to 64 bytes, values up to 256 and frames up to `FRAME_LIMIT`. A shard is 0 to 7, a replica's index 0 to 30 and a
 /// client 1 to 16: the widest ranges that any cluster gives.
 #[derive(Drop)]
 pub enum Line {

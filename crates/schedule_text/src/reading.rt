@@ -80,16 +80,25 @@ fn read_words(alloc: Global, line: &[u8]) -> Result<Result<Line, Complaint>, NoM
     }
 }
 
+/// Whether a line is empty or begins with `#`.
+pub fn is_skipped(line: &[u8]) -> bool
+    ensures { result ≡ Reading.is_skipped line.now }
+{
+    match line {
+        [] => true,
+        [first, ..] => *first == b'#',
+    }
+}
+
 #[tactic(auto, unfolding(crate::specs::Reading::line_value))]
 /// What a line says by itself, whatever its length and number.
 fn read_value(alloc: Global, line: &[u8]) -> Result<Result<Line, Complaint>, NoMemory>
     ensures { IfOk result (λ r. r ≡ line_value line.now) }
 {
-    match line {
-        [] => Ok(Ok(Line::Skipped)),
-        [b'#', ..] => Ok(Ok(Line::Skipped)),
-        _ => read_words(alloc, line),
+    if is_skipped(line) {
+        return Ok(Ok(Line::Skipped));
     }
+    read_words(alloc, line)
 }
 
 /// The value of a line with this number, unless it stands behind the millionth.

@@ -1,8 +1,8 @@
 //! Lines of each kind, the long ones and the numbers behind the last.
 
-use schedule_text::line::{Line, LineFault};
-use schedule_text::reading::read_line;
-use schedule_text::writing::write_line;
+use crate::lines::{spells, told};
+use schedule_text::line::Line;
+use std::test::Fail;
 
 /// Lines that are read, each the one spelling of its value.
 const TAKEN: [&str; 34] = [
@@ -98,62 +98,47 @@ const REFUSED: [(&str, u8); 40] = [
     ("stop 0 0 1 2 ", 2),
 ];
 
-fn reason_of(fault: LineFault) -> u8 {
-    match fault {
-        LineFault::BadLine { reason, .. } => reason,
-        LineFault::NoMemory => 0,
-    }
-}
-
 #[test]
 fn reads_and_writes(rt: HostRuntime) {
     for text in TAKEN {
-        let Ok(line) = read_line(rt.alloc(), text.as_bytes(), 1_000_000) else {
-            panic!(rt; "{text}");
-        };
-        let mut out = Vec::new(rt.alloc());
-        assert!(rt; write_line(&line, &mut out).is_ok());
-        assert!(rt; out.pop() == Some(b'\n'));
-        assert!(rt; out.as_slice() == text.as_bytes(), "{text}");
+        assert!(rt;
+            told(rt.alloc(), text.as_bytes(), 1_000_000) == Ok(true),
+            "{text}"
+        );
     }
+    assert!(rt; spells(rt.alloc(), &Line::Skipped, b""));
 }
 
 #[test]
 fn refuses(rt: HostRuntime) {
     for (text, reason) in REFUSED {
-        match read_line(rt.alloc(), text.as_bytes(), 2) {
-            Ok(_) => panic!(rt; "{text}"),
-            Err(fault) => assert_eq!(rt; reason_of(fault), reason, "{text}"),
-        }
+        assert!(rt;
+            told(rt.alloc(), text.as_bytes(), 2) == Err(reason),
+            "{text}"
+        );
+    }
+}
+
+/// Lines, their number, and what comes of them.
+const COUNTED: [(&[u8], u64, Result<bool, u8>); 4] = [
+    (b"#\xff\t anything", 1_000_000, Ok(true)),
+    (b"#", 1_000_001, Err(8)),
+    (b"", 1_000_001, Err(8)),
+    (b"Round", 1_000_001, Err(2)),
+];
+
+#[test]
+fn skips_and_counts(rt: HostRuntime) {
+    for (line, number, told_so) in COUNTED {
+        assert!(rt; told(rt.alloc(), line, number) == told_so);
     }
 }
 
 #[test]
-fn skips_and_counts(rt: HostRuntime) {
-    let skipped = read_line(rt.alloc(), b"#\xff\t anything", 1_000_000);
-    assert!(rt; matches!(&skipped, Ok(Line::Skipped)));
-    for (text, number, reason) in [
-        ("#", 1_000_001, 8),
-        ("", 1_000_001, 8),
-        ("Round", 1_000_001, 2),
-    ] {
-        match read_line(rt.alloc(), text.as_bytes(), number) {
-            Ok(_) => panic!(rt; "{text}"),
-            Err(fault) => assert_eq!(rt; reason_of(fault), reason, "{text}"),
-        }
-    }
-    let Ok(mut long) = vec![in rt.alloc(); b'#'; 2_200_000] else {
-        return;
-    };
-    assert!(rt; matches!(&read_line(rt.alloc(), &long, 1), Ok(Line::Skipped)));
-    assert!(rt; long.push(b'#').is_ok());
-    assert!(rt;
-        matches!(
-            &read_line(rt.alloc(), &long, 1),
-            Err(LineFault::BadLine {
-                number: 1,
-                reason: 8
-            })
-        )
-    );
+fn the_longest_line_is_skipped(rt: HostRuntime) -> Result<(), Fail> {
+    let mut long = vec![in rt.alloc(); b'#'; 2_200_000]?;
+    assert!(rt; told(rt.alloc(), &long, 1) == Ok(true));
+    long.push(b'#')?;
+    assert!(rt; told(rt.alloc(), &long, 1) == Err(8));
+    Ok(())
 }

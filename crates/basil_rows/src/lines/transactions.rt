@@ -1,7 +1,6 @@
 //! The lines that begin transactions and carry them on.
 
-use crate::lines::{Row, reason_of};
-use std::test::Fail;
+use crate::lines::{Row, are_told};
 
 const ROWS: &[Row] = &[
     Row {
@@ -127,9 +126,6 @@ const ROWS: &[Row] = &[
 ];
 
 #[test]
-fn each_line_is_read_or_refused(rt: HostRuntime) -> Result<(), Fail> {
-    for row in ROWS {
-        assert!(rt; reason_of(rt.alloc(), row.line) == row.reason);
-    }
-    Ok(())
+fn each_line_is_read_or_refused(rt: HostRuntime) {
+    assert!(rt; are_told(rt.alloc(), ROWS));
 }

@@ -1,11 +1,11 @@
 //! One line of each kind, whose fields all differ, against its values.
 
+use crate::lines::spells;
 use basil_types::bytes::Bytes;
 use basil_types::party::{Decision, Party};
 use schedule_text::line::{KeysKind, Line};
 use schedule_text::reading::read_line;
-use schedule_text::writing::write_line;
-use std::test::Fail;
+use std::alloc::Global;
 
 const TEXTS: &[&[u8]] = &[
     b"basil 1 f=1 shards=2 reads=3 delta=4 clock=5 keys=w8h5 journal",
@@ -143,16 +143,20 @@ fn has_views(line: &Line) -> bool {
     }
 }
 
-#[test]
-fn each_kind_is_read_as_its_values_and_written_again(rt: HostRuntime) -> Result<(), Fail> {
-    let alloc = rt.alloc();
-    for text in TEXTS {
-        let line = read_line(alloc, text, 1)?;
-        assert!(rt; has_numbers(&line) || has_names(&line) || has_views(&line));
-        let mut out = Vec::new(alloc);
-        write_line(&line, &mut out)?;
-        assert!(rt; out.pop() == Some(b'\n'));
-        assert!(rt; out.as_slice() == *text);
+/// Whether a line is read as its values, and written again.
+fn has_values(alloc: Global, text: &[u8]) -> bool {
+    match read_line(alloc, text, 1) {
+        Ok(line) => {
+            (has_numbers(&line) || has_names(&line) || has_views(&line))
+                && spells(alloc, &line, text)
+        }
+        Err(_) => false,
     }
-    Ok(())
+}
+
+#[test]
+fn each_kind_is_read_as_its_values_and_written_again(rt: HostRuntime) {
+    for text in TEXTS {
+        assert!(rt; has_values(rt.alloc(), text));
+    }
 }

@@ -7,12 +7,10 @@ ghost use Rattle.schedule_text.specs.Fields.{hex, frame, is_lower_hex};
 use crate::complaint::Complaint;
 use crate::fields::numbers::is_digit;
 use basil_types::bytes::Bytes;
+use basil_types::limits::FRAME_LIMIT;
 use basil_types::memory::NoMemory;
 use hex::FromHexError;
 use std::alloc::Global;
-
-/// The most bytes of a frame.
-const LONGEST_FRAME: usize = 1_048_576;
 
 /// Whether this is a lower-case hex digit.
 fn is_lower_hex(byte: u8) -> bool
@@ -49,13 +47,13 @@ pub fn read_hex(alloc: Global, word: &[u8]) -> Result<Result<Bytes, Complaint>, 
 }
 
 #[tactic(auto, unfolding(crate::specs::Fields::frame))]
-/// The hex of a frame of at most 1,048,576 bytes.
+/// The hex of a frame of at most `FRAME_LIMIT` bytes.
 pub fn read_frame(alloc: Global, word: &[u8]) -> Result<Result<Bytes, Complaint>, NoMemory>
     ensures { IfOk result (λ r. r ≡ frame word.now) }
 {
     match read_hex(alloc, word)? {
         Ok(bytes) => {
-            if bytes.as_slice().len() > LONGEST_FRAME {
+            if bytes.as_slice().len() > FRAME_LIMIT {
                 Ok(Err(Complaint::OutOfSize))
             } else {
                 Ok(Ok(bytes))

@@ -1,0 +1,5 @@
+pub mod Taken
+pub mod Counting
+pub mod Certifying
+pub mod Pursuits
+pub mod Faults

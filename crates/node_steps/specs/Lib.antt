@@ -1,0 +1,5 @@
+pub mod Pens
+pub mod Envelopes
+pub mod Refusing
+pub mod Lists
+pub mod Limits

@@ -1,0 +1,9 @@
+pub mod Dependencies
+pub mod Bases
+pub mod Reads
+pub mod Runs
+pub mod Invariants
+pub mod Serving
+pub mod Committed
+pub mod Laws
+pub mod Examples
