@@ -2,6 +2,7 @@ pub mod WordsLaws
 pub mod Taking
 pub mod Fields
 pub mod ListLaws
+pub mod KeyLaws
 pub mod PartLaws
 pub mod TransactionLaws
 pub mod PlacedLaws

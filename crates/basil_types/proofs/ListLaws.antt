@@ -1,5 +1,5 @@
 -- Lists of items: what is read was spelled so, and what is spelled so is read; and how a loop reads one.
-use Rattle.std.proofs.Common.{◌≡◌, ℕ, zero, suc, ◌+◌, ◌-◌, ◌≤◌, ◌<◌, true, false, List, [], ◌∷◌, ◌++◌, length, take, Some, Result, Ok, Err, refl, sym, ap, subst, ◌∙◌, append_assoc, arith}
+use Rattle.std.proofs.Common.{◌≡◌, ℕ, Bool, zero, suc, ◌+◌, ◌-◌, ◌≤◌, ◌<◌, true, false, List, [], ◌∷◌, ◌++◌, length, take, Some, Result, Ok, Err, refl, sym, ap, subst, ◌∙◌, append_assoc, arith}
 use Rattle.std.specs.Prelude.{slice_get}
 use Rattle.std.specs.List.{flat_map}
 use Rattle.std.proofs.lemmas.List.{append-nil, length-append, take_at, nil_from_length}
@@ -215,76 +215,62 @@ module _ {F V : Type 0} (one : F → List ℕ → Result (V × List ℕ) Fault) 
   unfolding items_at
   none_left k floor rest e = rw e refl
 
-  pub steps : (k : ℕ) (floor : F) (rest : List ℕ) (v : V) (after : List ℕ) → (k ≡ 0 → ⊥) → one floor rest ≡ Ok (v, after) → is_whole
-      (items_at one next k floor rest) ≡ true
-      → (is_whole (items_at one next (k - 1) (next v) after) ≡ true) ×
+  -- what is asked of a list, whole or begun, is told by the rest of it and never by a fault
+  steps_by : (asked : Result (List V × List ℕ) Fault → Bool) → ((v : V) (x : List V × List ℕ) → asked (Ok (v ∷ x.0, x.1)) ≡ asked (Ok x))
+      → ((f : Fault) → asked (Err f) ≡ false) → (k : ℕ) (floor : F) (rest : List ℕ) (v : V) (after : List ℕ) → (k ≡ 0 → ⊥)
+      → one floor rest ≡ Ok (v, after) → asked (items_at one next k floor rest) ≡ true
+      → (asked (items_at one next (k - 1) (next v) after) ≡ true) ×
       (list_of (items_at one next k floor rest) ≡ v ∷ list_of (items_at one next (k - 1) (next v) after))
   unfolding items_at
-  steps zero floor rest v after some h whole = absurd (some refl)
-  steps (suc k) floor rest v after some h whole =
+  steps_by asked front fault zero floor rest v after some h is = absurd (some refl)
+  steps_by asked front fault (suc k) floor rest v after some h is =
       let e : suc k - 1 ≡ k = omega arith in
       let P : ℕ → Type 0 =
-      λ j. (is_whole (items_at one next j (next v) after) ≡ true) ×
+      λ j. (asked (items_at one next j (next v) after) ≡ true) ×
       (list_of (items_at one next (suc k) floor rest) ≡ v ∷ list_of (items_at one next j (next v) after)) in
       subst P (sym e) (by (items_at one next k (next v) after) refl)
     where
       by : (r : Result (List V × List ℕ) Fault) → items_at one next k (next v) after ≡ r
-          → (is_whole (items_at one next k (next v) after) ≡ true) ×
+          → (asked (items_at one next k (next v) after) ≡ true) ×
           (list_of (items_at one next (suc k) floor rest) ≡ v ∷ list_of (items_at one next k (next v) after))
       by (Ok o) was =
           let all : Result (List V × List ℕ) Fault = Ok (v ∷ o.0, o.1) in
           let total : items_at one next (suc k) floor rest ≡ all = rw (h, was) refl in
-          let w : is_whole all ≡ true = ap is_whole (sym total) ∙ whole in
+          let w : asked (Ok o) ≡ true = sym (front v o) ∙ ap asked (sym total) ∙ is in
           (rw was w, rw (total, was) refl)
       by (Err f) was =
           let none : Result (List V × List ℕ) Fault = Err f in
           let total : items_at one next (suc k) floor rest ≡ none = rw (h, was) refl in
-          let bad : is_whole (items_at one next (suc k) floor rest) ≡ false = ap is_whole total in
+          let bad : false ≡ true = sym (fault f) ∙ ap asked (sym total) ∙ is in
           absurd cc
 
-  pub never_fails : (k : ℕ) (floor : F) (rest : List ℕ) (f : Fault) → (k ≡ 0 → ⊥) → one floor rest ≡ Err f → is_whole
-      (items_at one next k floor rest) ≡ true → ⊥
+  fails_by : (asked : Result (List V × List ℕ) Fault → Bool) → ((f : Fault) → asked (Err f) ≡ false) → (k : ℕ) (floor : F) (rest : List ℕ)
+      (f : Fault) → (k ≡ 0 → ⊥) → one floor rest ≡ Err f → asked (items_at one next k floor rest) ≡ true → ⊥
   unfolding items_at
-  never_fails zero floor rest f some h whole = some refl
-  never_fails (suc k) floor rest f some h whole =
+  fails_by asked fault zero floor rest f some h is = some refl
+  fails_by asked fault (suc k) floor rest f some h is =
       let none : Result (List V × List ℕ) Fault = Err f in
       let total : items_at one next (suc k) floor rest ≡ none = rw h refl in
-      let bad : is_whole (items_at one next (suc k) floor rest) ≡ false = ap is_whole total in
+      let bad : false ≡ true = sym (fault f) ∙ ap asked (sym total) ∙ is in
       absurd cc
+
+  pub steps : (k : ℕ) (floor : F) (rest : List ℕ) (v : V) (after : List ℕ) → (k ≡ 0 → ⊥) → one floor rest ≡ Ok (v, after)
+      → is_whole (items_at one next k floor rest) ≡ true
+      → (is_whole (items_at one next (k - 1) (next v) after) ≡ true) ×
+      (list_of (items_at one next k floor rest) ≡ v ∷ list_of (items_at one next (k - 1) (next v) after))
+  steps = steps_by is_whole (λ v x. refl) (λ f. refl)
+
+  pub never_fails : (k : ℕ) (floor : F) (rest : List ℕ) (f : Fault) → (k ≡ 0 → ⊥) → one floor rest ≡ Err f
+      → is_whole (items_at one next k floor rest) ≡ true → ⊥
+  never_fails = fails_by is_whole (λ f. refl)
 
   -- the same of a list with something behind it
-  pub steps_on : (k : ℕ) (floor : F) (rest : List ℕ) (v : V) (after : List ℕ) → (k ≡ 0 → ⊥) → one floor rest ≡ Ok (v, after) → is_read
-      (items_at one next k floor rest) ≡ true
+  pub steps_on : (k : ℕ) (floor : F) (rest : List ℕ) (v : V) (after : List ℕ) → (k ≡ 0 → ⊥) → one floor rest ≡ Ok (v, after)
+      → is_read (items_at one next k floor rest) ≡ true
       → (is_read (items_at one next (k - 1) (next v) after) ≡ true) ×
       (list_of (items_at one next k floor rest) ≡ v ∷ list_of (items_at one next (k - 1) (next v) after))
-  unfolding items_at
-  steps_on zero floor rest v after some h begun = absurd (some refl)
-  steps_on (suc k) floor rest v after some h begun =
-      let e : suc k - 1 ≡ k = omega arith in
-      let P : ℕ → Type 0 =
-      λ j. (is_read (items_at one next j (next v) after) ≡ true) ×
-      (list_of (items_at one next (suc k) floor rest) ≡ v ∷ list_of (items_at one next j (next v) after)) in
-      subst P (sym e) (by (items_at one next k (next v) after) refl)
-    where
-      by : (r : Result (List V × List ℕ) Fault) → items_at one next k (next v) after ≡ r
-          → (is_read (items_at one next k (next v) after) ≡ true) ×
-          (list_of (items_at one next (suc k) floor rest) ≡ v ∷ list_of (items_at one next k (next v) after))
-      by (Ok o) was =
-          let all : Result (List V × List ℕ) Fault = Ok (v ∷ o.0, o.1) in
-          let total : items_at one next (suc k) floor rest ≡ all = rw (h, was) refl in
-          (rw was refl, rw (total, was) refl)
-      by (Err f) was =
-          let none : Result (List V × List ℕ) Fault = Err f in
-          let total : items_at one next (suc k) floor rest ≡ none = rw (h, was) refl in
-          let bad : is_read (items_at one next (suc k) floor rest) ≡ false = ap is_read total in
-          absurd cc
+  steps_on = steps_by is_read (λ v x. refl) (λ f. refl)
 
-  pub goes_wrong : (k : ℕ) (floor : F) (rest : List ℕ) (f : Fault) → (k ≡ 0 → ⊥) → one floor rest ≡ Err f → is_read
-      (items_at one next k floor rest) ≡ true → ⊥
-  unfolding items_at
-  goes_wrong zero floor rest f some h begun = some refl
-  goes_wrong (suc k) floor rest f some h begun =
-      let none : Result (List V × List ℕ) Fault = Err f in
-      let total : items_at one next (suc k) floor rest ≡ none = rw h refl in
-      let bad : is_read (items_at one next (suc k) floor rest) ≡ false = ap is_read total in
-      absurd cc
+  pub goes_wrong : (k : ℕ) (floor : F) (rest : List ℕ) (f : Fault) → (k ≡ 0 → ⊥) → one floor rest ≡ Err f
+      → is_read (items_at one next k floor rest) ≡ true → ⊥
+  goes_wrong = fails_by is_read (λ f. refl)

@@ -1,6 +1,6 @@
 -- The order of versions.
-use Rattle.std.proofs.Common.{◌≡◌, ◌⊎◌, inl, inr, Bool, true, false, List, ℕ, zero, suc, ◌≤◌, refl, ap, sym, ◌∙◌, arith}
-use Rattle.std.specs.Prelude.{replicate, ◌↔◌, ◌&&◌, ◌==◌}
+use Rattle.std.proofs.Common.{◌≡◌, ◌⊎◌, inl, inr, Bool, true, false, List, ℕ, zero, suc, ◌≤◌, refl, ap, sym, subst, ◌∙◌, arith}
+use Rattle.std.specs.Prelude.{replicate, ◌&&◌, ◌==◌}
 use Rattle.std.specs.declared.cmp.Ordering.{Ordering}
 use Rattle.std.specs.declared.cmp.Ordering.TheVariants.{Less, Equal, Greater}
 use Rattle.std.specs.Ordering.{nat_cmp, ordering_then, is_eq, is_lt, ordering_reverse}
@@ -112,6 +112,17 @@ same_exactly a b = (to, from)
         (and_from _ _ (eq-eqb a.time b.time (ap (λ (v : Version). v.time) e))
         (eq-eqb a.client b.client (ap (λ (v : Version). v.client) e)))
         ((bytes_eq-Decides a.id b.id).1 (ap (λ (v : Version). v.id) e))
+
+-- the order finds the same versions
+pub tied_is_same : (a b : Version) → is_eq (version_cmp a b) ≡ same_version a b
+tied_is_same a b = by (is_eq (version_cmp a b)) (same_version a b) refl refl
+  where
+    by : (x y : Bool) → is_eq (version_cmp a b) ≡ x → same_version a b ≡ y → x ≡ y
+    by true true p q = refl
+    by false false p q = refl
+    by true false p q = absurd (let h = sym q ∙ (same_exactly a b).1 (version_tells a b p) in cc)
+    by false true p q =
+        absurd (let h = sym p ∙ subst (λ v. is_eq (version_cmp a v) ≡ true) ((same_exactly a b).0 q) (ap is_eq (tied_itself version_total a)) in cc)
 
 less_first : (o p : Ordering) → Less ≡ o → is_lt (ordering_then o p) ≡ true
 less_first o p e = ap (λ r. is_lt (ordering_then r p)) (sym e)

@@ -1,12 +1,12 @@
 -- Each field of signed words is read back from their bytes.
-use Rattle.std.proofs.Common.{◌≡◌, ℕ, ◌+◌, ◌^◌, ◌<◌, ◌≤◌, List, [], ◌∷◌, ◌++◌, length, refl, sym, ap, ◌∙◌, append_assoc, arith, get_or}
+use Rattle.std.proofs.Common.{◌≡◌, ℕ, ◌^◌, ◌<◌, List, [], ◌∷◌, ◌++◌, length, refl, sym, ap, ◌∙◌, append_assoc, arith, get_or}
 use Rattle.std.specs.Int.{to_be_bytes, from_be_bytes, w64}
 use Rattle.std.proofs.lemmas.Nat.{from_be_bytes-to_be_bytes_8}
 use Rattle.basil_types.specs.declared.party.Decision.{Decision}
 use Rattle.basil_types.specs.declared.party.Decision.TheVariants.{Commit, Abort}
 use Rattle.basil_types.specs.declared.version.Version.{Version}
-use Rattle.basil_types.specs.Transaction.{short_text, version_bytes}
-use Rattle.basil_types.specs.Words.{SignedWords, TransactionWords, VoteWords, ReadReplyWords, LogReplyWords, ElectionWords, ProposalWords, VoteOf, ReadReplyOf, LogReplyOf, ViewOf, words_of, view_bytes, decision_byte, AreWords, FitsVersion, FitsReply, FitsLog, FitsView, WordsTellFields}
+use Rattle.basil_types.specs.Transaction.{version_bytes}
+use Rattle.basil_types.specs.Words.{TransactionWords, VoteWords, ReadReplyWords, LogReplyWords, ElectionWords, ProposalWords, VoteOf, ReadReplyOf, LogReplyOf, ViewOf, words_of, view_bytes, decision_byte, FitsVersion, FitsReply, FitsLog, FitsView, WordsTellFields}
 
 same_head : (a b : ℕ) (x y : List ℕ) → a ∷ x ≡ b ∷ y → a ≡ b
 same_head a b x y e = ap (λ l. get_or l 0 0) e

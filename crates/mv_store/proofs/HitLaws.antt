@@ -1,5 +1,5 @@
 -- What searches tell together, and the walk over slots.
-use Rattle.std.proofs.Common.{◌≡◌, ℕ, Bool, true, false, cond, List, [], ◌∷◌, Option, Some, None, map, refl, sym, ap, ◌∙◌, arith}
+use Rattle.std.proofs.Common.{◌≡◌, ℕ, Bool, true, false, List, [], ◌∷◌, Option, Some, None, refl, sym, ap, ◌∙◌, arith}
 use Rattle.std.specs.Prelude.{min, ◌||◌}
 use Rattle.std.specs.List.{reduce, list_any, filter_map, cons_option, fold}
 use Rattle.mv_store.specs.declared.hits.Hits.{Hits}

@@ -8,10 +8,11 @@ use Rattle.mv_store.specs.declared.index.Entered.{Entered}
 use Rattle.mv_store.specs.declared.index.Reader.{Reader}
 use Rattle.mv_store.specs.declared.index.KeyIndex.{KeyIndex}
 use Rattle.mv_store.specs.declared.keys.Keys.{Keys}
-use Rattle.mv_store.specs.Slots.{slot_at, told_at, slot_after, same_version}
+use Rattle.basil_types.specs.Version.{same_version}
+use Rattle.mv_store.specs.Slots.{slot_at, told_at, slot_after}
 use Rattle.mv_store.specs.Keys.{index_of, HasKey, writer_slot, reader_slot, noted_of, writer_at, reader_at, OnlyRoom, PutsWriter, PutsReader, Notes}
 use Rattle.mv_store.specs.Noted.{greatest}
-use Rattle.mv_store.proofs.KeyLaws.{bytes_tell, lookup-set_value, lookup-push}
+use Rattle.basil_types.proofs.KeyLaws.{bytes_tell, lookup-set_value, lookup-push}
 
 -- the index of this key is w, and each other key has the one that it had
 pub record Indexes (old new : Keys) (key : List ℕ) (w : KeyIndex) : Type 0 where

@@ -1,6 +1,5 @@
 pub mod VersionLaws
 pub mod Backwards
-pub mod KeyLaws
 pub mod IndexLaws
 pub mod Searches
 pub mod RoomLaws

@@ -11,7 +11,7 @@ use Rattle.mv_store.specs.Noted.{comes_before}
 use Rattle.mv_store.specs.Held.{Held, NotedRead}
 use Rattle.mv_store.specs.Changes.{Tells}
 use Rattle.mv_store.specs.Store.{Stands, HasRoom, HaveSame}
-use Rattle.mv_store.proofs.KeyLaws.{bytes_same}
+use Rattle.basil_types.proofs.KeyLaws.{bytes_same}
 use Rattle.mv_store.proofs.Searches.{any_same, any_from}
 
 pub stands_by_elements : (store : Store) (held others : List Held) (noted other_reads : List NotedRead) → Stands store held noted

@@ -3,7 +3,7 @@ use Rattle.std.proofs.Common.{◌≡◌, ℕ, zero, suc, inl, inr, Bool, true, f
 use Rattle.std.specs.Prelude.{◌||◌, ◌&&◌, IsSome, is_some, option_map, Contains, slice_get}
 use Rattle.std.specs.List.{list_any}
 use Rattle.std.specs.Str.{bytes_eq}
-use Rattle.std.specs.Ordering.{is_eq, is_lt}
+use Rattle.std.specs.Ordering.{is_lt}
 use Rattle.std.specs.Cmp.Lexicographic.{nat_list_cmp_total}
 use Rattle.std.specs.declared.cmp.Ordering.{Ordering}
 use Rattle.std.specs.declared.cmp.Ordering.TheVariants.{Less, Equal, Greater}
@@ -15,15 +15,15 @@ use Rattle.basil_types.specs.declared.transaction.parts.ReadPart.{ReadPart}
 use Rattle.basil_types.specs.Lists.{AreItems}
 use Rattle.basil_types.specs.Texts.{key_below}
 use Rattle.basil_types.specs.Transaction.{FitsRead, key_of_read}
-use Rattle.mv_store.specs.Slots.{same_version}
+use Rattle.basil_types.specs.Version.{same_version}
 use Rattle.mv_store.specs.Changes.{Puts}
-use Rattle.mv_store.proofs.KeyLaws.{bytes_tell, bytes_same}
-use Rattle.basil_types.proofs.VersionLaws.{version_total}
+use Rattle.basil_types.proofs.KeyLaws.{bytes_tell, bytes_same}
+use Rattle.basil_types.proofs.VersionLaws.{same_exactly}
 use Rattle.mv_store.proofs.VersionLaws.{and_parts}
 use Rattle.mv_store.proofs.Searches.{Contains-nil, Contains-head, Contains-tail, Contains-cons, any_to}
 
 pub version_same : (v : Version) → same_version v v ≡ true
-version_same v = ap is_eq (tied_itself version_total v)
+version_same v = (same_exactly v v).1 refl
 
 pub both : (a b : Bool) → a ≡ true → b ≡ true → (a && b) ≡ true
 both true true p q = refl

@@ -26,7 +26,7 @@ use Rattle.mv_store.specs.Keys.{index_of, writer_at, reader_at}
 use Rattle.mv_store.specs.Held as held
 use Rattle.mv_store.specs.Held.{Held, NotedRead, version, latest, hits, is_committed, is_prepared, reads_key_below}
 use Rattle.mv_store.specs.Store.{Stands, entry, read_entry}
-use Rattle.mv_store.proofs.KeyLaws.{bytes_tell, bytes_same}
+use Rattle.basil_types.proofs.KeyLaws.{bytes_tell, bytes_same}
 use Rattle.basil_types.proofs.VersionLaws.{version_total, version_exact, same_from_neither}
 use Rattle.mv_store.proofs.VersionLaws.{and_parts, is_in_between, is_before, is_above}
 use Rattle.mv_store.proofs.PutLaws.{both}

@@ -12,14 +12,14 @@ use Rattle.basil_types.specs.Transaction.{writes_key}
 use Rattle.mv_store.specs.declared.index.Entered.{Entered}
 use Rattle.mv_store.specs.declared.index.Reader.{Reader}
 use Rattle.mv_store.specs.declared.store.Store.{Store}
-use Rattle.mv_store.specs.Slots.{same_version}
+use Rattle.basil_types.specs.Version.{same_version}
 use Rattle.mv_store.specs.Keys.{writer_at, reader_at}
 use Rattle.mv_store.specs.Noted.{is_above}
 use Rattle.mv_store.specs.Held.{Held, NotedRead, version, removed, entered, NoOther}
 use Rattle.mv_store.specs.Changes.{Tells, reader_of}
 use Rattle.mv_store.specs.Store.{Stands, IsWriter, IsReader, entry, read_entry}
-use Rattle.mv_store.proofs.KeyLaws.{bytes_tell, bytes_same}
-use Rattle.basil_types.proofs.VersionLaws.{version_tells}
+use Rattle.basil_types.proofs.KeyLaws.{bytes_tell, bytes_same}
+use Rattle.basil_types.proofs.VersionLaws.{same_exactly}
 use Rattle.mv_store.proofs.VersionLaws.{and_parts}
 use Rattle.mv_store.proofs.PutLaws.{both}
 use Rattle.mv_store.proofs.Searches.{any_from, any_to, filter_from, filter_to}
@@ -87,7 +87,7 @@ module _ (old new : Store) (t : TransactionValue) (told : Option Entered) (tells
             → ((writes_key t key ≡ true) × (version_of t ≡ v) × (told ≡ Some e)) ⊎ IsWriter (removed held t) key v e
         by true q =
             let parts = and_parts (writes_key t key) (same_version (version_of t) v) q in
-            let at = version_tells (version_of t) v parts.1 in
+            let at = (same_exactly (version_of t) v).0 parts.1 in
             inl (parts.0, at, sym (writer_here key parts.0) ∙ ap (writer_at new.keys key) at ∙ is)
         by false q =
             let w = s.writers key v e (sym (ap (λ s. unwrap_or s None) (tells.writers.others key v q)) ∙ is) in
@@ -95,7 +95,7 @@ module _ (old new : Store) (t : TransactionValue) (told : Option Entered) (tells
           where
             apart : (w : IsWriter held key v e) (c : Bool) → same_version (version_of t) (version w.by) ≡ c → c ≡ false
             apart w true r =
-                let same = alone w.by w.among (sym (version_tells (version_of t) (version w.by) r)) in
+                let same = alone w.by w.among (sym ((same_exactly (version_of t) (version w.by)).0 r)) in
                 let writes = ap (λ u. writes_key u key) (sym same) ∙ w.writes in
                 let at = ap (same_version (version_of t)) (sym w.at) ∙ r in
                 let impossible : true ≡ false = sym (both _ _ writes at) ∙ q in absurd cc
@@ -111,7 +111,7 @@ module _ (old new : Store) (t : TransactionValue) (told : Option Entered) (tells
             × (option_map (reader_of r) told ≡ Some e)) ⊎ IsReader (removed held t) key v e
         by true q =
             let parts = and_parts (list_any (λ (r : ReadPart). bytes_eq r.key key) t.reads) (same_version (version_of t) v) q in
-            let at = version_tells (version_of t) v parts.1 in
+            let at = (same_exactly (version_of t) v).0 parts.1 in
             let f = any_to (λ (r : ReadPart). bytes_eq r.key key) t.reads parts.0 in
             let of_key = bytes_tell _ key f.passes in
             inl (
@@ -128,7 +128,7 @@ module _ (old new : Store) (t : TransactionValue) (told : Option Entered) (tells
           where
             apart : (w : IsReader held key v e) (c : Bool) → same_version (version_of t) (version w.by) ≡ c → c ≡ false
             apart w true r =
-                let same = alone w.by w.among (sym (version_tells (version_of t) (version w.by) r)) in
+                let same = alone w.by w.among (sym ((same_exactly (version_of t) (version w.by)).0 r)) in
                 let reads = subst (λ (u : TransactionValue). Contains u.reads w.read) same w.reads in
                 let any = any_from (λ (x : ReadPart). bytes_eq x.key key) t.reads w.read reads (ap (λ k. bytes_eq k key) w.of_key
                 ∙ bytes_same key) in

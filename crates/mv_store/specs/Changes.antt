@@ -9,7 +9,7 @@ use Rattle.basil_types.specs.Transaction.{TransactionValue, version_of, key_of_r
 use Rattle.mv_store.specs.declared.index.Entered.{Entered}
 use Rattle.mv_store.specs.declared.index.Reader.{Reader}
 use Rattle.mv_store.specs.declared.keys.Keys.{Keys}
-use Rattle.mv_store.specs.Slots.{same_version}
+use Rattle.basil_types.specs.Version.{same_version}
 use Rattle.mv_store.specs.Keys.{HasKey, writer_slot, reader_slot, noted_of}
 
 -- the slots of one version at the keys of these items become these, and all others stay

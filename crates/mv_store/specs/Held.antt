@@ -3,11 +3,9 @@ use Rattle.std.specs.Prelude.{◌≡◌, ℕ, Bool, not, List, [], ◌∷◌, �
 use Rattle.std.specs.List.{list_any, reduce}
 use Rattle.std.specs.Str.{bytes_eq}
 use Rattle.basil_types.specs.declared.version.Version.{Version}
-use Rattle.basil_types.specs.Version.{below}
+use Rattle.basil_types.specs.Version.{below, is_between, same_version}
 use Rattle.basil_types.specs.Transaction.{TransactionValue, version_of, writes_key}
-use Rattle.basil_types.specs.Version.{is_between}
 use Rattle.mv_store.specs.declared.hits.Hits.{Hits}
-use Rattle.mv_store.specs.Slots.{same_version}
 use Rattle.mv_store.specs.Noted.{comes_before, greatest}
 
 -- an entered transaction, at its place in order of arrival

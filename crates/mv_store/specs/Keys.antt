@@ -8,7 +8,8 @@ use Rattle.mv_store.specs.declared.index.Reader.{Reader}
 use Rattle.mv_store.specs.declared.index.KeyIndex.{KeyIndex}
 use Rattle.mv_store.specs.declared.keys.Keys.{Keys}
 use Rattle.mv_store.specs.Noted.{greatest}
-use Rattle.mv_store.specs.Slots.{slot_at, same_version}
+use Rattle.basil_types.specs.Version.{same_version}
+use Rattle.mv_store.specs.Slots.{slot_at}
 
 -- the index of the key with these bytes
 abbrev pub index_of : Keys → List ℕ → Option KeyIndex

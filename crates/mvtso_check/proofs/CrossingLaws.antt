@@ -14,7 +14,6 @@ use Rattle.txn_meta.specs.Places.{shard_of}
 use Rattle.txn_table.specs.declared.released.Home.{Home}
 use Rattle.mv_store.specs.Held.{reads_key_below}
 use Rattle.mvtso_check.specs.Crossings.{is_write_under, writes_under}
-use Rattle.mvtso_check.specs.Verdict.{is_own}
 
 both : (a b : Bool) → (a ≡ true → b ≡ true) → (b ≡ true → a ≡ true) → a ≡ b
 both true b f g = sym (f refl)

@@ -1,33 +1,31 @@
 -- Which transactions of a table are held, after a change of one entry.
-use Rattle.std.proofs.Common.{◌≡◌, ℕ, zero, suc, ◌+◌, Bool, true, false, cond, List, [], ◌∷◌, ◌++◌, Option, Some, None, refl, sym, ap, subst, ◌∙◌, ◌⊎◌, inl, inr, arith}
+use Rattle.std.proofs.Common.{◌≡◌, ℕ, zero, suc, ◌+◌, Bool, true, false, cond, List, [], ◌∷◌, ◌++◌, Some, refl, sym, ap, subst, ◌∙◌, ◌⊎◌, inl, inr, arith}
 use Rattle.std.specs.Prelude.{slice_get, slice_set, not, Contains, ⊤}
 use Rattle.std.specs.List.{IsDistinct, AllByRecursion}
-use Rattle.std.specs.Ordering.{is_eq}
 use Rattle.std.specs.Str.{bytes_eq}
 use Rattle.std.proofs.lemmas.Bool.{cases_Bool}
-use Rattle.std.proofs.lemmas.Cmp.{tied_itself}
 use Rattle.std.proofs.lemmas.List.Elements.{Contains-append_left, Contains-append_right, Contains-append_cases}
 use Rattle.std.proofs.lemmas.Map.Keys.{IsDistinct-head, IsDistinct-tail}
 use Rattle.std.proofs.lemmas.Slice.Eq.{bytes_eq-Decides}
 use Rattle.basil_types.specs.declared.version.Version.{Version}
 use Rattle.basil_types.specs.Transaction.{TransactionValue, id, version_of}
 use Rattle.basil_types.proofs.MemberLaws.{in_none, in_cases}
-use Rattle.basil_types.proofs.VersionLaws.{version_total, version_tells}
+use Rattle.basil_types.proofs.VersionLaws.{same_exactly}
 use Rattle.mv_store.specs.Held.{Held, version, removed, NoOther}
-use Rattle.mv_store.specs.Slots.{same_version}
+use Rattle.basil_types.specs.Version.{same_version}
 use Rattle.mv_store.specs.Store.{HaveSame}
-use Rattle.mvtso_check.specs.Book.{stands, has_committed, held_at, held_from}
+use Rattle.mvtso_check.specs.Book.{stands, held_at, held_from}
 use Rattle.txn_table.specs.Entries.{EntryValue, arrived}
 use Rattle.txn_table.specs.Tables.{id_of, ids_of}
 
 -- ---- versions
 
 same_itself : (v : Version) → same_version v v ≡ true
-same_itself v = ap is_eq (tied_itself version_total v)
+same_itself v = (same_exactly v v).1 refl
 
 apart_versions : (t u : TransactionValue) → (id u ≡ id t → ⊥) → same_version (version_of t) (version_of u) ≡ false
 apart_versions t u n = elim (cases_Bool (same_version (version_of t) (version_of u))) [
-  | inl i ↦ absurd (n (sym (ap (λ (v : Version). v.id) (version_tells (version_of t) (version_of u) i))))
+  | inl i ↦ absurd (n (sym (ap (λ (v : Version). v.id) ((same_exactly (version_of t) (version_of u)).0 i))))
   | inr i ↦ i
 ]
 

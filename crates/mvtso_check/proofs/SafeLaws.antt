@@ -1,13 +1,11 @@
 -- What a verdict that isn't an abort has tested.
-use Rattle.std.proofs.Common.{◌≡◌, ◌⊎◌, inl, inr, ℕ, Bool, true, false, cond, List, Option, Some, None, refl, sym, ap, ◌∙◌, subst}
+use Rattle.std.proofs.Common.{◌≡◌, ◌⊎◌, inl, inr, ℕ, Bool, true, false, cond, List, Option, Some, None, refl, sym, ◌∙◌}
 use Rattle.std.specs.Prelude.{◌||◌, ◌&&◌, not, is_none, slice_get, Contains}
 use Rattle.std.specs.List.{list_any}
 use Rattle.std.specs.Option.{option_and_then, option_map_or}
-use Rattle.std.proofs.lemmas.Bool.{and_from}
 use Rattle.basil_types.specs.declared.party.Decision.{Decision}
 use Rattle.basil_types.specs.declared.party.Decision.TheVariants as decisions
 use Rattle.basil_types.specs.declared.transaction.parts.ReadPart.{ReadPart}
-use Rattle.basil_types.specs.declared.version.Version.{Version}
 use Rattle.basil_types.specs.Transaction.{TransactionValue, version_of, writes_key}
 use Rattle.basil_types.specs.Version.{same_version}
 use Rattle.basil_types.proofs.MemberLaws.{hit_from}

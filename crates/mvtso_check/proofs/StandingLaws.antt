@@ -1,5 +1,5 @@
 -- What a store stands for after a change of one entry.
-use Rattle.std.proofs.Common.{◌≡◌, ℕ, ◌+◌, Bool, true, false, List, [], ◌∷◌, ◌++◌, Option, Some, None, refl, sym, ap, subst, ◌∙◌, arith}
+use Rattle.std.proofs.Common.{◌≡◌, ℕ, ◌+◌, Bool, true, false, List, [], ◌∷◌, ◌++◌, Option, None, refl, sym, ap, subst, ◌∙◌, arith}
 use Rattle.std.specs.Prelude.{slice_set, is_none, ◌&&◌, ◌||◌}
 use Rattle.basil_types.specs.declared.party.Party.{Party}
 use Rattle.basil_types.specs.declared.party.Decision.{Decision}
@@ -11,11 +11,11 @@ use Rattle.txn_table.specs.Released.{is_committed}
 use Rattle.txn_table.specs.Tables.{changed}
 use Rattle.txn_table.proofs.IdLaws.{changed_some}
 use Rattle.mv_store.specs.declared.store.Store.{Store}
-use Rattle.mv_store.specs.Held.{Held, NotedRead, entered, removed, NoOther}
+use Rattle.mv_store.specs.Held.{Held, entered, removed}
 use Rattle.mv_store.specs.Store.{Stands, HaveSame, Enters, TakesOut}
 use Rattle.mv_store.proofs.MemberLaws.{stands_by_elements}
 use Rattle.mvtso_check.specs.Book.{stands, has_committed, held_at, held_in, waits_or_commits}
-use Rattle.mvtso_check.specs.Standing.{StandsFor, StandsAfter, IsEntry, IsOpen, HeldOnes, StoresFollow}
+use Rattle.mvtso_check.specs.Standing.{StandsAfter, IsEntry, IsOpen, HeldOnes, StoresFollow}
 use Rattle.mvtso_check.proofs.HeldLaws.{taken_out, put_in, stays_in, arrives_out, no_other, held_apart, same_itself_all}
 
 -- ---- which ones stand

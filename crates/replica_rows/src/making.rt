@@ -4,6 +4,7 @@ ghost use Rattle.std.specs.Prelude.{◌≡◌, ◌<◌, None, IsTrue, length, fa
 ghost use Rattle.txn_table.specs.Tables.{is_voted_at, decision_at};
 
 use basil_types::bytes::{Bytes, id_of};
+use basil_types::cluster::Cluster;
 use basil_types::party::{Decision, Party};
 use basil_types::transaction::Transaction;
 use basil_types::transaction::parts::{ReadPart, WritePart};
@@ -119,4 +120,19 @@ pub(crate) fn end(
     }
     table.set_outcome(place, outcome, Vec::new(alloc));
     Ok(())
+}
+
+/// The votes that an outcome at a place releases; fails where the place isn't held, or has an outcome.
+pub(crate) fn released(
+    table: &Table,
+    shards: u8,
+    shard: u8,
+    place: u32,
+    outcome: Decision,
+) -> Result<Vec<(u32, Decision)>, Fail> {
+    let cluster = Cluster::new(0, shards, 1, 100)?;
+    if place >= table.len() || !is_open(table, place) {
+        return Err(Fail::new("not held, or ended"));
+    }
+    Ok(table.released(place, outcome, &cluster, shard)?)
 }

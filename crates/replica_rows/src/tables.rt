@@ -1,6 +1,5 @@
-use crate::making::{Read, arrive, ask, end, is_open, transaction, vote};
+use crate::making::{Read, arrive, ask, end, released, transaction, vote};
 use basil_types::bytes::id_of;
-use basil_types::cluster::Cluster;
 use basil_types::party::{Decision, Party};
 use basil_types::transaction::Transaction;
 use basil_types::version::Version;
@@ -159,21 +158,6 @@ fn readers(alloc: Global) -> Result<Table, Fail> {
     }
     end(alloc, &mut table, 5, ABORT)?;
     Ok(table)
-}
-
-// The votes that an outcome at a place releases; fails where the place isn't held, or has an outcome.
-fn released(
-    table: &Table,
-    shards: u8,
-    shard: u8,
-    place: u32,
-    outcome: Decision,
-) -> Result<Vec<(u32, Decision)>, Fail> {
-    let cluster = Cluster::new(0, shards, 1, 100)?;
-    if place >= table.len() || !is_open(table, place) {
-        return Err(Fail::new("not held, or ended"));
-    }
-    Ok(table.released(place, outcome, &cluster, shard)?)
 }
 
 // Of two shards b is of 0 and c of 1.

@@ -1,5 +1,5 @@
 -- Ids and places, through each change.
-use Rattle.std.proofs.Common.{◌≡◌, ℕ, zero, suc, ◌+◌, ◌<◌, Bool, true, false, cond, List, [], ◌∷◌, ◌++◌, length, get_or, map, Option, Some, None, refl, sym, ap, ◌∙◌, arith}
+use Rattle.std.proofs.Common.{◌≡◌, ℕ, zero, suc, ◌+◌, Bool, true, false, cond, List, [], ◌∷◌, ◌++◌, length, Option, Some, None, refl, sym, ap, ◌∙◌, arith}
 use Rattle.std.specs.Prelude.{option_map, position, slice_get, slice_set}
 use Rattle.std.specs.List.{IsDistinct}
 use Rattle.std.specs.Option.{option_map_or, option_and_then}
@@ -12,7 +12,7 @@ use Rattle.basil_types.proofs.Walks.{position-cons}
 use Rattle.txn_table.specs.Entries.{EntryValue, arrived}
 use Rattle.txn_table.specs.Laws.{KeepsTransactions, IdsTellPlaces}
 use Rattle.txn_table.specs.Tables.{id_of, ids_of, place_of, entry_with, changed}
-use Rattle.txn_table.proofs.Places.{absent, one_place, entry_placed, last_placed}
+use Rattle.txn_table.proofs.Places.{absent, one_place, entry_placed}
 
 -- an entry stands at the place of its id
 placed : (es : List EntryValue) (place : ℕ) (e : EntryValue) → IsDistinct bytes_eq (ids_of es) → slice_get es place ≡ Some e

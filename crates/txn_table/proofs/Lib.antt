@@ -7,5 +7,4 @@ pub mod Reading
 pub mod IdLaws
 pub mod StoredLaws
 pub mod ReleasedLaws
-pub mod KeyLaws
 pub mod Listing

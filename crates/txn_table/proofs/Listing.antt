@@ -17,10 +17,10 @@ use Rattle.txn_table.specs.declared.waiters.Waiters.{Waiters}
 use Rattle.txn_table.specs.declared.released.Home.{Home}
 use Rattle.txn_table.specs.declared.released.Supposed.{Supposed}
 use Rattle.txn_table.specs.Entries.{EntryValue, is_waiting}
-use Rattle.txn_table.specs.Released.{released, released_among, released_vote, placed_vote, is_dependency, dependencies, depends, some_aborted, all_committed, is_place, place_read, outcome_at, vote_after}
+use Rattle.txn_table.specs.Released.{released, released_among, released_vote, placed_vote, is_dependency, dependencies, depends, some_aborted, all_committed, is_place, outcome_at, vote_after}
 use Rattle.txn_table.specs.Tables.{id_of, place_of}
 use Rattle.txn_table.specs.Waiters.{reads_on, waits_on, places_from, places_on, ends_with, with_place, listed, SamePlaces, Adds, AreListed}
-use Rattle.txn_table.proofs.KeyLaws.{lookup-set_value}
+use Rattle.basil_types.proofs.KeyLaws.{lookup-set_value}
 use Rattle.txn_table.proofs.Places.{entry_placed}
 
 -- ---- one more entry

@@ -1,5 +1,5 @@
 -- The places of released votes ascend, and each entry there can be released.
-use Rattle.std.proofs.Common.{◌≡◌, ℕ, zero, suc, ◌+◌, ◌≤◌, Bool, true, false, cond, List, [], ◌∷◌, Option, Some, None, refl, sym, ap, subst, ◌∙◌, arith}
+use Rattle.std.proofs.Common.{◌≡◌, ℕ, suc, ◌+◌, ◌≤◌, Bool, true, false, cond, List, [], ◌∷◌, Option, Some, None, refl, sym, ap, ◌∙◌, arith}
 use Rattle.std.specs.Prelude.{option_map, slice_get, filter_map, is_none, ◌&&◌, ◌==◌}
 use Rattle.std.specs.List.{enumerate_from, cons_option}
 use Rattle.std.specs.Option.{option_and_then}
@@ -8,7 +8,7 @@ use Rattle.basil_types.specs.declared.party.Decision.{Decision}
 use Rattle.txn_table.specs.declared.released.Home.{Home}
 use Rattle.txn_table.specs.declared.released.Supposed.{Supposed}
 use Rattle.txn_table.specs.Entries.{EntryValue, is_waiting, decision_of}
-use Rattle.txn_table.specs.Laws.{CanBeReleased, Ascend, ReleasedAscend}
+use Rattle.txn_table.specs.Laws.{CanBeReleased, Ascend}
 use Rattle.txn_table.specs.Released.{released, released_vote, vote_after, dependencies, outcome_at}
 use Rattle.txn_table.specs.Tables.{decision_at}
 

@@ -1,12 +1,10 @@
 -- What is stored passes its test, through each change.
-use Rattle.std.proofs.Common.{◌≡◌, ℕ, zero, suc, Bool, true, false, List, [], ◌∷◌, ◌++◌, Option, Some, None, refl, sym, ap, ◌∙◌}
+use Rattle.std.proofs.Common.{◌≡◌, ℕ, zero, suc, Bool, true, List, [], ◌∷◌, ◌++◌, Option, Some, None, refl, sym, ap, ◌∙◌}
 use Rattle.std.specs.Prelude.{slice_get, slice_set, ◌&&◌}
-use Rattle.std.specs.List.{list_all}
 use Rattle.std.proofs.lemmas.Bool.{and_parts, and_from}
 use Rattle.basil_types.specs.declared.party.Party.{Party}
-use Rattle.basil_types.specs.declared.party.Decision.{Decision}
 use Rattle.basil_types.specs.Transaction.{TransactionValue}
-use Rattle.txn_table.specs.Entries.{VoteValue, Unvoted, Waiting, Voted, OutcomeValue, EntryValue, arrived, asked, asked_vote, voted, decided}
+use Rattle.txn_table.specs.Entries.{VoteValue, Unvoted, Waiting, Voted, EntryValue, arrived, asked, asked_vote, voted, decided}
 use Rattle.txn_table.specs.Laws.{StoredStays}
 use Rattle.txn_table.specs.Stored.{is_vote_stored, is_outcome_stored, is_stored, are_stored}
 use Rattle.txn_table.specs.Tables.{changed}

@@ -1,4 +1,4 @@
-use Rattle.std.proofs.Common.{◌≡◌, ℕ, List, sym, ap, ◌∙◌, cond}
+use Rattle.std.proofs.Common.{ℕ, List, sym, ap, ◌∙◌, cond}
 use Rattle.std.specs.List.{list_any}
 use Rattle.basil_types.specs.Shown.{reads_left, read_of}
 use Rattle.txn_table.specs.Waiters.{listed, with_place, reads_on}

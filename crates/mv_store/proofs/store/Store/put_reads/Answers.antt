@@ -4,7 +4,7 @@ use Rattle.std.specs.Str.{bytes_eq}
 use Rattle.std.proofs.lemmas.List.Elements.{All-contains}
 use Rattle.basil_types.specs.Shown.{transaction_of, read_of}
 use Rattle.basil_types.specs.Transaction.{key_of_read}
-use Rattle.mv_store.specs.Slots.{same_version}
+use Rattle.basil_types.specs.Version.{same_version}
 use Rattle.mv_store.specs.Keys.{reader_slot}
 use Rattle.mv_store.specs.Changes.{Puts, PutsReads, slot_of_read, reader_of}
 use Rattle.mv_store.proofs.Searches.{take_more, take_all}

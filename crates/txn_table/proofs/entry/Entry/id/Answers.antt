@@ -1,4 +1,4 @@
-use Rattle.std.proofs.Common.{◌≡◌, ap, ◌∙◌}
+use Rattle.std.proofs.Common.{ap, ◌∙◌}
 use Rattle.basil_types.specs.Id.{id_of}
 use Rattle.basil_types.specs.Transaction as transactions
 use Rattle.basil_types.specs.Transaction.{TransactionValue}

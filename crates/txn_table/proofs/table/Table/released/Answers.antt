@@ -1,12 +1,10 @@
-use Rattle.std.proofs.Common.{◌≡◌, ℕ, List, sym, ap, subst, ◌∙◌}
+use Rattle.std.proofs.Common.{◌≡◌, ℕ, List, ap, subst, ◌∙◌}
 use Rattle.std.specs.Prelude.{IfOk, IfSome}
-use Rattle.std.specs.Global.{Vec}
 use Rattle.basil_types.specs.declared.party.Decision.{Decision}
 use Rattle.txn_table.specs.declared.released.Home.{Home}
 use Rattle.txn_table.specs.declared.released.Supposed.{Supposed}
 use Rattle.txn_table.specs.Released.{released_among}
 use Rattle.txn_table.specs.Shown.{entry_of}
-use Rattle.txn_table.specs.Tables.{id_of}
 use Rattle.txn_table.specs.Waiters.{places_on}
 use Rattle.txn_table.proofs.Listing.{among}
 use Rattle.txn_table.proofs.table.Table.released.Goals as goal

@@ -1,4 +1,4 @@
-use Rattle.std.proofs.Common.{◌≡◌, ℕ, Option, sym, ap, ◌∙◌}
+use Rattle.std.proofs.Common.{ℕ, Option, sym, ap, ◌∙◌}
 use Rattle.std.specs.Global.{Vec}
 use Rattle.basil_types.specs.declared.party.Decision.{Decision}
 use Rattle.txn_table.specs.Released.{placed_vote}

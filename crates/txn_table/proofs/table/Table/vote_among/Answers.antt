@@ -1,4 +1,4 @@
-use Rattle.std.proofs.Common.{◌≡◌, ℕ, Option, sym, ap, ◌∙◌, option_map}
+use Rattle.std.proofs.Common.{ℕ, Option, sym, ap, ◌∙◌, option_map}
 use Rattle.std.specs.Option.{option_and_then}
 use Rattle.basil_types.specs.declared.party.Decision.{Decision}
 use Rattle.txn_table.specs.Released.{placed_vote}

@@ -1,4 +1,4 @@
-use Rattle.std.proofs.Common.{◌≡◌, sym, ap}
+use Rattle.std.proofs.Common.{sym, ap}
 use Rattle.std.specs.Option.{option_and_then}
 use Rattle.txn_table.specs.Released.{released_vote}
 use Rattle.txn_table.proofs.Reading.{past}

@@ -1,0 +1,47 @@
+//! A long chain of dependencies: each outcome releases the next vote alone, and looks at no other entry.
+
+use crate::making::{arrive, ask, end, released, transaction};
+use basil_types::party::{Decision, Party};
+use basil_types::version::Version;
+use std::alloc::Global;
+use std::test::Fail;
+use txn_meta::form::version_of;
+use txn_table::table::Table;
+
+/// How many transactions stand in the chain. A look at every entry at each outcome would take hours.
+const COUNT: u32 = 400_000;
+
+const COMMIT: Decision = Decision::Commit;
+
+// Takes a writer of b that depends on this version of b, and has somebody wait for it; answers its own version.
+fn follow(alloc: Global, table: &mut Table, time: u64, before: Version) -> Result<Version, Fail> {
+    let t = transaction(alloc, time, 2, &[(b"b", before, true)], &[b"b"])?;
+    arrive(alloc, table, &t)?;
+    ask(table, &t, Party::Client { number: 1 })?;
+    Ok(version_of(t.view()))
+}
+
+// So many transactions, each of which but the first depends on the one before it and waits.
+fn fill(alloc: Global, table: &mut Table, count: u32) -> Result<(), Fail> {
+    let first = transaction(alloc, 1, 2, &[], &[b"b"])?;
+    arrive(alloc, table, &first)?;
+    let mut last = version_of(first.view());
+    for place in 1..count {
+        last = follow(alloc, table, u64::from(place) + 1, last)?;
+    }
+    Ok(())
+}
+
+#[test]
+fn each_of_400_000_outcomes_releases_the_next_vote(rt: HostRuntime) -> Result<(), Fail> {
+    let alloc = rt.alloc();
+    let mut table = Table::new(alloc);
+    fill(alloc, &mut table, COUNT)?;
+    for next in 1..COUNT {
+        let votes = released(&table, 1, 0, next - 1, COMMIT)?;
+        assert!(rt; votes.as_slice() == [(next, COMMIT)].as_slice());
+        end(alloc, &mut table, next - 1, COMMIT)?;
+    }
+    assert!(rt; released(&table, 1, 0, COUNT - 1, COMMIT)?.is_empty());
+    Ok(())
+}
