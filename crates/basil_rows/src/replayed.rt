@@ -440,7 +440,7 @@ fn each_call_ends_with_its_status_and_text(rt: HostRuntime) -> Result<(), Fail> 
     Ok(())
 }
 
-const CODES: [(Status, u8); 8] = [
+const CODES: &[(Status, u8)] = &[
     (Status::Done, 0),
     (Status::BadWords, 2),
     (Status::BadInput { line: 5, reason: 9 }, 3),
@@ -453,7 +453,7 @@ const CODES: [(Status, u8); 8] = [
 
 #[test]
 fn each_status_has_its_number(rt: HostRuntime) {
-    for (status, code) in &CODES {
+    for (status, code) in CODES {
         assert!(rt; status.code() == *code);
     }
 }

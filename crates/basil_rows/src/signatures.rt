@@ -180,7 +180,7 @@ fn verified(alloc: Global, place: usize, digits: &str) -> Result<Answer, Fail> {
     Ok(answer(alloc, &words, &message)?)
 }
 
-const CHANGED: [(usize, &str, Status, &[u8]); 3] = [
+const CHANGED: &[(usize, &str, Status, &[u8])] = &[
     // the leaf stays 31
     (0, "0000001f", Status::Done, b"accepted\n"),
     // leaf 32
@@ -191,7 +191,7 @@ const CHANGED: [(usize, &str, Status, &[u8]); 3] = [
 
 #[test]
 fn changed_signatures_are_refused(rt: HostRuntime) -> Result<(), Fail> {
-    for (place, digits, status, text) in &CHANGED {
+    for (place, digits, status, text) in CHANGED {
         assert!(rt; is_answer(&verified(rt.alloc(), *place, digits)?, *status, text));
     }
     Ok(())
@@ -270,7 +270,7 @@ fn an_input_may_be_too_long(rt: HostRuntime) -> Result<(), Fail> {
 }
 
 /// Words, the reads and writes that fail, and how the call ends.
-const FAULTS: [(&[&str], &[u64], &[u64], Status); 3] = [
+const FAULTS: &[(&[&str], &[u64], &[u64], Status)] = &[
     (&["verify", PUBLIC, SIGNATURE], &[1], &[], Status::ReadFault),
     // `keys` reads nothing
     (&["keys", "w4h5", SEED, IDENT], &[1], &[], Status::Done),
@@ -284,7 +284,7 @@ const FAULTS: [(&[&str], &[u64], &[u64], Status); 3] = [
 
 #[test]
 fn faults_are_told(rt: HostRuntime) -> Result<(), Fail> {
-    for (words, failing_reads, failing_writes, status) in &FAULTS {
+    for (words, failing_reads, failing_writes, status) in FAULTS {
         let given = run_words(rt.alloc(), words, b"", failing_reads, failing_writes)?;
         assert!(rt; given.status == *status);
     }

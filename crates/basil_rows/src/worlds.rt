@@ -120,7 +120,7 @@ struct Waits {
     count: usize,
 }
 
-const WAITS: [Waits; 5] = [
+const WAITS: &[Waits] = &[
     Waits {
         events: 2,
         first: None,
@@ -162,7 +162,7 @@ fn waits_so(alloc: Global, events: &[Event<'_>], case: &Waits) -> Result<bool, F
 fn messages_wait_until_they_are_delivered(rt: HostRuntime) -> Result<(), Fail> {
     let alloc = rt.alloc();
     let events = one_write(10);
-    for case in &WAITS {
+    for case in WAITS {
         assert!(rt; waits_so(alloc, &events, case)?);
     }
     Ok(())

@@ -6,7 +6,7 @@ use basil_types::cluster::Cluster;
 use std::test::Fail;
 
 /// The writeback's transaction, and the rival inside of its certificate: where each begins and ends.
-const TRANSACTIONS: [(usize, usize); 2] = [(1, 19), (88, 144)];
+const TRANSACTIONS: &[(usize, usize)] = &[(1, 19), (88, 144)];
 
 /// Where the certificate of each begins. Both end with the frame.
 const CERTIFICATES: [usize; 2] = [19, 144];

@@ -9,9 +9,9 @@ use frame_views::frames::{MessageView, check};
 use std::alloc::Global;
 use std::test::Fail;
 
-const ID: [u8; 32] = [7; 32];
+const COMMIT: Decision = Decision::Commit;
 
-const OTHER_ID: [u8; 32] = [8; 32];
+const ABORT: Decision = Decision::Abort;
 
 /// A word whose signature is the replica's index.
 fn word(alloc: Global, replica: u8, decision: Decision) -> Result<ElectWord, NoMemory> {
@@ -33,33 +33,22 @@ fn is_by(proposal: &Proposal, decision: Decision, replicas: &[u8]) -> bool {
         })
 }
 
-/// A word for a view of a transaction, and what is proposed with it: a decision, by the words of these replicas.
-type Step = (
-    [u8; 32],
-    u64,
-    u8,
-    Decision,
-    Option<(Decision, &'static [u8])>,
-);
+/// The byte of which a transaction's id is made, a view of it, a replica's word, and what is proposed with it: a decision,
+/// by the words of these replicas.
+type Step = (u8, u64, u8, Decision, Option<(Decision, &'static [u8])>);
 
 /// The fifth word makes a proposal; a second word of a replica and one after the fifth change nothing, and views and ids
 /// stand apart.
-const STEPS: [Step; 9] = [
-    (ID, 1, 5, Decision::Commit, None),
-    (ID, 1, 0, Decision::Abort, None),
-    (ID, 1, 4, Decision::Commit, None),
-    (ID, 1, 1, Decision::Abort, None),
-    (ID, 1, 0, Decision::Commit, None),
-    (ID, 2, 2, Decision::Commit, None),
-    (OTHER_ID, 1, 2, Decision::Commit, None),
-    (
-        ID,
-        1,
-        2,
-        Decision::Commit,
-        Some((Decision::Commit, &[0, 1, 2, 4, 5])),
-    ),
-    (ID, 1, 3, Decision::Commit, None),
+const STEPS: &[Step] = &[
+    (7, 1, 5, COMMIT, None),
+    (7, 1, 0, ABORT, None),
+    (7, 1, 4, COMMIT, None),
+    (7, 1, 1, ABORT, None),
+    (7, 1, 0, COMMIT, None),
+    (7, 2, 2, COMMIT, None),
+    (8, 1, 2, COMMIT, None),
+    (7, 1, 2, COMMIT, Some((COMMIT, &[0, 1, 2, 4, 5]))),
+    (7, 1, 3, COMMIT, None),
 ];
 
 /// Whether the collector answers as a step says.
@@ -70,7 +59,7 @@ fn is_answered(
     step: &Step,
 ) -> Result<bool, NoMemory> {
     let (id, view, replica, named, proposed) = *step;
-    let given = collector.collect(&id, view, word(alloc, replica, named)?, cluster)?;
+    let given = collector.collect(&[id; 32], view, word(alloc, replica, named)?, cluster)?;
     Ok(match (given, proposed) {
         (Some(proposal), Some((decision, replicas))) => is_by(&proposal, decision, replicas),
         (None, None) => true,
@@ -82,7 +71,7 @@ fn is_answered(
 fn the_fifth_word_makes_a_proposal(rt: HostRuntime) -> Result<(), Fail> {
     let cluster = Cluster::new(1, 1, 2, 100)?;
     let mut collector = Collector::new(rt.alloc());
-    for step in &STEPS {
+    for step in STEPS {
         assert!(rt; is_answered(&mut collector, rt.alloc(), &cluster, step)?);
     }
     Ok(())
@@ -93,14 +82,14 @@ fn an_undone_word_is_gone_once(rt: HostRuntime) -> Result<(), Fail> {
     let alloc = rt.alloc();
     let cluster = Cluster::new(1, 1, 2, 100)?;
     let mut collector = Collector::new(alloc);
-    for step in &STEPS[..8] {
+    for step in STEPS.iter().take(8) {
         assert!(rt; is_answered(&mut collector, alloc, &cluster, step)?);
     }
     collector.undo();
     collector.undo();
-    let again = collector.collect(&ID, 1, word(alloc, 3, Decision::Abort)?, &cluster)?;
+    let again = collector.collect(&[7; 32], 1, word(alloc, 3, ABORT)?, &cluster)?;
     let proposal = again.ok_or("no proposal")?;
-    assert!(rt; is_by(&proposal, Decision::Abort, &[0, 1, 3, 4, 5]));
+    assert!(rt; is_by(&proposal, ABORT, &[0, 1, 3, 4, 5]));
     Ok(())
 }
 
@@ -133,7 +122,7 @@ fn named(frame: &[u8], cluster: &Cluster) -> Option<(u8, u8, bool)> {
 }
 
 /// A decision (0 commit, 1 abort), the words, how many name it, and whether they elect it.
-const DECIDES: [(u8, u8, &[[u8; 2]], u8, bool); 6] = [
+const DECIDES: &[(u8, u8, &[[u8; 2]], u8, bool)] = &[
     (0, 5, &[[0, 0], [1, 0], [2, 0], [3, 1], [4, 1]], 3, true),
     (1, 5, &[[0, 0], [1, 0], [2, 0], [3, 1], [4, 1]], 2, false),
     (1, 5, &[[0, 1], [2, 1], [3, 1], [4, 1], [5, 1]], 5, true),
@@ -151,7 +140,7 @@ const DECIDES: [(u8, u8, &[[u8; 2]], u8, bool); 6] = [
 #[test]
 fn the_words_of_a_decide_are_counted(rt: HostRuntime) -> Result<(), Fail> {
     let cluster = Cluster::new(1, 1, 2, 100)?;
-    for (decision, count, words, agreeing, elects) in DECIDES {
+    for &(decision, count, words, agreeing, elects) in DECIDES {
         let frame = decide(rt.alloc(), decision, count, words)?;
         let found = named(frame.as_slice(), &cluster);
         assert!(rt;

@@ -83,7 +83,7 @@ struct Reader {
 
 /// The readers behind two writers, of times 1 and 2, at the places 0 and 1. That of time 7 is aborted. A writer of time 3
 /// isn't held.
-const READERS: [Reader; 6] = [
+const READERS: &[Reader] = &[
     Reader {
         time: 4,
         dependency: true,
@@ -153,46 +153,49 @@ fn readers(alloc: Global) -> Result<Table, Fail> {
         let t = writer(alloc, time)?;
         arrive(alloc, &mut table, &t)?;
     }
-    for row in &READERS {
+    for row in READERS {
         take(alloc, &mut table, row)?;
     }
     end(alloc, &mut table, 5, ABORT)?;
     Ok(table)
 }
 
-// Of two shards b is of 0 and c of 1.
+/// Shards, a shard, a place, an outcome, and the votes that it releases. Of two shards b is of 0 and c of 1.
+const RELEASED: &[(u8, u8, u32, Decision, &[(u32, Decision)])] = &[
+    (1, 0, 0, COMMIT, &[(3, COMMIT)]),
+    (1, 0, 0, ABORT, &[(2, ABORT), (3, ABORT), (6, ABORT)]),
+    (1, 0, 1, COMMIT, &[]),
+    (1, 0, 1, ABORT, &[(2, ABORT)]),
+    (1, 0, 3, COMMIT, &[]),
+    (2, 0, 0, COMMIT, &[(2, COMMIT), (3, COMMIT), (6, COMMIT)]),
+    (2, 0, 0, ABORT, &[(2, ABORT), (3, ABORT), (6, ABORT)]),
+    (2, 0, 1, ABORT, &[]),
+    (2, 1, 0, ABORT, &[]),
+    (2, 1, 1, COMMIT, &[(2, COMMIT)]),
+];
+
 #[test]
 fn an_outcome_releases_these_votes(rt: HostRuntime) -> Result<(), Fail> {
     let alloc = rt.alloc();
     let table = readers(alloc)?;
-    let rows: [(u8, u8, u32, Decision, &[(u32, Decision)]); 10] = [
-        (1, 0, 0, COMMIT, &[(3, COMMIT)]),
-        (1, 0, 0, ABORT, &[(2, ABORT), (3, ABORT), (6, ABORT)]),
-        (1, 0, 1, COMMIT, &[]),
-        (1, 0, 1, ABORT, &[(2, ABORT)]),
-        (1, 0, 3, COMMIT, &[]),
-        (2, 0, 0, COMMIT, &[(2, COMMIT), (3, COMMIT), (6, COMMIT)]),
-        (2, 0, 0, ABORT, &[(2, ABORT), (3, ABORT), (6, ABORT)]),
-        (2, 0, 1, ABORT, &[]),
-        (2, 1, 0, ABORT, &[]),
-        (2, 1, 1, COMMIT, &[(2, COMMIT)]),
-    ];
-    for (shards, shard, place, outcome, votes) in rows {
+    for &(shards, shard, place, outcome, votes) in RELEASED {
         assert!(rt; released(&table, shards, shard, place, outcome)?.as_slice() == votes);
     }
     Ok(())
 }
 
+/// The outcomes of both writers, and the votes that the second releases.
+const AFTER: &[(Decision, Decision, &[(u32, Decision)])] = &[
+    (COMMIT, COMMIT, &[(2, COMMIT)]),
+    (COMMIT, ABORT, &[(2, ABORT)]),
+    (ABORT, COMMIT, &[(2, ABORT)]),
+    (ABORT, ABORT, &[(2, ABORT)]),
+];
+
 #[test]
 fn an_outcome_counts_with_those_before_it(rt: HostRuntime) -> Result<(), Fail> {
     let alloc = rt.alloc();
-    let rows: [(Decision, Decision, &[(u32, Decision)]); 4] = [
-        (COMMIT, COMMIT, &[(2, COMMIT)]),
-        (COMMIT, ABORT, &[(2, ABORT)]),
-        (ABORT, COMMIT, &[(2, ABORT)]),
-        (ABORT, ABORT, &[(2, ABORT)]),
-    ];
-    for (before, outcome, votes) in rows {
+    for &(before, outcome, votes) in AFTER {
         let mut table = readers(alloc)?;
         end(alloc, &mut table, 0, before)?;
         assert!(rt; released(&table, 1, 0, 1, outcome)?.as_slice() == votes);

@@ -21,7 +21,7 @@ fn class_of(f: u8, commits: u8, aborts: u8, proof: bool) -> Result<Class, Fail> 
 }
 
 /// Faulty replicas, commits, aborts, whether the aborts have a proof, and what this amounts to.
-const CLASSES: [(u8, u8, u8, bool, Class); 17] = [
+const CLASSES: &[(u8, u8, u8, bool, Class)] = &[
     (1, 6, 0, false, Class::FastCommit),
     (1, 4, 2, false, Class::Both),
     (1, 4, 0, false, Class::CommitTally),
@@ -43,7 +43,7 @@ const CLASSES: [(u8, u8, u8, bool, Class); 17] = [
 
 #[test]
 fn classes_are_told_apart(rt: HostRuntime) -> Result<(), Fail> {
-    for (f, commits, aborts, proof, class) in CLASSES {
+    for &(f, commits, aborts, proof, class) in CLASSES {
         assert!(rt;
             class_of(f, commits, aborts, proof)? == class,
             "f {f}, {commits} commits, {aborts} aborts"

@@ -142,7 +142,7 @@ const GENESIS: Asks = Asks::Reads {
 };
 
 /// Times, keys, what is done with them, and the verdicts, of a replica at moment 50 with a delta of 100.
-const VERDICTS: [(u64, u8, Asks, Verdict); 10] = [
+const VERDICTS: &[(u64, u8, Asks, Verdict)] = &[
     (151, b'd', Asks::Writes, Verdict::Abort),
     (150, b'd', Asks::Writes, Verdict::Commit),
     (50, b'a', GENESIS, Verdict::AbortBy { place: 0 }),
@@ -193,7 +193,7 @@ fn verdicts_follow_the_rules(rt: HostRuntime) -> Result<(), Fail> {
     let cluster = Cluster::new(0, 1, 1, 100)?;
     let mut book = Book::new(alloc);
     fill(alloc, &mut book)?;
-    for (time, key, asks, verdict) in VERDICTS {
+    for &(time, key, asks, verdict) in VERDICTS {
         let t = asked(alloc, time, key, asks)?;
         assert!(rt; check(&book.store, &book.table, &cluster, 0, 50, t.view()) == verdict);
     }

@@ -5,7 +5,7 @@ use fallback_views::raise;
 use std::test::Fail;
 
 /// Where one replica may be faulty: the reported views, the current one, and the one that it is raised to.
-const RAISED: [(&[u64], u64, u64); 8] = [
+const RAISED: &[(&[u64], u64, u64)] = &[
     (&[0, 0, 0, 0, 0, 0], 0, 1),
     (&[1, 1, 1, 0, 0], 0, 1),
     (&[2, 2, 1], 0, 2),
@@ -19,7 +19,7 @@ const RAISED: [(&[u64], u64, u64); 8] = [
 #[test]
 fn reported_views_raise_the_view(rt: HostRuntime) -> Result<(), Fail> {
     let cluster = Cluster::new(1, 1, 2, 100)?;
-    for (views, current, raised) in RAISED {
+    for &(views, current, raised) in RAISED {
         let found = raise(&cluster, views, current);
         assert!(rt; found == raised, "from {current} to {found}");
     }

@@ -11,7 +11,7 @@ fn refusal(f: u8, shards: u8, reads: u8) -> Option<ClusterFault> {
 }
 
 /// Faulty replicas, shards and replies of a read, and what is refused.
-const REFUSALS: [(u8, u8, u8, Option<ClusterFault>); 8] = [
+const REFUSALS: &[(u8, u8, u8, Option<ClusterFault>)] = &[
     (0, 1, 1, None),
     (6, 8, 25, None),
     (7, 0, 0, Some(ClusterFault::FOutOfRange)),
@@ -24,7 +24,7 @@ const REFUSALS: [(u8, u8, u8, Option<ClusterFault>); 8] = [
 
 #[test]
 fn the_first_field_out_of_range_is_named(rt: HostRuntime) {
-    for (f, shards, reads, fault) in REFUSALS {
+    for &(f, shards, reads, fault) in REFUSALS {
         assert!(rt;
             refusal(f, shards, reads) == fault,
             "f {f}, {shards} shards, {reads} reads"
@@ -33,7 +33,7 @@ fn the_first_field_out_of_range_is_named(rt: HostRuntime) {
 }
 
 /// Faulty replicas and replies of a read; then 5f+1, 5f+1, 3f+1, f+1, 3f+1, 4f+1 and 2f+1.
-const SIZES: [(u8, u8, [u8; 7]); 3] = [
+const SIZES: &[(u8, u8, [u8; 7])] = &[
     (0, 1, [1, 1, 1, 1, 1, 1, 1]),
     (1, 5, [6, 6, 4, 2, 4, 5, 3]),
     (6, 25, [31, 31, 19, 7, 19, 25, 13]),
@@ -41,7 +41,7 @@ const SIZES: [(u8, u8, [u8; 7]); 3] = [
 
 #[test]
 fn clusters_have_their_sizes(rt: HostRuntime) -> Result<(), Fail> {
-    for (f, reads, sizes) in SIZES {
+    for &(f, reads, sizes) in SIZES {
         let cluster = Cluster::new(f, 8, reads, 100)?;
         let found = [
             cluster.n(),

@@ -63,12 +63,12 @@ fn a_version_has_the_digest(rt: HostRuntime) -> Result<(), Fail> {
 }
 
 /// Keys and their shards of three: 97 + 98 is 195, and 97, 98 and 195 modulo 3 are 1, 2 and 0.
-const SHARDS: [(&[u8], u8); 3] = [(b"a", 1), (b"b", 2), (b"ab", 0)];
+const SHARDS: &[(&[u8], u8)] = &[(b"a", 1), (b"b", 2), (b"ab", 0)];
 
 #[test]
 fn shards_are_those_of_the_keys(rt: HostRuntime) -> Result<(), Fail> {
     let cluster = Cluster::new(0, 3, 1, 100)?;
-    for (key, shard) in SHARDS {
+    for &(key, shard) in SHARDS {
         assert!(rt; shard_of(key, &cluster) == shard, "shard {shard}");
     }
     Ok(())
@@ -103,7 +103,7 @@ fn log_shard_at(time: u64, cluster: &Cluster) -> Result<u8, Fail> {
 }
 
 /// Shards, times and log shards: of 3 shards 1 and 2 are involved, and of 1 shard the only one.
-const LOG_SHARDS: [(u8, u64, u8); 7] = [
+const LOG_SHARDS: &[(u8, u64, u8)] = &[
     (3, 1, 2),
     (3, 2, 1),
     (3, 10, 1),
@@ -115,7 +115,7 @@ const LOG_SHARDS: [(u8, u64, u8); 7] = [
 
 #[test]
 fn log_shards_go_round_the_involved_ones(rt: HostRuntime) -> Result<(), Fail> {
-    for (shards, time, shard) in LOG_SHARDS {
+    for &(shards, time, shard) in LOG_SHARDS {
         let cluster = Cluster::new(0, shards, 1, 100)?;
         assert!(rt;
             log_shard_at(time, &cluster)? == shard,
@@ -126,7 +126,7 @@ fn log_shards_go_round_the_involved_ones(rt: HostRuntime) -> Result<(), Fail> {
 }
 
 /// Faulty replicas, times, views and leaders.
-const LEADERS: [(u8, u64, u64, u8); 12] = [
+const LEADERS: &[(u8, u64, u64, u8)] = &[
     (0, 10, 5, 0),
     (0, u64::MAX, u64::MAX, 0),
     (1, 0, 0, 0),
@@ -143,7 +143,7 @@ const LEADERS: [(u8, u64, u64, u8); 12] = [
 
 #[test]
 fn leaders_go_round_the_replicas(rt: HostRuntime) -> Result<(), Fail> {
-    for (f, time, view, leader) in LEADERS {
+    for &(f, time, view, leader) in LEADERS {
         let cluster = Cluster::new(f, 1, f.saturating_add(1), 100)?;
         assert!(rt;
             leader_of(time, view, &cluster) == leader,
@@ -173,7 +173,7 @@ fn writer_at(time: u64, client: u8, key: u8) -> [u8; 18] {
 
 /// Times, clients and keys of writers, and whether they conflict with the reader: the writer of the version that was read,
 /// one before it, those between, and those behind the reader.
-const WRITERS: [(u64, u8, u8, bool); 8] = [
+const WRITERS: &[(u64, u8, u8, bool)] = &[
     (10, 1, b'a', false),
     (9, 16, b'a', false),
     (10, 2, b'a', true),
@@ -188,7 +188,7 @@ const WRITERS: [(u64, u8, u8, bool); 8] = [
 fn conflicts_are_strictly_between(rt: HostRuntime) -> Result<(), Fail> {
     let cluster = Cluster::new(0, 2, 1, 100)?;
     let reader = TransactionView::read(&READER, 0)?;
-    for (time, client, key, wanted) in WRITERS {
+    for &(time, client, key, wanted) in WRITERS {
         let bytes = writer_at(time, client, key);
         let writer = TransactionView::read(&bytes, 0)?;
         assert!(rt;

@@ -6,7 +6,7 @@ use basil_types::source::{Failed, MemSource, Source, SureSource};
 use std::test::Fail;
 
 /// What each read of 1, 2, 3 in pieces of at most 2 answers, where the second fails, and the buffer's first byte then.
-const READS: [(Result<usize, Failed>, u8); 4] = [
+const READS: &[(Result<usize, Failed>, u8)] = &[
     (Ok(2), 1),
     (Err(Failed), 1),
     (Ok(1), 3),
@@ -19,7 +19,7 @@ fn sources_give_pieces(rt: HostRuntime) -> Result<(), Fail> {
     let failing = Vec::from_slice(alloc, &[2u64])?;
     let mut source = MemSource::new(Vec::from_slice(alloc, &[1, 2, 3])?, 2, failing);
     let mut buf = [0u8; 8];
-    for (answer, first) in READS {
+    for &(answer, first) in READS {
         assert!(rt; source.read(&mut buf) == answer);
         assert!(rt; buf[0] == first);
     }
@@ -31,7 +31,7 @@ fn sources_give_pieces(rt: HostRuntime) -> Result<(), Fail> {
 }
 
 /// Writes to a sink with room for three bytes of which the second fails, and what they answer.
-const WRITES: [(&[u8], Result<(), Failed>); 4] = [
+const WRITES: &[(&[u8], Result<(), Failed>)] = &[
     (&[1, 2], Ok(())),
     (&[3], Err(Failed)),
     (&[3, 4], Err(Failed)),
@@ -42,7 +42,7 @@ const WRITES: [(&[u8], Result<(), Failed>); 4] = [
 fn sinks_take_bytes(rt: HostRuntime) -> Result<(), Fail> {
     let alloc = rt.alloc();
     let mut sink = MemSink::new(alloc, 3, Vec::from_slice(alloc, &[2u64])?)?;
-    for (bytes, answer) in WRITES {
+    for &(bytes, answer) in WRITES {
         assert!(rt; sink.write(bytes) == answer);
     }
     assert!(rt; sink.bytes() == [1, 2, 5].as_slice());

@@ -12,7 +12,7 @@ const ABC: [u8; 32] = [
 ];
 
 /// Versions in ascending order: by time, then client, then id.
-const ASCENDING: [Version; 4] = [
+const ASCENDING: &[Version] = &[
     Version {
         time: 5,
         client: 4,

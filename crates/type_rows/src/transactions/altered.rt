@@ -24,7 +24,7 @@ const BEHIND: [u8; 21] = [
 ];
 
 /// A length and a place from which the bytes are read, and what is answered.
-const PLACED: [(usize, usize, Result<(), PartFault>); 5] = [
+const PLACED: &[(usize, usize, Result<(), PartFault>)] = &[
     (21, 3, Ok(())),
     (8, 3, Err(PartFault::Short(4))),
     (20, 3, Err(PartFault::Short(19))),
@@ -34,7 +34,7 @@ const PLACED: [(usize, usize, Result<(), PartFault>); 5] = [
 
 #[test]
 fn offsets_count_all_the_bytes(rt: HostRuntime) {
-    for (length, at, expected) in PLACED {
+    for &(length, at, expected) in PLACED {
         assert!(rt; length <= BEHIND.len());
         assert!(rt;
             verdict(&BEHIND[..length], at) == expected,
@@ -44,7 +44,7 @@ fn offsets_count_all_the_bytes(rt: HostRuntime) {
 }
 
 /// Place, new byte, and what is answered.
-const ALTERED_WRITES: [(usize, u8, Result<(), PartFault>); 29] = [
+const ALTERED_WRITES: &[(usize, u8, Result<(), PartFault>)] = &[
     (0, 0, Err(PartFault::Range(0))),
     // A deletion, with three bytes behind it.
     (0, 2, Ok(())),
@@ -83,7 +83,7 @@ const ALTERED_WRITES: [(usize, u8, Result<(), PartFault>); 29] = [
 
 #[test]
 fn each_altered_byte_has_its_verdict(rt: HostRuntime) {
-    for (place, byte, expected) in ALTERED_WRITES {
+    for &(place, byte, expected) in ALTERED_WRITES {
         assert!(rt; place < WRITES.len());
         let mut bytes = WRITES;
         bytes[place] = byte;
@@ -92,7 +92,7 @@ fn each_altered_byte_has_its_verdict(rt: HostRuntime) {
 }
 
 /// The same of the deletion.
-const ALTERED_DELETES: [(usize, u8, Result<(), PartFault>); 22] = [
+const ALTERED_DELETES: &[(usize, u8, Result<(), PartFault>)] = &[
     (0, 0, Err(PartFault::Range(0))),
     // The value's length has one byte.
     (0, 1, Err(PartFault::Short(14))),
@@ -121,7 +121,7 @@ const ALTERED_DELETES: [(usize, u8, Result<(), PartFault>); 22] = [
 
 #[test]
 fn each_altered_byte_of_a_deletion_has_its_verdict(rt: HostRuntime) {
-    for (place, byte, expected) in ALTERED_DELETES {
+    for &(place, byte, expected) in ALTERED_DELETES {
         assert!(rt; place < DELETES.len());
         let mut bytes = DELETES;
         bytes[place] = byte;
@@ -135,7 +135,7 @@ const TWO_WRITES: [u8; 20] = [
 ];
 
 /// The second key's length and byte, how many bytes there are, and what is answered.
-const SECOND_KEYS: [(u8, u8, usize, Result<(), PartFault>); 4] = [
+const SECOND_KEYS: &[(u8, u8, usize, Result<(), PartFault>)] = &[
     (1, 0x61, 20, Err(PartFault::Order(16))),
     (1, 0x61, 17, Err(PartFault::Short(17))),
     (0, 0x61, 20, Err(PartFault::Range(16))),
@@ -144,7 +144,7 @@ const SECOND_KEYS: [(u8, u8, usize, Result<(), PartFault>); 4] = [
 
 #[test]
 fn keys_ascend(rt: HostRuntime) {
-    for (length, byte, cut, expected) in SECOND_KEYS {
+    for &(length, byte, cut, expected) in SECOND_KEYS {
         assert!(rt; cut <= TWO_WRITES.len());
         let mut bytes = TWO_WRITES;
         bytes[16] = length;
@@ -158,7 +158,7 @@ fn keys_ascend(rt: HostRuntime) {
 
 /// One read of genesis: its version of 41 bytes begins at 13, its flag stands at 54, the number of writes at 55. The
 /// flag, how many bytes there are, and what is answered.
-const ONE_READ: [(u8, usize, Result<(), PartFault>); 6] = [
+const ONE_READ: &[(u8, usize, Result<(), PartFault>)] = &[
     (0, 56, Ok(())),
     (0, 13, Err(PartFault::Short(13))),
     (0, 22, Err(PartFault::Short(13))),
@@ -169,7 +169,7 @@ const ONE_READ: [(u8, usize, Result<(), PartFault>); 6] = [
 
 #[test]
 fn a_version_is_one_field(rt: HostRuntime) {
-    for (flag, cut, expected) in ONE_READ {
+    for &(flag, cut, expected) in ONE_READ {
         let mut bytes = [0u8; 56];
         assert!(rt; cut <= bytes.len());
         for place in [0, 9, 10, 11] {
