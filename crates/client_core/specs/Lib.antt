@@ -3,3 +3,14 @@ pub mod Slots
 pub mod Calls
 pub mod Frames
 pub mod Answers
+pub mod Kept
+pub mod Keeping
+pub mod Placing
+pub mod Showing
+pub mod Steps
+pub mod Addressing
+pub mod Works
+pub mod Done
+pub mod Preparing
+pub mod Forming
+pub mod Seats

@@ -1,8 +1,22 @@
 //! A client: its calls, and its answer to every kind of frame (Basil, sections 4 and 5).
-//!
-//! Definitions alone, so far: no code stands under them yet.
 #![tactic(auto)]
 
+mod address;
+mod append;
+mod asking;
+mod client;
+mod commit;
 pub mod fault;
+mod held;
+mod ordered;
+mod preparing;
+mod reading;
+mod replies;
+mod seat;
+mod state;
+mod steps;
+mod work;
 
+pub use client::Client;
 pub use fault::CallFault;
+pub use state::ReadState;

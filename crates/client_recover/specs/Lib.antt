@@ -3,3 +3,9 @@ pub mod Counting
 pub mod Certifying
 pub mod Pursuits
 pub mod Faults
+pub mod Frames
+pub mod Kept
+pub mod Replies
+pub mod Quorums
+pub mod Owned
+pub mod Standing

@@ -2,6 +2,8 @@
 #![tactic(auto)]
 
 #[cfg(test)]
+mod answers;
+#[cfg(test)]
 mod choices;
 #[cfg(test)]
 mod made;
@@ -10,10 +12,14 @@ mod proofs;
 #[cfg(test)]
 mod proving;
 #[cfg(test)]
+mod pursuits;
+#[cfg(test)]
 mod replies;
 #[cfg(test)]
 mod reply_vectors;
 #[cfg(test)]
 mod tallies;
+#[cfg(test)]
+mod told;
 #[cfg(test)]
 mod vectors;

@@ -8,7 +8,11 @@ use keyring::signer::Signer;
 use std::alloc::{AllocError, Global};
 
 /// A plain signature of words behind its length.
-fn put_signature(out: &mut Vec<u8>, party: Party, words: &Words) -> Result<(), AllocError> {
+pub(crate) fn put_signature(
+    out: &mut Vec<u8>,
+    party: Party,
+    words: &Words,
+) -> Result<(), AllocError> {
     let mut pen = PlainPen::new(party);
     let mut signature = [0u8; 32];
     let _ = pen.sign_into(words.bytes(), &mut signature);

@@ -1,5 +1,7 @@
 pub mod Pens
 pub mod Envelopes
+pub mod Framed
+pub mod Pendings
 pub mod Refusing
 pub mod Lists
 pub mod Limits

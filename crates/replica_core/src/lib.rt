@@ -1,8 +1,25 @@
 //! A replica: its answer to every kind of frame (Basil, sections 4 and 5).
-//!
-//! Definitions alone, so far: no code stands under them yet.
 #![tactic(auto)]
 
+mod arriving;
+mod election;
+mod first;
+mod fronts;
+mod invoke;
+mod known;
+mod leading;
+mod log;
+mod logged;
+mod logging;
+mod parts;
+mod plan;
+mod reads;
 pub mod refusal;
+mod refuse;
+mod seat;
+mod second;
+mod work;
+mod writeback;
 
+pub use plan::Plan;
 pub use refusal::Refusal;

@@ -32,15 +32,21 @@ fn fill(alloc: Global, table: &mut Table, count: u32) -> Result<(), Fail> {
     Ok(())
 }
 
+// Whether the outcome at a place releases the vote behind it alone; the place ends.
+fn releases_next(alloc: Global, table: &mut Table, next: u32) -> Result<bool, Fail> {
+    let place = next.saturating_sub(1);
+    let votes = released(table, 1, 0, place, COMMIT)?;
+    end(alloc, table, place, COMMIT)?;
+    Ok(votes.as_slice() == [(next, COMMIT)].as_slice())
+}
+
 #[test]
 fn each_of_400_000_outcomes_releases_the_next_vote(rt: HostRuntime) -> Result<(), Fail> {
     let alloc = rt.alloc();
     let mut table = Table::new(alloc);
     fill(alloc, &mut table, COUNT)?;
     for next in 1..COUNT {
-        let votes = released(&table, 1, 0, next - 1, COMMIT)?;
-        assert!(rt; votes.as_slice() == [(next, COMMIT)].as_slice());
-        end(alloc, &mut table, next - 1, COMMIT)?;
+        assert!(rt; releases_next(alloc, &mut table, next)?);
     }
     assert!(rt; released(&table, 1, 0, COUNT - 1, COMMIT)?.is_empty());
     Ok(())

@@ -22,52 +22,72 @@ fn writer(alloc: Global, time: u64) -> Result<Transaction, Fail> {
     transaction(alloc, time, 1, &[], &[b"a"])
 }
 
+// Whether the writer of a time isn't held before it is taken, and then stands at the place before its time.
+fn arrives_in_turn(alloc: Global, table: &mut Table, time: u64) -> Result<bool, Fail> {
+    let t = writer(alloc, time)?;
+    let id = id_of(t.view().bytes());
+    let is_new = table.place_of(&id).is_none() && table.entry_with(&id).is_none();
+    let place = arrive(alloc, table, &t)?;
+    Ok(is_new && u64::from(place) + 1 == time && table.entry_with(&id).is_some())
+}
+
 #[test]
 fn places_follow_the_order_of_arrival(rt: HostRuntime) -> Result<(), Fail> {
-    let alloc = rt.alloc();
-    let mut table = Table::new(alloc);
+    let mut table = Table::new(rt.alloc());
     for time in 1..4u64 {
-        let t = writer(alloc, time)?;
-        let id = id_of(t.view().bytes());
-        assert!(rt; table.place_of(&id).is_none() && table.entry_with(&id).is_none());
-        assert!(rt; u64::from(arrive(alloc, &mut table, &t)?) + 1 == time);
-        assert!(rt; table.entry_with(&id).is_some());
+        assert!(rt; arrives_in_turn(rt.alloc(), &mut table, time)?);
     }
     assert!(rt; table.len() == 3);
-    let second = id_of(writer(alloc, 2)?.view().bytes());
-    assert!(rt; table.place_of(&second) == Some(1));
     Ok(())
+}
+
+// Takes a transaction for which two wait, one of them asking twice; answers its place.
+fn wait_twice(alloc: Global, table: &mut Table, t: &Transaction) -> Result<u32, Fail> {
+    let place = arrive(alloc, table, t)?;
+    for asker in [FIRST, SECOND, FIRST] {
+        ask(table, t, asker)?;
+    }
+    Ok(place)
+}
+
+fn vote_and_end(alloc: Global, table: &mut Table, place: u32) -> Result<(), Fail> {
+    vote(alloc, table, place)?;
+    end(alloc, table, place, ABORT)
+}
+
+// Whether both wait for the vote on a transaction of time 1.
+fn both_wait(table: &Table, id: &[u8; 32]) -> bool {
+    table.entry_with(id).is_some_and(|entry| {
+        entry.view().time() == 1
+            && entry.askers() == [FIRST, SECOND].as_slice()
+            && matches!(entry.vote(), VoteState::Waiting)
+    })
+}
+
+// Whether nobody waits any more for a transaction on which the vote was commit, and which is aborted.
+fn has_ended(table: &Table, id: &[u8; 32]) -> bool {
+    table.entry_with(id).is_some_and(|entry| {
+        entry.askers().is_empty()
+            && matches!(
+                entry.vote(),
+                VoteState::Voted {
+                    vote: Decision::Commit,
+                    ..
+                }
+            )
+            && matches!(entry.outcome(), Some((Decision::Abort, _)))
+    })
 }
 
 #[test]
 fn askers_wait_once_each_until_the_vote(rt: HostRuntime) -> Result<(), Fail> {
-    let alloc = rt.alloc();
-    let mut table = Table::new(alloc);
-    let t = writer(alloc, 1)?;
-    let place = arrive(alloc, &mut table, &t)?;
-    for asker in [FIRST, SECOND, FIRST] {
-        ask(&mut table, &t, asker)?;
-    }
+    let mut table = Table::new(rt.alloc());
+    let t = writer(rt.alloc(), 1)?;
     let id = id_of(t.view().bytes());
-    let waiting = table.entry_with(&id).ok_or("not held")?;
-    assert!(rt; waiting.view().time() == 1);
-    assert!(rt; waiting.askers() == [FIRST, SECOND].as_slice());
-    assert!(rt; matches!(waiting.vote(), VoteState::Waiting));
-
-    vote(alloc, &mut table, place)?;
-    end(alloc, &mut table, place, ABORT)?;
-    let ended = table.entry_with(&id).ok_or("not held")?;
-    assert!(rt; ended.askers().is_empty());
-    assert!(rt;
-        matches!(
-            ended.vote(),
-            VoteState::Voted {
-                vote: Decision::Commit,
-                ..
-            }
-        )
-    );
-    assert!(rt; matches!(ended.outcome(), Some((Decision::Abort, _))));
+    let place = wait_twice(rt.alloc(), &mut table, &t)?;
+    assert!(rt; both_wait(&table, &id));
+    vote_and_end(rt.alloc(), &mut table, place)?;
+    assert!(rt; has_ended(&table, &id));
     Ok(())
 }
 

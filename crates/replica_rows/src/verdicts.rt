@@ -200,18 +200,26 @@ fn verdicts_follow_the_rules(rt: HostRuntime) -> Result<(), Fail> {
     Ok(())
 }
 
+// A writer of a, committed.
+fn enter_one(alloc: Global, book: &mut Book) -> Result<(), Fail> {
+    let a = transaction(alloc, 10, 1, &[], &[b"a"])?;
+    book.enter(alloc, &a, true)
+}
+
+// The verdict on a reader of a that has not seen that writer, for a shard of two.
+fn verdict_for(alloc: Global, book: &Book, shard: u8) -> Result<Verdict, Fail> {
+    let cluster = Cluster::new(0, 2, 1, 100)?;
+    let t = transaction(alloc, 50, 5, &[(b"a", Version::genesis(), false)], &[])?;
+    Ok(check(&book.store, &book.table, &cluster, shard, 50, t.view()))
+}
+
 // Of two shards key a is in shard 1.
 #[test]
 fn keys_of_another_shard_decide_nothing(rt: HostRuntime) -> Result<(), Fail> {
-    let alloc = rt.alloc();
-    let cluster = Cluster::new(0, 2, 1, 100)?;
-    let mut book = Book::new(alloc);
-    let a = transaction(alloc, 10, 1, &[], &[b"a"])?;
-    book.enter(alloc, &a, true)?;
-    let t = transaction(alloc, 50, 5, &[(b"a", Version::genesis(), false)], &[])?;
-    for (shard, verdict) in [(0, Verdict::Commit), (1, Verdict::AbortBy { place: 0 })] {
-        assert!(rt; check(&book.store, &book.table, &cluster, shard, 50, t.view()) == verdict);
-    }
+    let mut book = Book::new(rt.alloc());
+    enter_one(rt.alloc(), &mut book)?;
+    assert!(rt; verdict_for(rt.alloc(), &book, 0)? == Verdict::Commit);
+    assert!(rt; verdict_for(rt.alloc(), &book, 1)? == Verdict::AbortBy { place: 0 });
     Ok(())
 }
 
@@ -222,31 +230,53 @@ fn numbered(alloc: Global, number: u32) -> Result<Vec<u8>, Fail> {
 
 const MANY: u32 = 400_000;
 
-// Searching lists, this would look at 160,000,000,000 entries.
-#[test]
-fn many_transactions_are_found_by_indexes(rt: HostRuntime) -> Result<(), Fail> {
-    let alloc = rt.alloc();
-    let cluster = Cluster::new(0, 1, 1, 100)?;
-    let mut book = Book::new(alloc);
+// The version of the writer of a numbered key, which is committed.
+fn enter_numbered(alloc: Global, book: &mut Book, number: u32) -> Result<Version, Fail> {
+    let key = numbered(alloc, number)?;
+    let t = transaction(alloc, 1, 1, &[], &[&key])?;
+    book.enter(alloc, &t, true)?;
+    Ok(version_of(t.view()))
+}
+
+fn enter_many(alloc: Global, book: &mut Book) -> Result<Vec<Version>, Fail> {
     let mut versions = Vec::new(alloc);
     for number in 0..MANY {
-        let key = numbered(alloc, number)?;
-        let t = transaction(alloc, 1, 1, &[], &[&key])?;
-        versions.push(version_of(t.view()))?;
-        book.enter(alloc, &t, true)?;
+        versions.push(enter_numbered(alloc, book, number)?)?;
     }
+    Ok(versions)
+}
+
+// Whether a numbered key's writer is found, by its id and by its key.
+fn is_found(alloc: Global, book: &Book, number: u32, version: Version) -> Result<bool, Fail> {
+    let key = numbered(alloc, number)?;
     let bound = Version {
         time: 2,
         client: 1,
         id: [0; 32],
     };
-    for (number, version) in (0..MANY).zip(versions) {
-        let key = numbered(alloc, number)?;
-        assert!(rt; book.table.place_of(&version.id) == Some(number));
-        assert!(rt; book.store.latest_committed(&key, &bound) == Some((version, number)));
-        let t = transaction(alloc, 2, 1, &[], &[&key])?;
-        let verdict = check(&book.store, &book.table, &cluster, 0, 10, t.view());
-        assert!(rt; verdict == Verdict::Commit);
+    Ok(
+        book.table.place_of(&version.id) == Some(number)
+            && book.store.latest_committed(&key, &bound) == Some((version, number)),
+    )
+}
+
+// The verdict on a later writer of a numbered key.
+fn verdict_on(alloc: Global, book: &Book, number: u32) -> Result<Verdict, Fail> {
+    let cluster = Cluster::new(0, 1, 1, 100)?;
+    let key = numbered(alloc, number)?;
+    let t = transaction(alloc, 2, 1, &[], &[&key])?;
+    Ok(check(&book.store, &book.table, &cluster, 0, 10, t.view()))
+}
+
+// Searching lists, this would look at 160,000,000,000 entries.
+#[test]
+fn many_transactions_are_found_by_indexes(rt: HostRuntime) -> Result<(), Fail> {
+    let alloc = rt.alloc();
+    let mut book = Book::new(alloc);
+    let versions = enter_many(alloc, &mut book)?;
+    for (number, version) in (0..MANY).zip(&versions) {
+        assert!(rt; is_found(alloc, &book, number, *version)?);
+        assert!(rt; verdict_on(alloc, &book, number)? == Verdict::Commit);
     }
     Ok(())
 }

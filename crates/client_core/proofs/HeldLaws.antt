@@ -1,0 +1,171 @@
+-- Changes of one slot.
+use Rattle.std.proofs.Common.{◌≡◌, ◌∙◌, ℕ, zero, suc, ◌<◌, List, [], ◌∷◌, ◌++◌, length, map, refl, sym, ap, subst, arith}
+use Rattle.std.specs.Prelude.{Option, Some, None, slice_get, slice_set, slice_index_or}
+use Rattle.std.proofs.lemmas.Option.{same_Some}
+use Rattle.basil_types.specs.declared.transaction.parts.WritePart.{WritePart}
+use Rattle.node_steps.specs.Lists.{by_key, put}
+use Rattle.client_core.specs.declared.asking.Asking.{Asking}
+use Rattle.client_core.specs.declared.held.Held.{Held}
+use Rattle.client_core.specs.declared.held.Slot.{Slot}
+use Rattle.client_core.specs.declared.fault.CallFault.{CallFault}
+use Rattle.client_core.specs.declared.steps.ReadStep.{ReadStep}
+use Rattle.client_core.specs.Steps.{by_step}
+use Rattle.node_steps.specs.Refusing.{unless}
+use Rattle.client_core.specs.Calls.{begun_slot, begin_done, by_slot, call_read, call_write, read_at, read_done, write_fault, write_done}
+use Rattle.client_core.specs.Clients.{AskedRead, SlotValue, ClientSelf, ClientValue, quiet}
+use Rattle.client_core.specs.Kept.{KeptRead, kept_read, shown_read}
+use Rattle.client_core.specs.Showing.{KeepsReads, ShowsFormed, ShowsSlot, ShowsSlots, ShowsHeld, slot_value}
+use Rattle.client_core.specs.Slots.{put_read, with_pursuit}
+use Rattle.client_core.specs.Works.{Changes}
+use Rattle.client_recover.specs.Taken.{PursuitValue}
+use Rattle.client_core.proofs.PlacingLaws.{put_map}
+use Rattle.client_core.proofs.ShowingLaws.{slots_at, slots_set, slots_push}
+
+pub got : {A : Type 0} (xs : List A) (i : ℕ) (x : A) → i < length xs → x ≡ slice_index_or xs i x → slice_get xs i ≡ Some x
+got [] i x h e = absurd (omega arith)
+got (y ∷ ys) zero x h e = ap Some (sym e)
+got (y ∷ ys) (suc i) x h e = got ys i x (omega arith) e
+
+pub within : {A : Type 0} (xs : List A) (i : ℕ) (x : A) → slice_get xs i ≡ Some x → i < length xs
+within [] i x e = absurd cc
+within (y ∷ ys) zero x e = omega arith
+within (y ∷ ys) (suc i) x e = let h = within ys i x e in omega arith
+
+pub set_own : {A : Type 0} (xs : List A) (i : ℕ) (x : A) → slice_get xs i ≡ Some x → slice_set xs i x ≡ xs
+set_own [] i x e = refl
+set_own (y ∷ ys) zero x e = ap (λ z. z ∷ ys) (sym (same_Some y x e))
+set_own (y ∷ ys) (suc i) x e = ap (λ l. y ∷ l) (set_own ys i x e)
+
+-- ---- one slot
+
+abbrev kept_key : KeptRead → List ℕ
+kept_key k = k.key
+
+pub put_keeps : (asked : List Asking) (reads : List AskedRead) (a : Asking) (r : AskedRead) → KeepsReads asked reads → shown_read a ≡ kept_read r
+    → KeepsReads (put (by_key (λ (x : Asking). x.key)) a asked) (put_read r reads)
+put_keeps asked reads a r keeps same =
+    put_map shown_read kept_key a asked
+    ∙ ap (λ k. put (by_key kept_key) k (map shown_read asked)) same
+    ∙ ap (λ ks. put (by_key kept_key) (kept_read r) ks) keeps
+    ∙ sym (put_map kept_read kept_key r reads)
+
+pub slot_reads : (slot new : Slot) (s : SlotValue) (reads : List AskedRead) → ShowsSlot slot s → new ≡ record slot { reads = new.reads }
+    → KeepsReads new.reads.items reads → ShowsSlot new (record s { reads = reads })
+slot_reads slot new s reads h same keeps =
+    record {
+      value =
+          ap (λ (t : SlotValue). let u : SlotValue = record t { reads = reads } in u) h.value
+          ∙ ap (λ (x : Slot). slot_value x reads s.pursuit) (sym same);
+      reads = keeps;
+      formed = subst (λ (x : Slot). ShowsFormed x.formed s.pursuit) (sym same) h.formed;
+    }
+
+pub slot_writes : (slot new : Slot) (s : SlotValue) → ShowsSlot slot s → new ≡ record slot { writes = new.writes }
+    → (w : List WritePart) → new.writes.items ≡ w → ShowsSlot new (record s { writes = w })
+slot_writes slot new s h same w is =
+    record {
+      value =
+          ap (λ (t : SlotValue). let u : SlotValue = record t { writes = w } in u) h.value
+          ∙ ap (λ l. let u : SlotValue = record (slot_value slot s.reads s.pursuit) { writes = l } in u) (sym is)
+          ∙ ap (λ (x : Slot). slot_value x s.reads s.pursuit) (sym same);
+      reads = subst (λ (x : Slot). KeepsReads x.reads.items s.reads) (sym same) h.reads;
+      formed = subst (λ (x : Slot). ShowsFormed x.formed s.pursuit) (sym same) h.formed;
+    }
+
+pub slot_pursues : (slot new : Slot) (s : SlotValue) (p : PursuitValue) → ShowsSlot slot s → new ≡ record slot { formed = new.formed }
+    → ShowsFormed new.formed (Some p) → ShowsSlot new (with_pursuit s p)
+slot_pursues slot new s p h same formed =
+    record {
+      value =
+          ap (λ (t : SlotValue). let u : SlotValue = with_pursuit t p in u) h.value
+          ∙ ap (λ (x : Slot). slot_value x s.reads (Some p)) (sym same);
+      reads = subst (λ (x : Slot). KeepsReads x.reads.items s.reads) (sym same) h.reads;
+      formed = formed;
+    }
+
+-- ---- all slots
+
+module _ (old new : Held) (i : ℕ) (slot changed : Slot) (at : slice_get old.slots.items i ≡ Some slot)
+    (last : new.last ≡ old.last) (set : new.slots.items ≡ slice_set old.slots.items i changed) where
+  pub held_changes : (change : SlotValue → SlotValue) → ((s : SlotValue) → ShowsSlot slot s → ShowsSlot changed (change s))
+      → (v after : ClientValue) → ShowsHeld old v → Changes v i change after → ShowsHeld new after
+  held_changes change each v after h (s, at_s, is) =
+      let found = slots_at old.slots.items v.slots i slot h.slots at in
+      let same : found.0 ≡ s = same_Some found.0 s (sym found.1 ∙ at_s) in
+      subst (ShowsHeld new) (sym is)
+      (record {
+        last = last ∙ h.last;
+        slots =
+            subst (λ l. ShowsSlots l (slice_set v.slots i (change s))) (sym set)
+            (slots_set old.slots.items v.slots i changed (change s) h.slots
+            (each s (subst (ShowsSlot slot) same found.2)));
+      })
+
+  pub held_same : ((s : SlotValue) → ShowsSlot slot s → ShowsSlot changed s) → (v : ClientValue) → ShowsHeld old v → ShowsHeld new v
+  held_same each v h =
+      let found = slots_at old.slots.items v.slots i slot h.slots at in
+      record {
+        last = last ∙ h.last;
+        slots =
+            subst (λ l. ShowsSlots l v.slots) (sym set)
+            (subst (λ l. ShowsSlots (slice_set old.slots.items i changed) l) (set_own v.slots i found.0 found.1)
+            (slots_set old.slots.items v.slots i changed found.0 h.slots (each found.0 found.2)));
+      }
+
+-- ---- one slot more
+
+pub begun_shows : (old new : Held) (slot : Slot) (v : ClientValue) (time : ℕ) → ShowsHeld old v → new.last ≡ time
+    → new.slots.items ≡ old.slots.items ++ slot ∷ [] → slot_value slot [] None ≡ begun_slot time → slot.reads.items ≡ [] → slot.formed ≡ None
+    → ShowsHeld new (begin_done v time).client
+begun_shows old new slot v time h last items value reads formed =
+    let one : ShowsSlot slot (begun_slot time) =
+    record {
+      value = sym value;
+      reads = ap (map shown_read) reads;
+      formed = subst (λ f. ShowsFormed f None) (sym formed) tt;
+    } in
+    record {
+      last = last;
+      slots =
+          subst (λ l. ShowsSlots l (v.slots ++ begun_slot time ∷ [])) (sym items)
+          (slots_push old.slots.items v.slots slot (begun_slot time) h.slots one);
+    }
+
+-- ---- answers by the slot
+
+pub set_got : {A : Type 0} (xs : List A) (i : ℕ) (y x : A) → i < length xs → slice_get (slice_set xs i y) i ≡ Some x → x ≡ y
+set_got [] i y x h e = absurd (omega arith)
+set_got (z ∷ zs) zero y x h e = sym (same_Some y x e)
+set_got (z ∷ zs) (suc i) y x h e = set_got zs i y x (omega arith) e
+
+module _ (held : Held) (v : ClientValue) (i : ℕ) (x : Slot) (shows : ShowsHeld held v) (at : slice_get held.slots.items i ≡ Some x) where
+  pub write_answers : (w : WritePart) (fault : Option CallFault)
+      → ((reads : List AskedRead) (p : Option PursuitValue) → ShowsFormed x.formed p → fault ≡ write_fault (slot_value x reads p) w)
+      → (s : SlotValue) × (slice_get v.slots i ≡ Some s) × (call_write v i w ≡ unless fault (write_done v i w s))
+  write_answers w fault each =
+      let found = slots_at held.slots.items v.slots i x shows.slots at in
+      let s = found.0 in (
+        s,
+        found.1,
+        ap (by_slot v (λ t. unless (write_fault t w) (write_done v i w t))) found.1
+            ∙ ap (λ (t : SlotValue). unless (write_fault t w) (write_done v i w s)) (found.2).value
+            ∙ ap (λ f. unless f (write_done v i w s)) (sym (each s.reads s.pursuit (found.2).formed)),
+      )
+
+  pub read_answers : (me : ClientSelf) (key : List ℕ) (step : ReadStep)
+      → ((reads : List AskedRead) (p : Option PursuitValue) → KeepsReads x.reads.items reads → ShowsFormed x.formed p
+      → read_at me v i key (slot_value x reads p) ≡ by_step step (quiet v) (read_done me v i (slot_value x reads p) key))
+      → (s : SlotValue) × (slice_get v.slots i ≡ Some s) × (call_read me v i key ≡ by_step step (quiet v) (read_done me v i s key))
+  read_answers me key step each =
+      let found = slots_at held.slots.items v.slots i x shows.slots at in
+      let s = found.0 in (
+        s,
+        found.1,
+        ap (by_slot v (read_at me v i key)) found.1
+            ∙ ap (read_at me v i key) (found.2).value
+            ∙ each s.reads s.pursuit (found.2).reads (found.2).formed
+            ∙ ap (λ (t : SlotValue). by_step step (quiet v) (read_done me v i t key)) (sym (found.2).value),
+      )
+
+  pub slot_found : (s : SlotValue) × (slice_get v.slots i ≡ Some s) × ShowsSlot x s
+  slot_found = slots_at held.slots.items v.slots i x shows.slots at

@@ -1,0 +1,18 @@
+use Rattle.std.proofs.Common.{List, [], refl, sym, subst}
+use Rattle.client_core.specs.declared.asking.Asking.{Asking}
+use Rattle.client_core.specs.Clients.{AskedRead}
+use Rattle.client_core.specs.Showing.{KeepsReads}
+use Rattle.client_core.specs.Slots.{put_read}
+use Rattle.client_core.specs.Works.{asks}
+use Rattle.client_core.proofs.HeldLaws.{got, held_changes, put_keeps, slot_reads}
+use Rattle.client_core.proofs.held.Held.ask.Goals as goal
+
+pub returns : goal.returns
+returns c = λ v after h changes.
+    let x = c.index_mut-slot.result.now in
+    let r : AskedRead = record { key = c.args.asked.key; replies = [] } in
+    held_changes c.args.self.now _ c.args.slot x _ (got c.args.self.now.slots.items c.args.slot x c.requires.held c.index_mut-slot.ensures.value) refl refl
+    (asks c.args.asked)
+    (λ s shows. slot_reads x _ s (put_read r s.reads) shows refl
+    (subst (λ (l : List Asking). KeepsReads l (put_read r s.reads)) (sym c.put_reserved.ensures) (put_keeps x.reads.items s.reads c.args.asked r shows.reads c.requires.none)))
+    v after h changes

@@ -1,0 +1,8 @@
+-- What a formed transaction shows.
+use Rattle.std.specs.Borrow.{Bor}
+use Rattle.std.specs.Prelude.{ℕ, List}
+use Rattle.basil_types.specs.Transaction.{TransactionValue}
+use Rattle.frame_views.specs.Values.{SignedValue}
+
+abbrev pub shown_signed : Bor TransactionValue × Bor (List ℕ) → SignedValue
+shown_signed x = record { transaction = x.0.now; signature = x.1.now }

@@ -1,0 +1,109 @@
+-- What a planned call or frame does, and what it needs.
+use Rattle.std.specs.Prelude.{◌≡◌, ◌≢◌, ◌<◌, ℕ, List, [], ◌∷◌, ◌++◌, ⊤, Some, Result, Ok, Err, map, length, slice_get, vec_len, vec_capacity}
+use Rattle.std.specs.Option.{ForSome}
+use Rattle.basil_types.specs.declared.outbox.Envelope.{Envelope}
+use Rattle.basil_types.specs.declared.outbox.Outbox.{Outbox}
+use Rattle.basil_types.specs.declared.transaction.parts.WritePart.{WritePart}
+use Rattle.basil_types.specs.Transaction.{TransactionValue}
+use Rattle.basil_types.specs.Words.{words_of}
+use Rattle.certificates.specs.Deciding.{HasGoodForm}
+use Rattle.keyring.specs.Signing.{Signing}
+use Rattle.node_steps.specs.Framed.{framed}
+use Rattle.node_steps.specs.Pendings.{sealed_all, CanSign}
+use Rattle.node_steps.specs.Pens.{PenValue, after_one}
+use Rattle.client_core.specs.declared.asking.Asking.{Asking}
+use Rattle.client_core.specs.declared.fault.CallFault.{CallFault}
+use Rattle.client_core.specs.declared.fault.CallFault.TheVariants.{NoMemory}
+use Rattle.client_core.specs.declared.held.Held.{Held}
+use Rattle.client_core.specs.declared.held.Slot.{Slot}
+use Rattle.client_core.specs.declared.work.ClientPlan.{ClientPlan}
+use Rattle.client_core.specs.declared.work.Work.{Work}
+use Rattle.client_core.specs.declared.work.Work.TheVariants.{Nothing, Ask, Pursue}
+use Rattle.client_core.specs.Calls.{pursued}
+use Rattle.client_core.specs.Clients.{ClientValue, ClientDone, SlotValue}
+use Rattle.client_core.specs.Kept.{kept_read, shown_read}
+use Rattle.client_core.specs.Showing.{ShowsHeld}
+use Rattle.client_core.specs.Slots.{put_read, put_write, with_slot, with_pursuit}
+
+-- ---- what it does
+
+-- a slot of a client, changed
+abbrev pub Changes : ClientValue → ℕ → (SlotValue → SlotValue) → ClientValue → Type 0
+Changes before slot change after =
+    (s : SlotValue) × (slice_get before.slots slot ≡ Some s) × (after ≡ with_slot before slot (change s))
+
+abbrev pub asks : Asking → SlotValue → SlotValue
+asks asked s = record s { reads = put_read (record { key = asked.key; replies = [] }) s.reads }
+
+abbrev pub pursues : TransactionValue → List ℕ → SlotValue → SlotValue
+pursues t signature s = with_pursuit s (pursued t signature)
+
+-- what it makes of the client that these show, at this place of the pen
+abbrev pub Leaves : Signing → Held → ClientValue → Work → ClientValue → Type 0
+Leaves signing held before Nothing after = ShowsHeld held after × (after.pen ≡ before.pen)
+Leaves signing held before (Ask slot asked) after = ShowsHeld held before × Changes before slot (asks asked) after
+Leaves signing held before (Pursue slot formed pending) after =
+    ShowsHeld held before
+    × Changes (record before { pen = after_one before.pen }) slot
+    (pursues formed (signing.gives before.pen.spent pending.words)) after
+
+-- what it signs, and sends with the signature
+abbrev pub words_by : Work → List (List ℕ)
+words_by Nothing = []
+words_by (Ask slot asked) = []
+words_by (Pursue slot formed pending) = pending.words ∷ []
+
+abbrev pub sealed_by : Signing → PenValue → Work → List Envelope
+sealed_by signing pen Nothing = []
+sealed_by signing pen (Ask slot asked) = []
+sealed_by signing pen (Pursue slot formed pending) = sealed_all (signing.gives pen.spent pending.words) pending
+
+abbrev pub pending_count : Work → ℕ
+pending_count Nothing = 0
+pending_count (Ask slot asked) = 0
+pending_count (Pursue slot formed pending) = length pending.frames.items
+
+abbrev pub word_count : Work → ℕ
+word_count Nothing = 0
+word_count (Ask slot asked) = 0
+word_count (Pursue slot formed pending) = 1
+
+pub record WillDo (signing : Signing) (held : Held) (before : ClientValue) (plan : ClientPlan) (d : ClientDone) :
+    Type 0 where
+  pub leaves : Leaves signing held before plan.work d.client
+  pub words : words_by plan.work ≡ map words_of d.signed
+  pub messages : plan.out.messages.items ++ sealed_by signing before.pen plan.work ≡ map framed d.sent
+
+-- the plan does what the answer says, and a refusal is the answer's, unless memory is wanting
+abbrev pub IsPlanned : Signing → Held → ClientValue → Result ClientPlan CallFault → Result ClientDone CallFault → Type 0
+IsPlanned signing held before (Ok plan) answer =
+    (d : ClientDone) × (answer ≡ Ok d) × WillDo signing held before plan d
+IsPlanned signing held before (Err e) answer = e ≢ NoMemory → answer ≡ Err e
+
+-- ---- what it needs
+
+abbrev pub HasReadRoom : Slot → Type 0
+HasReadRoom s = vec_len s.reads < vec_capacity s.reads
+
+abbrev pub CanWork : (size left : ℕ) → Held → Outbox → Work → Type 0
+CanWork size left held out Nothing = ⊤
+CanWork size left held out (Ask slot asked) =
+    (slot < length held.slots.items) × ForSome (slice_get held.slots.items slot) HasReadRoom
+    × (shown_read asked ≡ kept_read (record { key = asked.key; replies = [] }))
+CanWork size left held out (Pursue slot formed pending) =
+    (slot < length held.slots.items) × HasGoodForm formed × CanSign size left out pending
+
+pub record CanPerform (size left : ℕ) (held : Held) (plan : ClientPlan) : Type 0 where
+  pub work : CanWork size left held plan.out plan.work
+  pub unsigned : plan.out.signed.items ≡ []
+
+-- ---- a write, which is no plan
+
+abbrev pub writes : WritePart → SlotValue → SlotValue
+writes w s = record s { writes = put_write w s.writes }
+
+-- it is done exactly where the answer does it, or refused for the first fault, or memory is wanting
+abbrev pub Written : Held → ClientValue → Result ClientDone CallFault → Result (Unit {0}) CallFault → Type 0
+Written held before answer (Ok x) =
+    (d : ClientDone) × (answer ≡ Ok d) × ShowsHeld held d.client × (d.client.pen ≡ before.pen)
+Written held before answer (Err e) = e ≢ NoMemory → answer ≡ Err e

@@ -1,0 +1,227 @@
+//! A client: its calls, and its answers to frames.
+
+ghost use Rattle.std.specs.Prelude.{◌≡◌, ◌≤◌, ◌<◌, ◌++◌, ℕ, [], true, false, Some, OnErr, OnOk, IfOk, option_map, length, slice_get};
+ghost use Rattle.basil_types.specs.declared.party.Party.TheVariants as parties;
+ghost use Rattle.client_core.specs.Calls.{call_begin, call_prepare, call_read, call_write};
+ghost use Rattle.client_core.specs.Clients.{ClientDone, ClientValue, SlotValue, empty_client};
+ghost use Rattle.client_core.specs.Done.{Calls, SameOutbox, Sends, Shows};
+ghost use Rattle.client_core.specs.Forming.{shown_signed};
+ghost use Rattle.client_core.specs.Keeping.{told_state};
+ghost use Rattle.client_core.specs.Seats.{self_at};
+ghost use Rattle.client_core.specs.Slots as slots;
+ghost use Rattle.client_core.specs.Works.{CanPerform, WillDo, sealed_by, words_by};
+ghost use Rattle.node_steps.specs.Pens.{pen_value};
+
+use crate::append::append;
+use crate::commit::perform;
+use crate::fault::CallFault;
+use crate::held::Held;
+use crate::preparing::plan_prepare;
+use crate::reading::plan_read;
+use crate::seat::Seat;
+use crate::state::ReadState;
+use crate::work::ClientPlan;
+use basil_types::cluster::Cluster;
+use basil_types::memory::NoMemory;
+use basil_types::outbox::Outbox;
+use basil_types::transaction::Transaction;
+use keyring::signer::Signer;
+use keyring::verifier::Verifier;
+use node_steps::pending::make_room;
+use std::alloc::Global;
+
+/// A client with the keyring by which it tests signatures and the pen by which it signs.
+#[derive(Drop)]
+pub struct Client<V: Verifier, S: Signer> {
+    seat: Seat,
+    keys: V,
+    pen: S,
+    held: Held,
+}
+
+impl<V: Verifier, S: Signer> Client<V, S> {
+    /// A client of this number, 1 to 16, before its first call.
+    pub fn new(alloc: Global, cluster: Cluster, number: u8, keys: V, signer: S) -> Client<V, S>
+        requires number { (1 ≤ number) × (number ≤ 16) }
+        requires party { (S.fixed signer).party ≡ parties.Client number }
+        ensures shown { let pen = pen_value (S.spent signer) (S.left_of signer) in
+            Shows result.held pen (empty_client pen) }
+        ensures cluster { result.seat.cluster ≡ cluster }
+        ensures number { result.seat.number ≡ number }
+        ensures keys { result.keys ≡ keys }
+        ensures signer { result.pen ≡ signer }
+    {
+        Client {
+            seat: Seat {
+                cluster,
+                number,
+                alloc,
+            },
+            keys,
+            pen: signer,
+            held: Held::new(alloc),
+        }
+    }
+
+    /// Begins a transaction of this time, above all times before, and answers its slot.
+    pub fn begin(&mut self, time: u64) -> Result<u32, CallFault>
+        ensures answer { (v : ClientValue) →
+            Shows self.old.held (pen_value (S.spent self.old.pen) (S.left_of self.old.pen)) v →
+            Calls result (call_begin v time)
+            (λ d. Shows self.new.held (pen_value (S.spent self.new.pen) (S.left_of self.new.pen)) d.client) }
+        ensures slot { (v : ClientValue) →
+            Shows self.old.held (pen_value (S.spent self.old.pen) (S.left_of self.old.pen)) v →
+            IfOk result (λ slot. slot ≡ length v.slots) }
+        ensures as_before { (v : ClientValue) →
+            Shows self.old.held (pen_value (S.spent self.old.pen) (S.left_of self.old.pen)) v →
+            OnErr result (Shows self.new.held (pen_value (S.spent self.new.pen) (S.left_of self.new.pen)) v) }
+    {
+        match self.held.begin(self.seat.alloc, time) {
+            Ok(slot) => Ok(slot),
+            Err(fault) => Err(fault),
+        }
+    }
+
+    /// Does what was planned. Takes no memory.
+    fn commit(&mut self, plan: ClientPlan) -> Outbox
+        requires { CanPerform (S.fixed self.old.pen).size (S.left_of self.old.pen) self.old.held plan }
+        ensures client { (v : ClientValue) (d : ClientDone) →
+            Shows self.old.held (pen_value (S.spent self.old.pen) (S.left_of self.old.pen)) v →
+            WillDo (S.fixed self.old.pen) self.old.held v plan d →
+            Shows self.new.held (pen_value (S.spent self.new.pen) (S.left_of self.new.pen)) d.client }
+        ensures messages { result.messages.items ≡ plan.out.messages.items ++ sealed_by (S.fixed self.old.pen)
+            (pen_value (S.spent self.old.pen) (S.left_of self.old.pen)) plan.work }
+        ensures words { result.signed.items ≡ words_by plan.work }
+    {
+        let ClientPlan { work, out } = plan;
+        let mut out = out;
+        perform(&mut self.held, &mut self.pen, &self.seat, &mut out, work);
+        out
+    }
+
+    /// Does what was planned, with what it sends appended to an outbox; or memory is wanting, and the plan is let go.
+    fn finish(&mut self, plan: ClientPlan, out: &mut Outbox) -> Result<(), NoMemory>
+        requires { CanPerform (S.fixed self.old.pen).size (S.left_of self.old.pen) self.old.held plan }
+        ensures done { (v : ClientValue) (d : ClientDone) →
+            Shows self.old.held (pen_value (S.spent self.old.pen) (S.left_of self.old.pen)) v →
+            WillDo (S.fixed self.old.pen) self.old.held v plan d → OnOk result (
+            Shows self.new.held (pen_value (S.spent self.new.pen) (S.left_of self.new.pen)) d.client
+            × Sends out.old out.new d) }
+        ensures as_before { OnErr result (self.new.held ≡ self.old.held) }
+        ensures same_pen { OnErr result (self.new.pen ≡ self.old.pen) }
+        ensures same_outbox { OnErr result (SameOutbox out.old out.new) }
+    {
+        let Some(messages) = plan.message_count() else {
+            return Err(NoMemory);
+        };
+        make_room(out, messages, plan.word_count())?;
+        let more = self.commit(plan);
+        append(out, more);
+        Ok(())
+    }
+
+    /// Reads a key of an open transaction: every replica of the key's shard is asked, unless the key was written or
+    /// asked for.
+    pub fn read(&mut self, slot: u32, key: &[u8], out: &mut Outbox) -> Result<(), CallFault>
+        requires { slot < length self.old.held.slots.items }
+        ensures answer { (v : ClientValue) →
+            Shows self.old.held (pen_value (S.spent self.old.pen) (S.left_of self.old.pen)) v → Calls result
+            (call_read (self_at self.old.seat (V.accepted self.old.keys) (S.fixed self.old.pen)) v slot key.now)
+            (λ d. Shows self.new.held (pen_value (S.spent self.new.pen) (S.left_of self.new.pen)) d.client
+            × Sends out.old out.new d) }
+        ensures as_before { (v : ClientValue) →
+            Shows self.old.held (pen_value (S.spent self.old.pen) (S.left_of self.old.pen)) v →
+            OnErr result (Shows self.new.held (pen_value (S.spent self.new.pen) (S.left_of self.new.pen)) v) }
+        ensures same_outbox { OnErr result (SameOutbox out.old out.new) }
+    {
+        match plan_read(&mut self.held, &self.seat, slot as usize, key) {
+            Ok(plan) => match self.finish(plan, out) {
+                Ok(()) => Ok(()),
+                Err(_) => Err(CallFault::NoMemory),
+            },
+            Err(fault) => Err(fault),
+        }
+    }
+
+    /// Forms and signs an open transaction, and sends it to every replica of every involved shard.
+    pub fn prepare(&mut self, slot: u32, out: &mut Outbox) -> Result<(), CallFault>
+        requires { slot < length self.old.held.slots.items }
+        ensures answer { (v : ClientValue) →
+            Shows self.old.held (pen_value (S.spent self.old.pen) (S.left_of self.old.pen)) v → Calls result
+            (call_prepare (self_at self.old.seat (V.accepted self.old.keys) (S.fixed self.old.pen)) v slot)
+            (λ d. Shows self.new.held (pen_value (S.spent self.new.pen) (S.left_of self.new.pen)) d.client
+            × Sends out.old out.new d) }
+        ensures as_before { (v : ClientValue) →
+            Shows self.old.held (pen_value (S.spent self.old.pen) (S.left_of self.old.pen)) v →
+            OnErr result (Shows self.new.held (pen_value (S.spent self.new.pen) (S.left_of self.new.pen)) v) }
+        ensures same_outbox { OnErr result (SameOutbox out.old out.new) }
+    {
+        match plan_prepare(&self.held, &self.seat, &self.pen, slot as usize) {
+            Ok(plan) => match self.finish(plan, out) {
+                Ok(()) => Ok(()),
+                Err(_) => Err(CallFault::NoMemory),
+            },
+            Err(fault) => Err(fault),
+        }
+    }
+
+    /// Gives a key of an open transaction a value.
+    pub fn write(&mut self, slot: u32, key: &[u8], value: &[u8]) -> Result<(), CallFault>
+        requires { slot < length self.old.held.slots.items }
+        ensures answer { (v : ClientValue) →
+            Shows self.old.held (pen_value (S.spent self.old.pen) (S.left_of self.old.pen)) v → Calls result
+            (call_write v slot (record { key = key.now; value = value.now; deletes = false }))
+            (λ d. Shows self.new.held (pen_value (S.spent self.new.pen) (S.left_of self.new.pen)) d.client) }
+        ensures as_before { (v : ClientValue) →
+            Shows self.old.held (pen_value (S.spent self.old.pen) (S.left_of self.old.pen)) v →
+            OnErr result (Shows self.new.held (pen_value (S.spent self.new.pen) (S.left_of self.new.pen)) v) }
+    {
+        match self
+            .held
+            .write(self.seat.alloc, slot as usize, key, value, false)
+        {
+            Ok(()) => Ok(()),
+            Err(fault) => Err(fault),
+        }
+    }
+
+    /// Deletes a key in an open transaction.
+    pub fn delete(&mut self, slot: u32, key: &[u8]) -> Result<(), CallFault>
+        requires { slot < length self.old.held.slots.items }
+        ensures answer { (v : ClientValue) →
+            Shows self.old.held (pen_value (S.spent self.old.pen) (S.left_of self.old.pen)) v → Calls result
+            (call_write v slot (record { key = key.now; value = []; deletes = true }))
+            (λ d. Shows self.new.held (pen_value (S.spent self.new.pen) (S.left_of self.new.pen)) d.client) }
+        ensures as_before { (v : ClientValue) →
+            Shows self.old.held (pen_value (S.spent self.old.pen) (S.left_of self.old.pen)) v →
+            OnErr result (Shows self.new.held (pen_value (S.spent self.new.pen) (S.left_of self.new.pen)) v) }
+    {
+        match self
+            .held
+            .write(self.seat.alloc, slot as usize, key, &[], true)
+        {
+            Ok(()) => Ok(()),
+            Err(fault) => Err(fault),
+        }
+    }
+
+    /// What a key gives to a transaction.
+    pub fn value(&self, slot: u32, key: &[u8]) -> ReadState<'_>
+        requires { slot < length self.now.held.slots.items }
+        ensures { (v : ClientValue) (s : SlotValue) →
+            Shows self.now.held (pen_value (S.spent self.now.pen) (S.left_of self.now.pen)) v →
+            slice_get v.slots slot ≡ Some s → told_state result ≡ slots.value self.now.seat.cluster s key.now }
+    {
+        self.held.slots[slot as usize].value(&self.seat.cluster, key)
+    }
+
+    /// The transaction in a slot, with its client's signature. None exactly before it is formed.
+    pub fn formed(&self, slot: u32) -> Option<(&Transaction, &[u8])>
+        requires { slot < length self.now.held.slots.items }
+        ensures { (v : ClientValue) (s : SlotValue) →
+            Shows self.now.held (pen_value (S.spent self.now.pen) (S.left_of self.now.pen)) v →
+            slice_get v.slots slot ≡ Some s → option_map shown_signed result ≡ slots.formed_in s }
+    {
+        self.held.slots[slot as usize].formed_parts()
+    }
+}

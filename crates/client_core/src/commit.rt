@@ -1,0 +1,47 @@
+//! Doing what was planned.
+
+ghost use Rattle.std.specs.Prelude.{◌≡◌, ◌++◌};
+ghost use Rattle.client_core.specs.Clients.{ClientValue};
+ghost use Rattle.client_core.specs.Showing.{ShowsHeld};
+ghost use Rattle.client_core.specs.Works.{CanWork, Leaves, sealed_by, words_by};
+ghost use Rattle.node_steps.specs.Pens.{pen_value};
+
+use crate::held::Held;
+use crate::seat::Seat;
+use crate::work::Work;
+use basil_types::bytes::Bytes;
+use basil_types::outbox::Outbox;
+use keyring::signer::Signer;
+use node_steps::pending::sign;
+
+/// Does what was planned, and sends what waits for a signature. Takes no memory.
+pub(crate) fn perform<S: Signer>(
+    held: &mut Held,
+    pen: &mut S,
+    seat: &Seat,
+    out: &mut Outbox,
+    work: Work,
+)
+    requires { CanWork (S.fixed pen.old).size (S.left_of pen.old) held.old out.old work }
+    ensures held { (v after : ClientValue) → v.pen ≡ pen_value (S.spent pen.old) (S.left_of pen.old) →
+        Leaves (S.fixed pen.old) held.old v work after → ShowsHeld held.new after }
+    ensures pen { (v after : ClientValue) → v.pen ≡ pen_value (S.spent pen.old) (S.left_of pen.old) →
+        Leaves (S.fixed pen.old) held.old v work after → after.pen ≡ pen_value (S.spent pen.new) (S.left_of pen.new) }
+    ensures messages { out.new.messages.items ≡ out.old.messages.items
+        ++ sealed_by (S.fixed pen.old) (pen_value (S.spent pen.old) (S.left_of pen.old)) work }
+    ensures words { out.new.signed.items ≡ out.old.signed.items ++ words_by work }
+    ensures fixed { S.fixed pen.new ≡ S.fixed pen.old }
+{
+    match work {
+        Work::Nothing => {}
+        Work::Ask { slot, asked } => held.ask(slot, asked),
+        Work::Pursue {
+            slot,
+            formed,
+            pending,
+        } => {
+            let signature = Bytes::from_vec(sign(pen, pending, out));
+            held.pursue(seat, slot, formed, signature);
+        }
+    }
+}

@@ -1,0 +1,6 @@
+pub mod Walks
+pub mod VoteLaws
+pub mod ReplyLaws
+pub mod TakeLaws
+pub mod MarkLaws
+pub mod RefuseLaws

@@ -1,0 +1,12 @@
+use Rattle.std.proofs.Common.{ap, ◌∙◌}
+use Rattle.std.specs.List.{list_all}
+use Rattle.client_recover.specs.Kept.{has_all}
+use Rattle.client_recover.proofs.TakeLaws.{voted_stands}
+use Rattle.client_recover.proofs.pursuit.Pursuit.all_voted.Goals as goal
+
+pub returns : goal.returns
+returns c p h =
+    let u = c.args.self.now in
+    c.each_has_all.ensures
+    ∙ ap (λ s. list_all (has_all u.cluster c.as_slice-2.result.now) s) c.as_slice.ensures ∙ ap (λ vs. list_all (has_all u.cluster vs) u.shards) c.as_slice-2.ensures.value
+    ∙ voted_stands u p h u.involves

@@ -1,0 +1,16 @@
+use Rattle.std.proofs.Common.{refl, sym, arith}
+use Rattle.client_recover.proofs.pursuit.Pursuit.new.Goals as goal
+
+pub returns-clause-stands : goal.returns-clause-stands
+returns-clause-stands c second =
+    record { transaction = refl; signature = refl; votes = c.new.ensures.items; logs = c.new-2.ensures.holds; outcome = sym c.nothing_decided.ensures }
+
+pub invariant_of-result : goal.invariant_of-result
+invariant_of-result c =
+    record {
+      form = c.requires.form;
+      signed = c.requires.signature;
+      named = c.own_id-id.ensures;
+      involves = c.own_shards-shards.ensures;
+      few = omega (arith, c.new.ensures.len, c.new-2.ensures.count);
+    }
