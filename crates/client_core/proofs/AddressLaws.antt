@@ -1,5 +1,6 @@
 -- To whom a client sends, and what is sent to them.
-use Rattle.std.proofs.Common.{◌≡◌, ◌∙◌, ℕ, zero, suc, ◌+◌, ◌≤◌, Bool, true, false, cond, List, [], ◌∷◌, ◌++◌, length, map, take, refl, sym, ap, add-one, arith}
+use Rattle.std.proofs.Common.{◌≡◌, ◌∙◌, ℕ, zero, suc, ◌+◌, ◌≤◌, Bool, true, false, cond, List, [], ◌∷◌, ◌++◌, length, map}
+use Rattle.std.proofs.Common.{take, refl, sym, ap, add-one, arith}
 use Rattle.std.specs.Prelude.{Option, Some, None, slice_get}
 use Rattle.std.specs.List.{flat_map}
 use Rattle.std.proofs.lemmas.Grind.{flat_map-append}
@@ -74,7 +75,8 @@ each_framed : (m : MessageValue) (f : ℕ → Party) (rs : List ℕ)
 each_framed m f [] = refl
 each_framed m f (r ∷ rs) = ap (λ l. enveloped (spelling m) (f r) ∷ l) (each_framed m f rs)
 
-pub shard_framed : (c : Setting) (m : MessageValue) (shard : ℕ) → map framed (to_shard c m shard) ≡ map (enveloped (spelling m)) (parties_of c shard)
+pub shard_framed : (c : Setting) (m : MessageValue) (shard : ℕ)
+    → map framed (to_shard c m shard) ≡ map (enveloped (spelling m)) (parties_of c shard)
 shard_framed c m shard = each_framed m (λ r. Replica shard r) (all_replicas c)
 
 all_framed : (c : Setting) (m : MessageValue) (shards : List ℕ)
@@ -91,8 +93,8 @@ pub involved_framed : (c : Setting) (t : TransactionValue) (m : MessageValue)
 involved_framed c t m = all_framed c m (involved c t)
 
 -- what is sent to these parties alone
-pub sent_alone : (out new : List Envelope) (frame spelled : List ℕ) (parties whom : List Party) → new ≡ out ++ map (enveloped frame) parties → out ≡ []
-    → frame ≡ spelled → parties ≡ whom → new ≡ map (enveloped spelled) whom
+pub sent_alone : (out new : List Envelope) (frame spelled : List ℕ) (parties whom : List Party)
+    → new ≡ out ++ map (enveloped frame) parties → out ≡ [] → frame ≡ spelled → parties ≡ whom → new ≡ map (enveloped spelled) whom
 sent_alone out new frame spelled parties whom is none same to =
     is ∙ ap (λ l. l ++ map (enveloped frame) parties) none ∙ ap (λ f. map (enveloped f) parties) same ∙ ap (map (enveloped spelled)) to
 
@@ -101,3 +103,9 @@ pub sent_shard : (c : Setting) (m : MessageValue) (shard : ℕ) (out new : List 
     → new ≡ map framed (to_shard c m shard)
 sent_shard c m shard out new frame parties is none same to =
     sent_alone out new frame (spelling m) parties (parties_of c shard) is none same to ∙ sym (shard_framed c m shard)
+
+pub sent_involved : (c : Setting) (t : TransactionValue) (m : MessageValue) (out new : List Envelope) (frame : List ℕ)
+    (parties : List Party) → new ≡ out ++ map (enveloped frame) parties → out ≡ [] → frame ≡ spelling m
+    → parties ≡ parties_in c t → new ≡ map framed (to_involved c t m)
+sent_involved c t m out new frame parties is none same to =
+    sent_alone out new frame (spelling m) parties (parties_in c t) is none same to ∙ sym (involved_framed c t m)

@@ -1,10 +1,12 @@
 -- Changes of one slot.
 use Rattle.std.proofs.Common.{◌≡◌, ◌∙◌, ℕ, zero, suc, ◌<◌, List, [], ◌∷◌, ◌++◌, length, map, refl, sym, ap, subst, arith}
-use Rattle.std.specs.Prelude.{Option, Some, None, slice_get, slice_set, slice_index_or}
+use Rattle.std.specs.Prelude.{Option, Some, None, option_map, slice_get, slice_set, slice_index_or}
 use Rattle.std.proofs.lemmas.Option.{same_Some}
 use Rattle.basil_types.specs.declared.transaction.parts.WritePart.{WritePart}
+use Rattle.basil_types.specs.Setting.{Setting}
 use Rattle.node_steps.specs.Lists.{by_key, put}
 use Rattle.client_core.specs.declared.asking.Asking.{Asking}
+use Rattle.client_core.specs.declared.held.Formed.{Formed}
 use Rattle.client_core.specs.declared.held.Held.{Held}
 use Rattle.client_core.specs.declared.held.Slot.{Slot}
 use Rattle.client_core.specs.declared.fault.CallFault.{CallFault}
@@ -14,12 +16,14 @@ use Rattle.node_steps.specs.Refusing.{unless}
 use Rattle.client_core.specs.Calls.{begun_slot, begin_done, by_slot, call_read, call_write, read_at, read_done, write_fault, write_done}
 use Rattle.client_core.specs.Clients.{AskedRead, SlotValue, ClientSelf, ClientValue, quiet}
 use Rattle.client_core.specs.Kept.{KeptRead, kept_read, shown_read}
-use Rattle.client_core.specs.Showing.{KeepsReads, ShowsFormed, ShowsSlot, ShowsSlots, ShowsHeld, slot_value}
+use Rattle.client_core.specs.Clusters.{AreOf, IsOf}
+use Rattle.client_core.specs.Showing.{KeepsReads, SameHeld, ShowsFormed, ShowsSlot, ShowsSlots, ShowsHeld, slot_value}
 use Rattle.client_core.specs.Slots.{put_read, with_pursuit}
-use Rattle.client_core.specs.Works.{Changes}
+use Rattle.client_core.specs.Forming.{started}
+use Rattle.client_core.specs.Works.{Changes, starts, with_new}
 use Rattle.client_recover.specs.Taken.{PursuitValue}
 use Rattle.client_core.proofs.PlacingLaws.{put_map}
-use Rattle.client_core.proofs.ShowingLaws.{slots_at, slots_set, slots_push}
+use Rattle.client_core.proofs.ShowingLaws.{formed_started, slots_at, slots_set, slots_push}
 
 pub got : {A : Type 0} (xs : List A) (i : ℕ) (x : A) → i < length xs → x ≡ slice_index_or xs i x → slice_get xs i ≡ Some x
 got [] i x h e = absurd (omega arith)
@@ -41,8 +45,8 @@ set_own (y ∷ ys) (suc i) x e = ap (λ l. y ∷ l) (set_own ys i x e)
 abbrev kept_key : KeptRead → List ℕ
 kept_key k = k.key
 
-pub put_keeps : (asked : List Asking) (reads : List AskedRead) (a : Asking) (r : AskedRead) → KeepsReads asked reads → shown_read a ≡ kept_read r
-    → KeepsReads (put (by_key (λ (x : Asking). x.key)) a asked) (put_read r reads)
+pub put_keeps : (asked : List Asking) (reads : List AskedRead) (a : Asking) (r : AskedRead) → KeepsReads asked reads
+    → shown_read a ≡ kept_read r → KeepsReads (put (by_key (λ (x : Asking). x.key)) a asked) (put_read r reads)
 put_keeps asked reads a r keeps same =
     put_map shown_read kept_key a asked
     ∙ ap (λ k. put (by_key kept_key) k (map shown_read asked)) same
@@ -72,18 +76,68 @@ slot_writes slot new s h same w is =
       formed = subst (λ (x : Slot). ShowsFormed x.formed s.pursuit) (sym same) h.formed;
     }
 
-pub slot_pursues : (slot new : Slot) (s : SlotValue) (p : PursuitValue) → ShowsSlot slot s → new ≡ record slot { formed = new.formed }
-    → ShowsFormed new.formed (Some p) → ShowsSlot new (with_pursuit s p)
-slot_pursues slot new s p h same formed =
+pub slot_formed : (slot new : Slot) (s : SlotValue) (p : Option PursuitValue) → ShowsSlot slot s
+    → new ≡ record slot { formed = new.formed } → ShowsFormed new.formed p → ShowsSlot new (record s { pursuit = p })
+slot_formed slot new s p h same formed =
     record {
       value =
-          ap (λ (t : SlotValue). let u : SlotValue = with_pursuit t p in u) h.value
-          ∙ ap (λ (x : Slot). slot_value x s.reads (Some p)) (sym same);
+          ap (λ (t : SlotValue). let u : SlotValue = record t { pursuit = p } in u) h.value
+          ∙ ap (λ (x : Slot). slot_value x s.reads p) (sym same);
       reads = subst (λ (x : Slot). KeepsReads x.reads.items s.reads) (sym same) h.reads;
       formed = formed;
     }
 
+pub slot_pursues : (slot new : Slot) (s : SlotValue) (p : PursuitValue) → ShowsSlot slot s → new ≡ record slot { formed = new.formed }
+    → ShowsFormed new.formed (Some p) → ShowsSlot new (with_pursuit s p)
+slot_pursues slot new s p h same formed = slot_formed slot new s (Some p) h same formed
+
+pub slot_starts : (slot new : Slot) (s : SlotValue) → ShowsSlot slot s
+    → new ≡ record slot { formed = option_map started slot.formed } → ShowsSlot new (starts s)
+slot_starts slot new s h same =
+    let formed : new.formed ≡ option_map started slot.formed = ap (λ (x : Slot). x.formed) same in
+    slot_formed slot new s (starts s).pursuit h
+    (same ∙ ap (λ (f : Option Formed). let x : Slot = record slot { formed = f } in x) (sym formed))
+    (subst (λ (f : Option Formed). ShowsFormed f (starts s).pursuit) (sym formed) (formed_started slot.formed s.pursuit h.formed))
+
+of_started : (c : Setting) (o : Option Formed) → IsOf c o → IsOf c (option_map started o)
+of_started c None h f e = absurd cc
+of_started c (Some g) h f e = subst (λ (x : Formed). x.pursuit.cluster ≡ c) (same_Some (started g) f e) (h g refl)
+
+pub started_of : (c : Setting) (slot new : Slot) → new ≡ record slot { formed = option_map started slot.formed }
+    → IsOf c slot.formed → IsOf c new.formed
+started_of c slot new same of =
+    subst (IsOf c) (sym (ap (λ (x : Slot). x.formed) same)) (of_started c slot.formed of)
+
+-- ---- the cluster
+
+pub are_set : (c : Setting) (slots : List Slot) (i : ℕ) (slot changed : Slot) → slice_get slots i ≡ Some slot
+    → (IsOf c slot.formed → IsOf c changed.formed) → AreOf c slots → AreOf c (slice_set slots i changed)
+are_set c [] i slot changed at kept h j y e = absurd cc
+are_set c (x ∷ xs) zero slot changed at kept h zero y e =
+    subst (λ (z : Slot). IsOf c z.formed) (same_Some changed y e) (kept (h 0 slot at))
+are_set c (x ∷ xs) zero slot changed at kept h (suc j) y e = h (suc j) y e
+are_set c (x ∷ xs) (suc i) slot changed at kept h zero y e = h 0 y e
+are_set c (x ∷ xs) (suc i) slot changed at kept h (suc j) y e =
+    are_set c xs i slot changed at kept (λ k z d. h (suc k) z d) j y e
+
+pub are_pushed : (c : Setting) (slots : List Slot) (slot : Slot) → AreOf c slots → IsOf c slot.formed
+    → AreOf c (slots ++ slot ∷ [])
+are_pushed c [] slot h one zero y e = subst (λ (z : Slot). IsOf c z.formed) (same_Some slot y e) one
+are_pushed c [] slot h one (suc j) y e = absurd cc
+are_pushed c (x ∷ xs) slot h one zero y e = h 0 y e
+are_pushed c (x ∷ xs) slot h one (suc j) y e = are_pushed c xs slot (λ k z d. h (suc k) z d) one j y e
+
+pub none_of : (c : Setting) (o : Option Formed) → o ≡ None → IsOf c o
+none_of c o none f e = let z : None ≡ Some f = sym none ∙ e in absurd cc
+
+pub some_of : (c : Setting) (f : Formed) → f.pursuit.cluster ≡ c → IsOf c (Some f)
+some_of c f is g e = subst (λ (x : Formed). x.pursuit.cluster ≡ c) (same_Some f g e) is
+
 -- ---- all slots
+
+pub same_held : (old new : Held) (v : ClientValue) → SameHeld old new → ShowsHeld old v → ShowsHeld new v
+same_held old new v same h =
+    record { last = same.0 ∙ h.last; slots = subst (λ l. ShowsSlots l v.slots) (sym same.1) h.slots }
 
 module _ (old new : Held) (i : ℕ) (slot changed : Slot) (at : slice_get old.slots.items i ≡ Some slot)
     (last : new.last ≡ old.last) (set : new.slots.items ≡ slice_set old.slots.items i changed) where
@@ -114,9 +168,20 @@ module _ (old new : Held) (i : ℕ) (slot changed : Slot) (at : slice_get old.sl
 
 -- ---- one slot more
 
+pub held_more : (old new : Held) (slot : Slot) (v after : ClientValue) (s : SlotValue) → ShowsHeld old v → after ≡ with_new v s
+    → new.last ≡ old.last → new.slots.items ≡ old.slots.items ++ slot ∷ [] → ShowsSlot slot s → ShowsHeld new after
+held_more old new slot v after s h is last items one =
+    subst (ShowsHeld new) (sym is)
+    (record {
+      last = last ∙ h.last;
+      slots =
+          subst (λ l. ShowsSlots l (v.slots ++ s ∷ [])) (sym items)
+          (slots_push old.slots.items v.slots slot s h.slots one);
+    })
+
 pub begun_shows : (old new : Held) (slot : Slot) (v : ClientValue) (time : ℕ) → ShowsHeld old v → new.last ≡ time
-    → new.slots.items ≡ old.slots.items ++ slot ∷ [] → slot_value slot [] None ≡ begun_slot time → slot.reads.items ≡ [] → slot.formed ≡ None
-    → ShowsHeld new (begin_done v time).client
+    → new.slots.items ≡ old.slots.items ++ slot ∷ [] → slot_value slot [] None ≡ begun_slot time → slot.reads.items ≡ []
+    → slot.formed ≡ None → ShowsHeld new (begin_done v time).client
 begun_shows old new slot v time h last items value reads formed =
     let one : ShowsSlot slot (begun_slot time) =
     record {

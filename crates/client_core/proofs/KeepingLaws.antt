@@ -38,7 +38,8 @@ two : (key : List ℕ) (v : Version) (p : Option TransactionValue) (later : Opti
 two key v None later rest h = h
 two key v (Some t) later rest h = one key v t later rest h (same_version (version_of t) v)
 
-three : (key : List ℕ) (v : Version) (t : TransactionValue) (p : Option TransactionValue) (later : Option TransactionValue) (rest : List Carried) →
+three : (key : List ℕ) (v : Version) (t : TransactionValue) (p : Option TransactionValue) (later : Option TransactionValue)
+    (rest : List Carried) →
     option_and_then (write_of key) later ≡ write_in (find (is_of_version v) rest) →
     (b : Bool) →
     option_and_then (write_of key) (or_else (or_else (cond b (Some t) None) (of_version v p)) later)
@@ -46,7 +47,8 @@ three : (key : List ℕ) (v : Version) (t : TransactionValue) (p : Option Transa
 three key v t p later rest h true = refl
 three key v t p later rest h false = two key v p later rest h
 
-both : (key : List ℕ) (v : Version) (c : Option CommittedValue) (p : Option TransactionValue) (later : Option TransactionValue) (rest : List Carried) →
+both : (key : List ℕ) (v : Version) (c : Option CommittedValue) (p : Option TransactionValue)
+    (later : Option TransactionValue) (rest : List Carried) →
     option_and_then (write_of key) later ≡ write_in (find (is_of_version v) rest) →
     option_and_then (write_of key)
     (or_else (or_else (of_version v (option_map (λ (q : CommittedValue). q.transaction) c)) (of_version v p)) later)
@@ -75,7 +77,8 @@ chosen_law c r = ap (nat_le c.reads) (count_law _ r.replies)
 pub state_law : (c : Setting) (r : AskedRead) → state_kept c (kept_read r) ≡ read_state c r
 state_law c r =
     ap (λ b. if not b then Pending else if same_version (choice_of c r).version genesis then Absent
-    else found_by (choice_of c r).version (option_and_then (λ (x : Carried). x.write) (find (is_of_version (choice_of c r).version) (kept_read r).carried)))
+    else found_by (choice_of c r).version
+    (option_and_then (λ (x : Carried). x.write) (find (is_of_version (choice_of c r).version) (kept_read r).carried)))
     (chosen_law c r)
     ∙ ap (λ w. if not (is_chosen c r) then Pending else if same_version (choice_of c r).version genesis then Absent
     else found_by (choice_of c r).version w)

@@ -3,6 +3,17 @@ mod PlacingLaws
 mod ShowingLaws
 mod StepLaws
 mod HeldLaws
+mod FindingLaws
 mod AddressLaws
+mod PlanLaws
 mod ReadingLaws
 mod PreparingLaws
+mod RecoverLaws
+mod SendingLaws
+mod SettleLaws
+mod InvokeLaws
+mod StandingLaws
+mod FoundLaws
+mod ReplyingLaws
+mod TakingLaws
+mod AskLaws

@@ -53,7 +53,8 @@ each_fronted signature bytes [] = refl
 each_fronted signature bytes (p ∷ ps) = ap (λ l. enveloped (bytes ++ long_text signature) p ∷ l) (each_fronted signature bytes ps)
 
 pub pursue_sends : (c : Setting) (t : TransactionValue) (signature : List ℕ) (us : List Unsigned)
-    → EndsSigned (St1 (record { transaction = t; signature = signature })) (unsigned_st1 (record { transaction = t; signature = signature })) signature
+    → EndsSigned (St1 (record { transaction = t; signature = signature }))
+    (unsigned_st1 (record { transaction = t; signature = signature })) signature
     → map front_of us ≡ map (fronted (unsigned_st1 (record { transaction = t; signature = [] }))) (parties_in c t)
     → map (sealed signature) us ≡ map framed (to_involved c t (St1 (record { transaction = t; signature = signature })))
 pursue_sends c t signature us ends fronts =
@@ -63,15 +64,18 @@ pursue_sends c t signature us ends fronts =
     ∙ ap (λ b. map (enveloped b) (parties_in c t)) (sym ends)
     ∙ sym (involved_framed c t (St1 (record { transaction = t; signature = signature })))
 
-pub pursue_changes : (me : ClientSelf) (v : ClientValue) (i : ℕ) (s : SlotValue) (t : TransactionValue) (words : List ℕ) → slice_get v.slots i ≡ Some s
-    → words ≡ words_of (TransactionWords (id t))
+pub pursue_changes : (me : ClientSelf) (v : ClientValue) (i : ℕ) (s : SlotValue) (t : TransactionValue) (words : List ℕ)
+    → slice_get v.slots i ≡ Some s → words ≡ words_of (TransactionWords (id t))
     → Changes (record v { pen = after_one v.pen }) i (pursues t (me.signing.gives v.pen.spent words)) (pursue_done me v i s t).client
 pursue_changes me v i s t words at is =
-    (s, at, ap (λ w. let c : ClientValue = (record (record v { pen = after_one v.pen }) { slots = slice_set v.slots i (pursues t (me.signing.gives v.pen.spent w) s) }) in c) (sym is))
+    let after = λ (w : List ℕ). let one : ClientValue = record v { pen = after_one v.pen } in
+    let c : ClientValue = record one { slots = slice_set v.slots i (pursues t (me.signing.gives v.pen.spent w) s) } in c in
+    (s, at, ap after (sym is))
 
 -- ---- the answer by the slot
 
-module _ (held : Held) (me : ClientSelf) (v : ClientValue) (i : ℕ) (x : Slot) (h : ShowsHeld held v) (at : slice_get held.slots.items i ≡ Some x) where
+module _ (held : Held) (me : ClientSelf) (v : ClientValue) (i : ℕ) (x : Slot) (h : ShowsHeld held v)
+    (at : slice_get held.slots.items i ≡ Some x) where
   pub prepare_answers : (fault : Option CallFault)
       → ((reads : List AskedRead) (p : Option PursuitValue) → KeepsReads x.reads.items reads → ShowsFormed x.formed p
       → prepare_fault me v (slot_value x reads p) ≡ fault)
@@ -83,12 +87,14 @@ module _ (held : Held) (me : ClientSelf) (v : ClientValue) (i : ℕ) (x : Slot) 
         found.1,
         found.2,
         ap (by_slot v (λ t. unless (prepare_fault me v t) (prepare_done me v i t))) found.1
-            ∙ ap (λ f. unless f (prepare_done me v i s)) (ap (prepare_fault me v) (found.2).value ∙ each s.reads s.pursuit (found.2).reads (found.2).formed),
+            ∙ ap (λ f. unless f (prepare_done me v i s))
+            (ap (prepare_fault me v) (found.2).value ∙ each s.reads s.pursuit (found.2).reads (found.2).formed),
       )
 
   pub formed_same_as : (s : SlotValue) (t : TransactionValue) → ShowsSlot x s
       → t ≡ built x.time me.number (map (as_read me.cluster) s.reads) x.writes.items → t ≡ formed me s
-  formed_same_as s t shows is = is ∙ sym (ap (λ (u : SlotValue). built u.time me.number (map (as_read me.cluster) s.reads) u.writes) shows.value)
+  formed_same_as s t shows is =
+      is ∙ sym (ap (λ (u : SlotValue). built u.time me.number (map (as_read me.cluster) s.reads) u.writes) shows.value)
 
 -- what is the same as something equal
 pub if_ok_from : {A E : Type 0} (r : Result A E) (x y : A) → x ≡ y → IfOk r (λ u. u ≡ x) → IfOk r (λ u. u ≡ y)

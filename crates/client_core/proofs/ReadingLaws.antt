@@ -51,8 +51,8 @@ ask_sends me v i x s key sent h is =
     ∙ ap (λ t. map framed (to_shard me.cluster (Read (record { key = key; time = t; client = me.number })) (shard_of me.cluster key)))
     (sym (ap (λ (y : SlotValue). y.time) h.value))
 
-pub nothing_done : (signing : Signing) (held : Held) (v : ClientValue) (plan : ClientPlan) → plan.work ≡ Nothing → plan.out.messages.items ≡ []
-    → ShowsHeld held v → WillDo signing held v plan (quiet v)
+pub nothing_done : (signing : Signing) (held : Held) (v : ClientValue) (plan : ClientPlan) → plan.work ≡ Nothing
+    → plan.out.messages.items ≡ [] → ShowsHeld held v → WillDo signing held v plan (quiet v)
 nothing_done signing held v plan work none h =
     record {
       leaves = subst (λ w. Leaves signing held v w v) (sym work) (h, refl);

@@ -8,16 +8,21 @@ use Rattle.basil_types.proofs.Walks.{position-cons}
 use Rattle.basil_types.specs.Setting.{Setting}
 use Rattle.client_core.specs.declared.asking.Asking.{Asking}
 use Rattle.client_core.specs.declared.held.Formed.{Formed}
+use Rattle.client_core.specs.declared.held.Held.{Held}
 use Rattle.client_core.specs.declared.held.Slot.{Slot}
-use Rattle.client_core.specs.Clients.{AskedRead, SlotValue}
+use Rattle.client_core.specs.Clients.{AskedRead, ClientValue, SlotValue}
 use Rattle.client_core.specs.Keeping.{state_kept}
 use Rattle.client_core.specs.Kept.{KeptRead, kept_read, shown_read}
-use Rattle.client_core.specs.Showing.{KeepsReads, ShowsFormed, ShowsSlot, ShowsSlots, slot_value}
+use Rattle.client_core.specs.Forming.{started}
+use Rattle.client_core.specs.Showing.{KeepsReads, ShowsFormed, ShowsHeld, ShowsPursuit, ShowsSlot, ShowsSlots, StandsNow, slot_value}
 use Rattle.client_core.specs.Slots.{ReadStateValue, is_of, read_state, value, own_state, write_in}
 use Rattle.client_core.proofs.KeepingLaws.{state_law}
+use Rattle.client_core.proofs.StandingLaws.{now_signature, now_transaction}
+use Rattle.client_recover.specs.declared.pursuit.Pursuit.{Pursuit}
 use Rattle.basil_types.specs.Transaction.{TransactionValue}
 use Rattle.frame_views.specs.Values.{SignedValue}
 use Rattle.client_recover.specs.Pursuits.{signed_part}
+use Rattle.client_recover.specs.Standing.{StandsFor, GoesBackTo}
 use Rattle.client_recover.specs.Taken.{PursuitValue}
 
 abbrev signed : TransactionValue → List ℕ → SignedValue
@@ -95,8 +100,10 @@ state_or c o None = refl
 state_or c o (Some r) = state_law c r
 
 -- what the kept reads tell, or else the writes
-pub value_law : (c : Setting) (slot : Slot) (reads : List AskedRead) (p : Option PursuitValue) (key : List ℕ) → KeepsReads slot.reads.items reads
-    → option_map_or (state_kept c) (option_map shown_read (find (λ (a : Asking). bytes_eq a.key key) slot.reads.items)) (own_state (write_in key slot.writes.items))
+pub value_law : (c : Setting) (slot : Slot) (reads : List AskedRead) (p : Option PursuitValue) (key : List ℕ)
+    → KeepsReads slot.reads.items reads
+    → option_map_or (state_kept c) (option_map shown_read (find (λ (a : Asking). bytes_eq a.key key) slot.reads.items))
+    (own_state (write_in key slot.writes.items))
     ≡ value c (slot_value slot reads p) key
 value_law c slot reads p key keeps =
     ap (λ o. option_map_or (state_kept c) o (own_state (write_in key slot.writes.items))) (asked_same slot.reads.items reads key keeps)
@@ -104,13 +111,72 @@ value_law c slot reads p key keeps =
 
 -- ---- what is formed
 
+pub shown_transaction : (f : Formed) (p : PursuitValue) → ShowsPursuit f p → f.pursuit.transaction ≡ p.transaction
+shown_transaction f p h = now_transaction f.held_back f.pursuit p h.stands
+
+pub shown_signature : (f : Formed) (p : PursuitValue) → ShowsPursuit f p → f.pursuit.signature ≡ p.signature
+shown_signature f p h = now_signature f.held_back f.pursuit p h.stands
+
+pub shown_stands : (f : Formed) (p : PursuitValue) → f.held_back ≡ false → ShowsPursuit f p → StandsFor f.pursuit p
+shown_stands f p none h = subst (λ (b : Bool). StandsNow b f.pursuit p) none h.stands
+
+-- what a formed transaction's slot shows, and one that isn't formed
+pub formed_some : (f : Formed) (o : Option PursuitValue) → ShowsFormed (Some f) o
+    → (p : PursuitValue) × (o ≡ Some p) × ShowsPursuit f p
+formed_some f None h = absurd h
+formed_some f (Some p) h = (p, refl, h)
+
+pub formed_none : (o : Option PursuitValue) → ShowsFormed None o → o ≡ None
+formed_none None h = refl
+formed_none (Some p) h = absurd h
+
 pub formed_law : (f : Formed) (p : Option PursuitValue) (t : TransactionValue) (signature : List ℕ) → ShowsFormed (Some f) p
     → t ≡ f.pursuit.transaction → signature ≡ f.pursuit.signature
     → Some (signed t signature) ≡ option_map signed_part p
 formed_law f None t signature h a b = absurd h
 formed_law f (Some p) t signature h a b =
-    ap (λ u. Some (signed u signature)) (a ∙ (h.stands).transaction) ∙ ap (λ u. Some (signed p.transaction u)) (b ∙ (h.stands).signature)
+    ap (λ u. Some (signed u signature)) (a ∙ shown_transaction f p h)
+    ∙ ap (λ u. Some (signed p.transaction u)) (b ∙ shown_signature f p h)
 
 pub none_law : (p : Option PursuitValue) → ShowsFormed None p → None ≡ option_map signed_part p
 none_law None h = refl
 none_law (Some p) h = absurd h
+
+-- ---- a second stage that starts
+
+-- whether it has started is of no account to what is counted
+started_now : (b : Bool) (u : Pursuit) (p : PursuitValue) → StandsNow b u p → StandsNow b u (record p { second = true })
+started_now true u p h =
+    let g : GoesBackTo u p = h in
+    record { transaction = g.transaction; signature = g.signature; votes = g.votes; logs = g.logs; outcome = g.outcome }
+started_now false u p h =
+    let g : StandsFor u p = h in
+    record { transaction = g.transaction; signature = g.signature; votes = g.votes; logs = g.logs; outcome = g.outcome }
+
+pub stands_started : (f : Formed) (p : PursuitValue) → ShowsPursuit f p
+    → ShowsPursuit (started f) (record p { second = true })
+stands_started f p h = record { stands = started_now f.held_back f.pursuit p h.stands; second = refl }
+
+pub formed_started : (f : Option Formed) (p : Option PursuitValue) → ShowsFormed f p
+    → ShowsFormed (option_map started f) (option_map (λ (q : PursuitValue). record q { second = true }) p)
+formed_started None None h = tt
+formed_started None (Some p) h = absurd h
+formed_started (Some f) None h = absurd h
+formed_started (Some f) (Some p) h = stands_started f p h
+
+-- ---- formed slots
+
+module _ (held : Held) (v : ClientValue) (i : ℕ) (x : Slot) (h : ShowsHeld held v) (at : slice_get held.slots.items i ≡ Some x) where
+  pub slot_pursued : (f : Formed) → x.formed ≡ Some f
+      → (s : SlotValue) × (p : PursuitValue) × (slice_get v.slots i ≡ Some s) × (s.pursuit ≡ Some p) × ShowsPursuit f p
+  slot_pursued f formed =
+      let found = slots_at held.slots.items v.slots i x h.slots at in
+      let shows = subst (λ (o : Option Formed). ShowsFormed o (found.0).pursuit) formed (found.2).formed in
+      let some = formed_some f (found.0).pursuit shows in
+      (found.0, some.0, found.1, some.1, some.2)
+
+  pub slot_open : x.formed ≡ None → (s : SlotValue) × (slice_get v.slots i ≡ Some s) × (s.pursuit ≡ None)
+  slot_open formed =
+      let found = slots_at held.slots.items v.slots i x h.slots at in
+      let shows = subst (λ (o : Option Formed). ShowsFormed o (found.0).pursuit) formed (found.2).formed in
+      (found.0, found.1, formed_none (found.0).pursuit shows)

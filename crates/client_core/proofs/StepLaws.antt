@@ -29,7 +29,7 @@ step_law false false true fits q a = refl
 step_law false false false true q a = refl
 step_law false false false false q a = refl
 
-some_map : {A B : Type 0} (f : A → B) (o : Option A) → is_some o ≡ is_some (option_map f o)
+pub some_map : {A B : Type 0} (f : A → B) (o : Option A) → is_some o ≡ is_some (option_map f o)
 some_map f None = refl
 some_map f (Some a) = refl
 
@@ -47,10 +47,11 @@ asked_some asked reads key keeps =
     ∙ ap is_some (asked_same asked reads key keeps)
     ∙ sym (some_map kept_read (find (is_of key) reads))
 
-pub read_law : (me : ClientSelf) (v : ClientValue) (place : ℕ) (key : List ℕ) (slot : Slot) (reads : List AskedRead) (p : Option PursuitValue)
-    → KeepsReads slot.reads.items reads → ShowsFormed slot.formed p
+pub read_law : (me : ClientSelf) (v : ClientValue) (place : ℕ) (key : List ℕ) (slot : Slot) (reads : List AskedRead)
+    (p : Option PursuitValue) → KeepsReads slot.reads.items reads → ShowsFormed slot.formed p
     → read_at me v place key (slot_value slot reads p)
-    ≡ by_step (step_of (is_some slot.formed) (is_written key (slot_value slot reads p) || is_some (find (λ (a : Asking). bytes_eq a.key key) slot.reads.items))
+    ≡ by_step (step_of (is_some slot.formed)
+    (is_written key (slot_value slot reads p) || is_some (find (λ (a : Asking). bytes_eq a.key key) slot.reads.items))
     (nat_le 32 (length slot.reads.items)) (key_fits key))
     (quiet v) (read_done me v place (slot_value slot reads p) key)
 read_law me v place key slot reads p keeps formed =
@@ -58,10 +59,13 @@ read_law me v place key slot reads p keeps formed =
     let q = quiet v in
     let a = read_done me v place (slot_value slot reads p) key in
     sym
-    (ap (λ b. by_step (step_of b (written || is_some (find (λ (x : Asking). bytes_eq x.key key) slot.reads.items)) (nat_le 32 (length slot.reads.items)) (key_fits key)) q a) (formed_same slot.formed p formed)
-    ∙ ap (λ b. by_step (step_of (is_some p) (is_written key (slot_value slot reads p) || b) (nat_le 32 (length slot.reads.items)) (key_fits key)) q a) (asked_some slot.reads.items reads key keeps)
-    ∙ ap (λ n. by_step (step_of (is_some p) (is_written key (slot_value slot reads p) || is_some (find (is_of key) reads)) (nat_le 32 n) (key_fits key)) q a) (reads_count slot.reads.items reads keeps)
-    ∙ sym (step_law (is_some p) (is_written key (slot_value slot reads p) || is_some (find (is_of key) reads)) (nat_le 32 (length reads)) (key_fits key) q a))
+    (ap (λ b. by_step (step_of b (written || is_some (find (λ (x : Asking). bytes_eq x.key key) slot.reads.items))
+    (nat_le 32 (length slot.reads.items)) (key_fits key)) q a) (formed_same slot.formed p formed)
+    ∙ ap (λ b. by_step (step_of (is_some p) (written || b) (nat_le 32 (length slot.reads.items)) (key_fits key)) q a)
+    (asked_some slot.reads.items reads key keeps)
+    ∙ ap (λ n. by_step (step_of (is_some p) (written || is_some (find (is_of key) reads)) (nat_le 32 n) (key_fits key)) q a)
+    (reads_count slot.reads.items reads keeps)
+    ∙ sym (step_law (is_some p) (written || is_some (find (is_of key) reads)) (nat_le 32 (length reads)) (key_fits key) q a))
 
 fault_law : (formed full fits : Bool)
     → fault_of formed full fits ≡ or_else (when formed NotOpen) (or_else (when full TooMany) (when (not fits) SizeOut))
@@ -70,7 +74,8 @@ fault_law false true fits = refl
 fault_law false false true = refl
 fault_law false false false = refl
 
-pub write_law : (slot : Slot) (reads : List AskedRead) (p : Option PursuitValue) (w : WritePart) (full fits : Bool) → ShowsFormed slot.formed p
+pub write_law : (slot : Slot) (reads : List AskedRead) (p : Option PursuitValue) (w : WritePart) (full fits : Bool)
+    → ShowsFormed slot.formed p
     → full ≡ (not (is_written w.key (slot_value slot reads p)) && nat_le 32 (length slot.writes.items)) → fits ≡ write_fits w
     → fault_of (is_some slot.formed) full fits ≡ write_fault (slot_value slot reads p) w
 write_law slot reads p w full fits formed is_full is_fit =
@@ -111,7 +116,8 @@ first_law : (c : Setting) (asked : List Asking) (reads : List AskedRead) → Kee
 first_law c asked reads keeps =
     ap key_of_first
     (find_map shown_read (is_pending c) asked ∙ ap (find (is_pending c)) keeps ∙ sym (find_map kept_read (is_pending c) reads)
-    ∙ ap (option_map kept_read) (find_alike (λ r. is_pending c (kept_read r)) (λ r. not (is_chosen c r)) reads (λ r. ap not (chosen_law c r))))
+    ∙ ap (option_map kept_read)
+    (find_alike (λ r. is_pending c (kept_read r)) (λ r. not (is_chosen c r)) reads (λ r. ap not (chosen_law c r))))
     ∙ by (find (λ r. not (is_chosen c r)) reads)
   where
     by : (o : Option AskedRead) → key_of_first (option_map kept_read o) ≡ option_map (λ (r : AskedRead). ReadPending r.key) o

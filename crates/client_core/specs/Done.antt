@@ -25,6 +25,11 @@ pub record Sends (old new : Outbox) (d : ClientDone) : Type 0 where
   pub messages : new.messages.items ≡ old.messages.items ++ map framed d.sent
   pub signed : new.signed.items ≡ old.signed.items ++ map words_of d.signed
 
+-- these messages and signed words, each in order
+pub record IsSent (out : Outbox) (d : ClientDone) : Type 0 where
+  pub messages : out.messages.items ≡ map framed d.sent
+  pub signed : out.signed.items ≡ map words_of d.signed
+
 -- the outbox holds what it held
 pub record SameOutbox (old new : Outbox) : Type 0 where
   pub messages : new.messages.items ≡ old.messages.items

@@ -1,5 +1,5 @@
 -- What a read tells, by what is kept of it.
-use Rattle.std.specs.Prelude.{◌≤◌, ◌<◌, List, ◌++◌, ◌∷◌, [], not, Option, option_and_then, option_to_list, find, nat_le, length, Bool, if◌then◌else◌}
+use Rattle.std.specs.Prelude.{◌≤◌, ◌<◌, ◌++◌, ◌∷◌, [], not, Option, option_and_then, find, nat_le, length, Bool, if◌then◌else◌}
 use Rattle.basil_types.specs.declared.transaction.parts.ReadPart.{ReadPart}
 use Rattle.basil_types.specs.declared.transaction.parts.WritePart.{WritePart}
 use Rattle.basil_types.specs.declared.version.Version.{Version}
@@ -12,7 +12,7 @@ use Rattle.client_core.specs.declared.replies.Carried.{Carried}
 use Rattle.client_core.specs.declared.replies.KeptReply.{KeptReply}
 use Rattle.client_core.specs.declared.state.ReadState.{ReadState}
 use Rattle.client_core.specs.declared.state.ReadState.TheVariants as states
-use Rattle.client_core.specs.Kept.{KeptRead}
+use Rattle.client_core.specs.Kept.{KeptRead, carried_in}
 use Rattle.client_core.specs.Slots.{ReadStateValue, NotRead, Pending, Absent, Found, Deleted, Own, OwnDeleted, found_by}
 
 abbrev pub told_state : ReadState → ReadStateValue
@@ -45,15 +45,12 @@ state_kept c k =
 
 -- ---- one more reply
 
-abbrev pub carried_of_two : Option Carried → Option Carried → List Carried
-carried_of_two committed prepared = option_to_list committed ++ option_to_list prepared
-
 abbrev pub with_kept : KeptRead → KeptReply → KeptRead
 with_kept k reply =
     record k {
       replied = k.replied ++ reply.replica ∷ [];
       versions = k.versions ++ reply.versions ∷ [];
-      carried = k.carried ++ carried_of_two reply.committed reply.prepared;
+      carried = k.carried ++ carried_in reply;
     }
 
 pub record HasReplyRoom (a : Asking) : Type 0 where

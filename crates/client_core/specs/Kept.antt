@@ -33,8 +33,11 @@ reply_kept key r =
     }
 
 -- the committed one comes first
+abbrev pub carried_of_two : Option Carried → Option Carried → List Carried
+carried_of_two committed prepared = option_to_list committed ++ option_to_list prepared
+
 abbrev pub carried_in : KeptReply → List Carried
-carried_in k = option_to_list k.committed ++ option_to_list k.prepared
+carried_in k = carried_of_two k.committed k.prepared
 
 -- ---- of a read
 

@@ -14,3 +14,12 @@ pub mod Done
 pub mod Preparing
 pub mod Forming
 pub mod Seats
+pub mod Clusters
+pub mod Finding
+pub mod Recovering
+pub mod Sending
+pub mod Invoking
+pub mod Asks
+pub mod Replying
+pub mod Taking
+pub mod Receiving

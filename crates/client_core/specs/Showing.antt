@@ -1,5 +1,5 @@
 -- Which values a client shows.
-use Rattle.std.specs.Prelude.{◌≡◌, ◌≢◌, Result, Ok, Err, List, [], ◌∷◌, ⊤, Option, Some, None, map}
+use Rattle.std.specs.Prelude.{◌≡◌, ◌≢◌, Bool, true, false, Result, Ok, Err, List, [], ◌∷◌, ⊤, Option, Some, None, map}
 use Rattle.client_core.specs.declared.asking.Asking.{Asking}
 use Rattle.client_core.specs.declared.held.Formed.{Formed}
 use Rattle.client_core.specs.declared.held.Held.{Held}
@@ -8,16 +8,22 @@ use Rattle.client_core.specs.declared.fault.CallFault.{CallFault}
 use Rattle.client_core.specs.declared.fault.CallFault.TheVariants.{NoMemory}
 use Rattle.client_core.specs.Clients.{AskedRead, SlotValue, ClientValue}
 use Rattle.client_core.specs.Kept.{kept_read, shown_read}
-use Rattle.client_recover.specs.Standing.{StandsFor}
+use Rattle.client_recover.specs.declared.pursuit.Pursuit.{Pursuit}
+use Rattle.client_recover.specs.Standing.{StandsFor, GoesBackTo}
 use Rattle.client_recover.specs.Taken.{PursuitValue}
 
 -- the replies to these reads were kept
 abbrev pub KeepsReads : List Asking → List AskedRead → Type 0
 KeepsReads asked reads = map shown_read asked ≡ map kept_read reads
 
--- the frames were taken one after the other
+-- while a frame is held back the pursuit stands for the list with it, and goes back to the list without it
+abbrev pub StandsNow : (held_back : Bool) → Pursuit → PursuitValue → Type 0
+StandsNow true u p = GoesBackTo u p
+StandsNow false u p = StandsFor u p
+
+-- the frames were taken one after the other, all but one that is held back
 pub record ShowsPursuit (f : Formed) (p : PursuitValue) : Type 0 where
-  pub stands : StandsFor f.pursuit p
+  pub stands : StandsNow f.held_back f.pursuit p
   pub second : f.second ≡ p.second
 
 abbrev pub ShowsFormed : Option Formed → Option PursuitValue → Type 0
@@ -48,7 +54,8 @@ pub record ShowsHeld (held : Held) (v : ClientValue) : Type 0 where
 
 -- nothing changed but room
 abbrev pub SameHeld : Held → Held → Type 0
-SameHeld old new = (new.last ≡ old.last) × (new.slots.items ≡ old.slots.items)
+SameHeld old new =
+    (new.last ≡ old.last) × (new.slots.items ≡ old.slots.items) × (new.cluster ≡ old.cluster)
 
 -- Ok exactly where the answer is, or the first refusal, or memory is wanting
 abbrev pub Answers : {A B : Type 0} → Result A CallFault → Result B CallFault → B → Type 0

@@ -3,7 +3,7 @@
 ghost use Rattle.std.specs.Prelude.{◌≡◌, ◌≤◌, ◌<◌, ◌++◌, ◌∷◌, [], ◌==◌, ℕ, IfOk, Option, OnOk, option_map, length, nat_le};
 ghost use Rattle.std.specs.List.{list_any};
 ghost use Rattle.client_core.specs.Clients.{AskedRead};
-ghost use Rattle.client_core.specs.Kept.{kept_read, shown_read, KeptRead};
+ghost use Rattle.client_core.specs.Kept.{carried_of_two, kept_read, shown_read, KeptRead};
 ghost use Rattle.client_core.specs.Keeping as keeping;
 ghost use Rattle.client_core.specs.Keeping.{HasReplyRoom, told_state};
 ghost use Rattle.client_core.specs.Slots as slots;
@@ -127,7 +127,7 @@ impl Asking {
 /// Appends the transactions that a reply carried.
 fn add_carried(carried: &mut List<Carried>, committed: Option<Carried>, prepared: Option<Carried>)
     requires { 2 ≤ carried.old.room }
-    ensures { carried.new.items ≡ carried.old.items ++ keeping.carried_of_two committed prepared }
+    ensures { carried.new.items ≡ carried.old.items ++ carried_of_two committed prepared }
 {
     match committed {
         Some(c) => {
@@ -141,7 +141,7 @@ fn add_carried(carried: &mut List<Carried>, committed: Option<Carried>, prepared
 /// Appends one, if there is one.
 fn push_one(carried: &mut List<Carried>, one: Option<Carried>)
     requires { 1 ≤ carried.old.room }
-    ensures { carried.new.items ≡ carried.old.items ++ keeping.carried_of_two None one }
+    ensures { carried.new.items ≡ carried.old.items ++ carried_of_two None one }
 {
     if let Some(c) = one {
         carried.push(c);

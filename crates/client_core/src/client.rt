@@ -1,23 +1,25 @@
 //! A client: its calls, and its answers to frames.
 
-ghost use Rattle.std.specs.Prelude.{◌≡◌, ◌≤◌, ◌<◌, ◌++◌, ℕ, [], true, false, Some, OnErr, OnOk, IfOk, option_map, length, slice_get};
+ghost use Rattle.std.specs.Prelude.{◌≡◌, ◌≤◌, ◌<◌, [], true, false, Some, OnErr, OnOk, IfOk, option_map, length, slice_get};
 ghost use Rattle.basil_types.specs.declared.party.Party.TheVariants as parties;
+ghost use Rattle.client_core.specs.Answers.{on_frame};
 ghost use Rattle.client_core.specs.Calls.{call_begin, call_prepare, call_read, call_write};
 ghost use Rattle.client_core.specs.Clients.{ClientDone, ClientValue, SlotValue, empty_client};
 ghost use Rattle.client_core.specs.Done.{Calls, SameOutbox, Sends, Shows};
 ghost use Rattle.client_core.specs.Forming.{shown_signed};
 ghost use Rattle.client_core.specs.Keeping.{told_state};
+ghost use Rattle.client_core.specs.Receiving.{AnswersFrame};
 ghost use Rattle.client_core.specs.Seats.{self_at};
 ghost use Rattle.client_core.specs.Slots as slots;
-ghost use Rattle.client_core.specs.Works.{CanPerform, WillDo, sealed_by, words_by};
+ghost use Rattle.client_core.specs.Works.{CanPerform, WillDo};
 ghost use Rattle.node_steps.specs.Pens.{pen_value};
 
 use crate::append::append;
-use crate::commit::perform;
 use crate::fault::CallFault;
 use crate::held::Held;
 use crate::preparing::plan_prepare;
 use crate::reading::plan_read;
+use crate::receiving::plan_frame;
 use crate::seat::Seat;
 use crate::state::ReadState;
 use crate::work::ClientPlan;
@@ -25,6 +27,7 @@ use basil_types::cluster::Cluster;
 use basil_types::memory::NoMemory;
 use basil_types::outbox::Outbox;
 use basil_types::transaction::Transaction;
+use certificates::FrameFault;
 use keyring::signer::Signer;
 use keyring::verifier::Verifier;
 use node_steps::pending::make_room;
@@ -33,10 +36,11 @@ use std::alloc::Global;
 /// A client with the keyring by which it tests signatures and the pen by which it signs.
 #[derive(Drop)]
 pub struct Client<V: Verifier, S: Signer> {
-    seat: Seat,
-    keys: V,
-    pen: S,
-    held: Held,
+    pub(crate) seat: Seat,
+    pub(crate) keys: V,
+    pub(crate) pen: S,
+    pub(crate) held: Held,
+    ghost same: { held.cluster ≡ seat.cluster },
 }
 
 impl<V: Verifier, S: Signer> Client<V, S> {
@@ -59,7 +63,7 @@ impl<V: Verifier, S: Signer> Client<V, S> {
             },
             keys,
             pen: signer,
-            held: Held::new(alloc),
+            held: Held::new(alloc, cluster),
         }
     }
 
@@ -82,25 +86,8 @@ impl<V: Verifier, S: Signer> Client<V, S> {
         }
     }
 
-    /// Does what was planned. Takes no memory.
-    fn commit(&mut self, plan: ClientPlan) -> Outbox
-        requires { CanPerform (S.fixed self.old.pen).size (S.left_of self.old.pen) self.old.held plan }
-        ensures client { (v : ClientValue) (d : ClientDone) →
-            Shows self.old.held (pen_value (S.spent self.old.pen) (S.left_of self.old.pen)) v →
-            WillDo (S.fixed self.old.pen) self.old.held v plan d →
-            Shows self.new.held (pen_value (S.spent self.new.pen) (S.left_of self.new.pen)) d.client }
-        ensures messages { result.messages.items ≡ plan.out.messages.items ++ sealed_by (S.fixed self.old.pen)
-            (pen_value (S.spent self.old.pen) (S.left_of self.old.pen)) plan.work }
-        ensures words { result.signed.items ≡ words_by plan.work }
-    {
-        let ClientPlan { work, out } = plan;
-        let mut out = out;
-        perform(&mut self.held, &mut self.pen, &self.seat, &mut out, work);
-        out
-    }
-
     /// Does what was planned, with what it sends appended to an outbox; or memory is wanting, and the plan is let go.
-    fn finish(&mut self, plan: ClientPlan, out: &mut Outbox) -> Result<(), NoMemory>
+    pub(crate) fn finish(&mut self, plan: ClientPlan, out: &mut Outbox) -> Result<(), NoMemory>
         requires { CanPerform (S.fixed self.old.pen).size (S.left_of self.old.pen) self.old.held plan }
         ensures done { (v : ClientValue) (d : ClientDone) →
             Shows self.old.held (pen_value (S.spent self.old.pen) (S.left_of self.old.pen)) v →
@@ -111,10 +98,7 @@ impl<V: Verifier, S: Signer> Client<V, S> {
         ensures same_pen { OnErr result (self.new.pen ≡ self.old.pen) }
         ensures same_outbox { OnErr result (SameOutbox out.old out.new) }
     {
-        let Some(messages) = plan.message_count() else {
-            return Err(NoMemory);
-        };
-        make_room(out, messages, plan.word_count())?;
+        make_room(out, plan.messages as usize, plan.work.words())?;
         let more = self.commit(plan);
         append(out, more);
         Ok(())
@@ -160,6 +144,27 @@ impl<V: Verifier, S: Signer> Client<V, S> {
             Ok(plan) => match self.finish(plan, out) {
                 Ok(()) => Ok(()),
                 Err(_) => Err(CallFault::NoMemory),
+            },
+            Err(fault) => Err(fault),
+        }
+    }
+
+    /// Answers a frame, or refuses it.
+    pub fn on_frame(&mut self, frame: &[u8], out: &mut Outbox) -> Result<(), FrameFault>
+        ensures answer { (v : ClientValue) →
+            Shows self.old.held (pen_value (S.spent self.old.pen) (S.left_of self.old.pen)) v → AnswersFrame result
+            (on_frame (self_at self.old.seat (V.accepted self.old.keys) (S.fixed self.old.pen)) v frame.now)
+            (λ d. Shows self.new.held (pen_value (S.spent self.new.pen) (S.left_of self.new.pen)) d.client
+            × Sends out.old out.new d) }
+        ensures as_before { (v : ClientValue) →
+            Shows self.old.held (pen_value (S.spent self.old.pen) (S.left_of self.old.pen)) v →
+            OnErr result (Shows self.new.held (pen_value (S.spent self.new.pen) (S.left_of self.new.pen)) v) }
+        ensures same_outbox { OnErr result (SameOutbox out.old out.new) }
+    {
+        match plan_frame(&mut self.held, &self.seat, &self.keys, frame) {
+            Ok(plan) => match self.finish(plan, out) {
+                Ok(()) => Ok(()),
+                Err(_) => Err(FrameFault::NoMemory),
             },
             Err(fault) => Err(fault),
         }

@@ -1,24 +1,25 @@
-//! Doing what was planned.
+//! Doing what was planned, or letting it go.
 
 ghost use Rattle.std.specs.Prelude.{◌≡◌, ◌++◌};
 ghost use Rattle.client_core.specs.Clients.{ClientValue};
 ghost use Rattle.client_core.specs.Showing.{ShowsHeld};
-ghost use Rattle.client_core.specs.Works.{CanWork, Leaves, sealed_by, words_by};
+ghost use Rattle.client_core.specs.Works.{CanWork, Leaves, pending_bytes, pending_count, sealed_by, words_by};
+ghost use Rattle.node_steps.specs.Pendings.{Sends};
 ghost use Rattle.node_steps.specs.Pens.{pen_value};
 
 use crate::held::Held;
-use crate::seat::Seat;
 use crate::work::Work;
 use basil_types::bytes::Bytes;
 use basil_types::outbox::Outbox;
 use keyring::signer::Signer;
 use node_steps::pending::sign;
+use std::alloc::Global;
 
 /// Does what was planned, and sends what waits for a signature. Takes no memory.
 pub(crate) fn perform<S: Signer>(
     held: &mut Held,
     pen: &mut S,
-    seat: &Seat,
+    alloc: Global,
     out: &mut Outbox,
     work: Work,
 )
@@ -30,7 +31,9 @@ pub(crate) fn perform<S: Signer>(
     ensures messages { out.new.messages.items ≡ out.old.messages.items
         ++ sealed_by (S.fixed pen.old) (pen_value (S.spent pen.old) (S.left_of pen.old)) work }
     ensures words { out.new.signed.items ≡ out.old.signed.items ++ words_by work }
+    ensures sends { Sends out.old out.new (pending_count work) (pending_bytes (S.fixed pen.old).size work) }
     ensures fixed { S.fixed pen.new ≡ S.fixed pen.old }
+    ensures cluster { held.new.cluster ≡ held.old.cluster }
 {
     match work {
         Work::Nothing => {}
@@ -41,7 +44,11 @@ pub(crate) fn perform<S: Signer>(
             pending,
         } => {
             let signature = Bytes::from_vec(sign(pen, pending, out));
-            held.pursue(seat, slot, formed, signature);
+            held.pursue(alloc, slot, formed, signature);
         }
+        Work::Start { slot } => held.start(slot),
+        Work::Hold { recovered } => held.hold(recovered),
+        Work::Reply { slot, read, reply } => held.reply(slot, read, reply),
+        Work::Take { slot, starts } => held.take(slot, starts),
     }
 }

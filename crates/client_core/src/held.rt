@@ -1,25 +1,13 @@
 //! The transactions that a client holds.
 
-ghost use Rattle.std.specs.Prelude.{◌≡◌, ◌≢◌, ◌≤◌, ◌<◌, ◌==◌, ℕ, List, Option, Some, None, OnOk, OnErr, IfOk, [], true, is_some, find, option_map, length, slice_get, position};
-ghost use Rattle.std.specs.List.{list_any};
-ghost use Rattle.std.specs.Str.{bytes_eq};
-ghost use Rattle.client_core.specs.Calls as calls;
-ghost use Rattle.client_core.specs.Calls.{call_begin, begin_done};
-ghost use Rattle.client_core.specs.Clients.{AskedRead, ClientValue, empty_client};
-ghost use Rattle.client_core.specs.Slots as slots;
-ghost use Rattle.client_core.specs.Showing.{ShowsHeld, ShowsFormed, KeepsReads, slot_value, SameHeld, Answers};
+ghost use Rattle.std.specs.Prelude.{◌≡◌, Option, option_map};
+ghost use Rattle.client_core.specs.Clusters.{AreOf};
 ghost use Rattle.client_core.specs.Keeping.{told_state};
-ghost use Rattle.client_core.specs.Kept.{shown_read, kept_read};
-ghost use Rattle.client_core.specs.Works.{pursues, writes, Written};
-ghost use Rattle.certificates.specs.Deciding.{HasGoodForm};
-ghost use Rattle.frame_views.specs.Fitting.{IsSignature};
-ghost use Rattle.client_recover.specs.Taken.{PursuitValue};
-ghost use Rattle.node_steps.specs.Pens.{PenValue};
+ghost use Rattle.client_core.specs.Slots as slots;
 
 use crate::asking::Asking;
 use crate::fault::CallFault;
 use crate::ordered::{put_in, put_reserved};
-use crate::seat::Seat;
 use crate::state::ReadState;
 use basil_types::bytes::Bytes;
 use basil_types::cluster::Cluster;
@@ -29,11 +17,13 @@ use basil_types::transaction::parts::WritePart;
 use client_recover::Pursuit;
 use std::alloc::Global;
 
-/// A formed transaction: its pursuit, and whether its second stage has started.
+/// A formed transaction: its pursuit, whether its second stage has started, and whether the last frame that the pursuit
+/// took is held back: it is planned, and a client shows the pursuit without it.
 #[derive(Drop)]
 pub struct Formed {
     pub pursuit: Pursuit,
     pub second: bool,
+    pub held_back: bool,
 }
 
 /// A held transaction, begun or recovered. Its reads and its writes ascend by key.
@@ -46,17 +36,27 @@ pub struct Slot {
     pub formed: Option<Formed>,
 }
 
-/// What a client holds: the last time that it began, and its transactions by slot.
+/// What a client holds: the last time that it began, its transactions by slot, and the cluster in which it pursues them.
 #[derive(Drop)]
 pub struct Held {
+    pub cluster: Cluster,
     pub last: u64,
     pub slots: Vec<Slot>,
+    ghost clusters: { AreOf cluster slots.items },
 }
 
 /// The most slots that a client holds.
-const MOST_SLOTS: usize = 4_294_967_295;
+pub(crate) const MOST_SLOTS: usize = 4_294_967_295;
 
 impl Slot {
+    ghost use Rattle.std.specs.Prelude.{◌==◌, List, None, [], find, true};
+    ghost use Rattle.std.specs.List.{list_any};
+    ghost use Rattle.std.specs.Str.{bytes_eq};
+    ghost use Rattle.client_core.specs.Calls as calls;
+    ghost use Rattle.client_core.specs.Clients.{AskedRead};
+    ghost use Rattle.client_core.specs.Showing.{KeepsReads, slot_value};
+    ghost use Rattle.client_recover.specs.Taken.{PursuitValue};
+
     /// A transaction that begins.
     fn begun(alloc: Global, time: u64) -> Slot
         ensures begun { result.begun ≡ true }
@@ -107,8 +107,20 @@ impl Slot {
 }
 
 impl Slot {
-    ghost use Rattle.client_core.specs.Forming.{shown_signed};
+    ghost use Rattle.client_core.specs.Forming.{shown_signed, started};
+    ghost use Rattle.client_core.specs.Showing.{ShowsFormed};
     ghost use Rattle.client_recover.specs.Pursuits.{signed_part};
+    ghost use Rattle.client_recover.specs.Taken.{PursuitValue};
+
+    /// The second stage starts, if the transaction is formed.
+    fn start(&mut self)
+        ensures { self.new ≡ record self.old { formed = option_map started self.old.formed } }
+    {
+        match &mut self.formed {
+            Some(formed) => formed.second = true,
+            None => {}
+        }
+    }
 
     /// The formed transaction and its client's signature.
     pub(crate) fn formed_parts(&self) -> Option<(&Transaction, &[u8])>
@@ -145,11 +157,20 @@ fn own(write: Option<&WritePart>) -> ReadState<'_>
 }
 
 impl Held {
+    ghost use Rattle.std.specs.Prelude.{◌≤◌, IfOk, OnErr, OnOk, length};
+    ghost use Rattle.client_core.specs.Calls.{begin_done, call_begin};
+    ghost use Rattle.client_core.specs.Clients.{ClientValue, empty_client};
+    ghost use Rattle.client_core.specs.Showing.{Answers, SameHeld, ShowsHeld};
+    ghost use Rattle.client_core.specs.Works.{HasSlotRoom};
+    ghost use Rattle.node_steps.specs.Pens.{PenValue};
+
     /// Nothing is held.
-    pub(crate) fn new(alloc: Global) -> Held
-        ensures { (pen : PenValue) → ShowsHeld result (empty_client pen) }
+    pub(crate) fn new(alloc: Global, cluster: Cluster) -> Held
+        ensures shown { (pen : PenValue) → ShowsHeld result (empty_client pen) }
+        ensures cluster { result.cluster ≡ cluster }
     {
         Held {
+            cluster,
             last: 0,
             slots: Vec::new(alloc),
         }
@@ -163,27 +184,44 @@ impl Held {
             OnOk result (ShowsHeld self.new (begin_done v time).client) }
         ensures slot { (v : ClientValue) → ShowsHeld self.old v → IfOk result (λ slot. slot ≡ length v.slots) }
         ensures as_before { OnErr result (SameHeld self.old self.new) }
+        ensures cluster { self.new.cluster ≡ self.old.cluster }
     {
         if time <= self.last {
             return Err(CallFault::TimeNotAbove(self.last));
         }
-        let place = self.slots.len();
-        if place >= MOST_SLOTS {
-            return Err(CallFault::NoMemory);
-        }
-        self.slots.reserve(1)?;
+        let slot = self.room_for_slot()?;
         self.slots.push_reserved(Slot::begun(alloc, time));
         self.last = time;
+        Ok(slot)
+    }
+
+    /// Makes room for one more slot, and tells which that is; or finds memory wanting.
+    pub(crate) fn room_for_slot(&mut self) -> Result<u32, NoMemory>
+        ensures same { SameHeld self.old self.new }
+        ensures room { OnOk result (HasSlotRoom self.new) }
+        ensures slot { IfOk result (λ slot. slot ≡ length self.old.slots.items) }
+    {
+        let place = self.slots.len();
+        if place >= MOST_SLOTS {
+            return Err(NoMemory);
+        }
+        self.slots.reserve(1)?;
         Ok(place as u32)
     }
 }
 
 impl Held {
     ghost use Rattle.std.specs.Option.{ForSome};
-    ghost use Rattle.std.specs.Prelude.{slice_get};
-    ghost use Rattle.client_core.specs.Clients.{SlotValue};
-    ghost use Rattle.client_core.specs.Slots.{with_slot};
-    ghost use Rattle.client_core.specs.Works.{HasReadRoom, Changes, asks};
+    ghost use Rattle.std.specs.Prelude.{◌<◌, OnErr, OnOk, [], length, slice_get};
+    ghost use Rattle.certificates.specs.Deciding.{HasGoodForm};
+    ghost use Rattle.client_core.specs.Calls as calls;
+    ghost use Rattle.client_core.specs.Clients.{ClientValue};
+    ghost use Rattle.client_core.specs.Clusters.{IsOf};
+    ghost use Rattle.client_core.specs.Kept.{kept_read, shown_read};
+    ghost use Rattle.client_core.specs.Showing.{ShowsHeld};
+    ghost use Rattle.client_core.specs.Works.{Adds, Changes, HasReadRoom, HasSlotRoom, Written};
+    ghost use Rattle.client_core.specs.Works.{asks, pursues, starts, writes};
+    ghost use Rattle.frame_views.specs.Fitting.{IsSignature};
 
     /// Makes room for one more read, or finds memory wanting. Either way it shows what it showed.
     pub(crate) fn room_for_read(&mut self, slot: usize) -> Result<(), NoMemory>
@@ -191,6 +229,7 @@ impl Held {
         ensures shown { (v : ClientValue) → ShowsHeld self.old v → ShowsHeld self.new v }
         ensures room { OnOk result (ForSome (slice_get self.new.slots.items slot) HasReadRoom) }
         ensures count { length self.new.slots.items ≡ length self.old.slots.items }
+        ensures cluster { self.new.cluster ≡ self.old.cluster }
     {
         let slot = &mut self.slots[slot];
         slot.reads.reserve(1)?;
@@ -202,8 +241,9 @@ impl Held {
         requires held { slot < length self.old.slots.items }
         requires room { ForSome (slice_get self.old.slots.items slot) HasReadRoom }
         requires none { shown_read asked ≡ kept_read (record { key = asked.key; replies = [] }) }
-        ensures { (v after : ClientValue) → ShowsHeld self.old v → Changes v slot (asks asked) after →
+        ensures shown { (v after : ClientValue) → ShowsHeld self.old v → Changes v slot (asks asked) after →
             ShowsHeld self.new after }
+        ensures cluster { self.new.cluster ≡ self.old.cluster }
     {
         let slot = &mut self.slots[slot];
         put_reserved(&mut slot.reads, asked);
@@ -222,6 +262,7 @@ impl Held {
         ensures answer { (v : ClientValue) → ShowsHeld self.old v → Written self.new v
             (calls.call_write v slot (record { key = key.now; value = value.now; deletes = deletes })) result }
         ensures as_before { (v : ClientValue) → ShowsHeld self.old v → OnErr result (ShowsHeld self.new v) }
+        ensures cluster { self.new.cluster ≡ self.old.cluster }
     {
         let place = &self.slots[slot];
         match place.write_fault(key, value, deletes) {
@@ -245,6 +286,7 @@ impl Held {
         ensures kept { (v after : ClientValue) → ShowsHeld self.old v →
             Changes v slot (writes write) after → OnOk result (ShowsHeld self.new after) }
         ensures as_before { (v : ClientValue) → ShowsHeld self.old v → OnErr result (ShowsHeld self.new v) }
+        ensures cluster { self.new.cluster ≡ self.old.cluster }
     {
         let slot = &mut self.slots[slot];
         match put_in(&mut slot.writes, write) {
@@ -254,18 +296,48 @@ impl Held {
     }
 
     /// Pursues a transaction of good form with its signature. Takes no memory.
-    pub(crate) fn pursue(&mut self, seat: &Seat, slot: usize, formed: Transaction, signature: Bytes)
+    pub(crate) fn pursue(
+        &mut self,
+        alloc: Global,
+        slot: usize,
+        formed: Transaction,
+        signature: Bytes,
+    )
         requires held { slot < length self.old.slots.items }
         requires form { HasGoodForm formed }
         requires signature { IsSignature signature }
-        ensures { (v after : ClientValue) → ShowsHeld self.old v → Changes v slot (pursues formed signature) after →
-            ShowsHeld self.new after }
+        ensures shown { (v after : ClientValue) → ShowsHeld self.old v →
+            Changes v slot (pursues formed signature) after → ShowsHeld self.new after }
+        ensures cluster { self.new.cluster ≡ self.old.cluster }
     {
-        let pursuit = Pursuit::new(seat.alloc, formed, signature, seat.cluster);
+        let pursuit = Pursuit::new(alloc, formed, signature, self.cluster);
         let slot = &mut self.slots[slot];
         slot.formed = Some(Formed {
             pursuit,
             second: false,
+            held_back: false,
         });
+    }
+
+    /// The second stage of the transaction in a slot starts. Takes no memory.
+    pub(crate) fn start(&mut self, slot: usize)
+        requires { slot < length self.old.slots.items }
+        ensures shown { (v after : ClientValue) → ShowsHeld self.old v → Changes v slot starts after →
+            ShowsHeld self.new after }
+        ensures cluster { self.new.cluster ≡ self.old.cluster }
+    {
+        let slot = &mut self.slots[slot];
+        slot.start();
+    }
+
+    /// Holds one more transaction, for whose slot there is room. Takes no memory.
+    pub(crate) fn hold(&mut self, recovered: Slot)
+        requires room { HasSlotRoom self.old }
+        requires cluster { IsOf self.old.cluster recovered.formed }
+        ensures shown { (v after : ClientValue) → ShowsHeld self.old v → Adds v recovered after →
+            ShowsHeld self.new after }
+        ensures cluster { self.new.cluster ≡ self.old.cluster }
+    {
+        self.slots.push_reserved(recovered);
     }
 }

@@ -3,20 +3,38 @@
 
 mod address;
 mod append;
+mod ask;
 mod asking;
+mod begun;
 mod client;
 mod commit;
 pub mod fault;
+mod finding;
+mod formed;
 mod held;
+mod invoking;
 mod ordered;
+mod planned;
 mod preparing;
+mod pursuing;
 mod reading;
+mod receiving;
+mod recovering;
 mod replies;
+mod reply_plans;
+mod replying;
 mod seat;
+mod sending;
+mod settling;
 mod state;
 mod steps;
+mod taking;
+mod telling;
 mod work;
 
+pub use ask::{Ask, AskFault};
+pub use certificates::FrameFault;
 pub use client::Client;
 pub use fault::CallFault;
 pub use state::ReadState;
+pub use work::ClientPlan;

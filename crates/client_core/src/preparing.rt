@@ -174,19 +174,19 @@ fn plan_pursue(
         IfOk result (λ plan. WillDo me.signing held v plan (pursue_done me v slot s formed)) }
     ensures ready { (left : ℕ) (held : Held) → 0 < left → slot < length held.slots.items →
         IfOk result (CanPerform size left held) }
+    ensures slot { IfOk result (λ plan. plan.slot ≡ None) }
 {
     let pending = pending_for(seat, &formed, size)?;
     let mut out = outbox(seat.alloc);
     make_room(&mut out, pending.frames.len(), 1)?;
     signatures_end_frames();
-    Ok(ClientPlan {
-        work: Work::Pursue {
-            slot,
-            formed,
-            pending,
-        },
-        out,
-    })
+    let work = Work::Pursue {
+        slot,
+        formed,
+        pending,
+    };
+    let plan = ClientPlan::of(work, out, size)?;
+    Ok(plan)
 }
 
 /// Plans that the transaction in a slot is formed, signed and pursued.
@@ -201,6 +201,7 @@ pub(crate) fn plan_prepare<S: Signer>(
         v.pen ≡ pen_value (S.spent pen.now) (S.left_of pen.now) → IsPlanned (S.fixed pen.now) held.now v result
         (call_prepare (self_at seat.now accepts (S.fixed pen.now)) v slot) }
     ensures ready { IfOk result (CanPerform (S.fixed pen.now).size (S.left_of pen.now) held.now) }
+    ensures slot { IfOk result (λ plan. plan.slot ≡ None) }
 {
     let place = &held.slots[slot];
     match place.refuse_prepare(seat.alloc, &seat.cluster, pen.left()) {

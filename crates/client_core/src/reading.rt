@@ -1,13 +1,13 @@
 //! Planning a read.
 
-ghost use Rattle.std.specs.Prelude.{◌≡◌, ◌<◌, ℕ, [], true, Some, IfOk, length, map, slice_get};
+ghost use Rattle.std.specs.Prelude.{◌≡◌, ◌<◌, ℕ, [], true, None, Some, IfOk, length, map, slice_get};
 ghost use Rattle.basil_types.specs.Built.{key_fits};
 ghost use Rattle.certificates.specs.Accepted.{Accepted};
 ghost use Rattle.client_core.specs.Calls.{call_read, read_done};
 ghost use Rattle.client_core.specs.Clients.{ClientValue, SlotValue};
 ghost use Rattle.client_core.specs.Seats.{self_at};
 ghost use Rattle.client_core.specs.Showing.{ShowsHeld};
-ghost use Rattle.client_core.specs.Works.{CanPerform, IsPlanned, WillDo};
+ghost use Rattle.client_core.specs.Works.{CanPerform, Counts, IsPlanned, WillDo};
 ghost use Rattle.client_core.specs.declared.work.Work.TheVariants as works;
 ghost use Rattle.client_recover.specs.Pursuits.{to_shard};
 ghost use Rattle.frame_views.specs.Values.{Read};
@@ -57,16 +57,16 @@ fn plan_ask(held: &mut Held, seat: &Seat, slot: usize, key: &[u8]) -> Result<Cli
         (read_done (self_at seat.now accepts signing) v slot s key.now)) }
     ensures ready { (size left : ℕ) → IfOk result (CanPerform size left held.new) }
     ensures shown { (v : ClientValue) → ShowsHeld held.old v → ShowsHeld held.new v }
+    ensures slot { IfOk result (λ plan. plan.slot ≡ None) }
+    ensures cluster { held.new.cluster ≡ held.old.cluster }
 {
     let place = &held.slots[slot];
     let time = place.time;
     let asked = Asking::new(seat.alloc, key)?;
     let out = ask_frames(seat, time, key)?;
     held.room_for_read(slot)?;
-    Ok(ClientPlan {
-        work: Work::Ask { slot, asked },
-        out,
-    })
+    let plan = ClientPlan::of(Work::Ask { slot, asked }, out, 0)?;
+    Ok(plan)
 }
 
 /// A plan of nothing.
@@ -74,10 +74,15 @@ pub(crate) fn plan_nothing(seat: &Seat) -> ClientPlan
     ensures work { result.work ≡ works.Nothing }
     ensures messages { result.out.messages.items ≡ [] }
     ensures signed { result.out.signed.items ≡ [] }
+    ensures slot { result.slot ≡ None }
+    ensures counts { (size : ℕ) → Counts size result }
 {
     ClientPlan {
         work: Work::Nothing,
         out: outbox(seat.alloc),
+        slot: None,
+        messages: 0,
+        bytes: 0,
     }
 }
 
@@ -93,6 +98,8 @@ pub(crate) fn plan_read(
         IsPlanned signing held.new v result (call_read (self_at seat.now accepts signing) v slot key.now) }
     ensures ready { (size left : ℕ) → IfOk result (CanPerform size left held.new) }
     ensures shown { (v : ClientValue) → ShowsHeld held.old v → ShowsHeld held.new v }
+    ensures slot { IfOk result (λ plan. plan.slot ≡ None) }
+    ensures cluster { held.new.cluster ≡ held.old.cluster }
 {
     let place = &held.slots[slot];
     match place.read_step(key) {

@@ -4,3 +4,5 @@ pub mod ReplyLaws
 pub mod TakeLaws
 pub mod MarkLaws
 pub mod RefuseLaws
+pub mod FitLaws
+pub mod SoundLaws

@@ -14,7 +14,7 @@ use Rattle.client_recover.specs.Owned.{logged_value, unstarted, invoked}
 use Rattle.std.proofs.lemmas.Grind.{common_steps}
 use Rattle.std.specs.Option.{option_map_or}
 use Rattle.std.proofs.Math.Seq.{take-append_seam}
-use Rattle.std.proofs.lemmas.List.{map-append}
+use Rattle.std.proofs.lemmas.List.{map-append, length-take}
 use Rattle.std.proofs.lemmas.List.Elements.{filter_map-append}
 use Rattle.basil_types.specs.Built.{or_else}
 use Rattle.basil_types.specs.Setting.{Setting}
@@ -427,6 +427,42 @@ held_stands u p h =
     ap (λ (vs : List CountedVote). length vs + u.logs.count) h.votes ∙ ap (λ n. n + u.logs.count) (length-map (counted_votes p.taken) counted)
     ∙ ap (λ n. length (counted_votes p.taken) + n) h.logs.count
 
+-- before the last one
+pub stands_back : (u : Pursuit) (p : PursuitValue) → u.last ≡ last.Same → GoesBackTo u p → StandsFor u p
+stands_back u p e h =
+    record {
+      transaction = h.transaction;
+      signature = h.signature;
+      votes = sym (ap (λ l. votes_back l u.votes.items) e) ∙ h.votes;
+      logs = subst (λ l. LogsBack l u.logs (replies_of p.taken)) e h.logs;
+      outcome = sym (ap (λ l. outcome_back l (option_map certificate_value u.outcome)) e) ∙ h.outcome;
+    }
+
+pub held_without : (u : Pursuit) (p : PursuitValue) (votes : List CountedVote) → votes ≡ map counted (counted_votes p.taken) → HoldsLogs u.logs (replies_of p.taken) →
+    length votes + u.logs.count ≡ replies_held p.taken
+held_without u p votes is logs =
+    ap (λ (vs : List CountedVote). length vs + u.logs.count) is ∙ ap (λ n. n + u.logs.count) (length-map (counted_votes p.taken) counted)
+    ∙ ap (λ n. length (counted_votes p.taken) + n) logs.count
+
+pub held_back_outcome : (u : Pursuit) (p : PursuitValue) → u.last ≡ last.Outcome → GoesBackTo u p → length u.votes.items + u.logs.count ≡ replies_held p.taken
+held_back_outcome u p e h =
+    held_without u p u.votes.items (sym (ap (λ l. votes_back l u.votes.items) e) ∙ h.votes) (subst (λ l. LogsBack l u.logs (replies_of p.taken)) e h.logs)
+
+pub held_back_vote : (u : Pursuit) (p : PursuitValue) → u.last ≡ last.Vote → GoesBackTo u p → (length u.votes.items - 1) + u.logs.count ≡ replies_held p.taken
+held_back_vote u p e h =
+    let one_less : length (take (length u.votes.items - 1) u.votes.items) ≡ length u.votes.items - 1 = omega (arith, length-take (length u.votes.items - 1) u.votes.items) in
+    ap (λ n. n + u.logs.count) (sym one_less)
+    ∙ held_without u p (take (length u.votes.items - 1) u.votes.items) (sym (ap (λ l. votes_back l u.votes.items) e) ∙ h.votes)
+    (subst (λ l. LogsBack l u.logs (replies_of p.taken)) e h.logs)
+
+pub held_back_log : (u : Pursuit) (p : PursuitValue) (l : LastLog) → u.last ≡ last.Log l → GoesBackTo u p → length u.votes.items + (u.logs.count - 1) ≡ replies_held p.taken
+held_back_log u p l e h =
+    let votes : u.votes.items ≡ map counted (counted_votes p.taken) = sym (ap (λ l. votes_back l u.votes.items) e) ∙ h.votes in
+    let logs : HoldsBefore l u.logs (replies_of p.taken) = subst (λ l. LogsBack l u.logs (replies_of p.taken)) e h.logs in
+    let few : u.logs.count - 1 ≡ length (replies_of p.taken) = omega (arith, logs.count) in
+    ap (λ (vs : List CountedVote). length vs + (u.logs.count - 1)) votes ∙ ap (λ n. n + (u.logs.count - 1)) (length-map (counted_votes p.taken) counted)
+    ∙ ap (λ n. length (counted_votes p.taken) + n) few
+
 pub latest_stands : (u : Pursuit) (p : PursuitValue) → StandsFor u p →
     map reply_value (filter_map (latest_at u.logs) (all_replicas u.cluster)) ≡ map as_reply (filter_map (latest_by (replies_of p.taken)) (all_replicas u.cluster))
 latest_stands u p h =
@@ -474,6 +510,9 @@ outcome_stands u p h x d is e =
 
 pub no_outcome_stands : (u : Pursuit) (p : PursuitValue) → StandsFor u p → u.outcome ≡ None → None ≡ outcome u.cluster p
 no_outcome_stands u p h is = ap (option_map decided_by) (sym (ap (option_map certificate_value) is) ∙ h.outcome)
+
+pub no_outcome_back : (u : Pursuit) (p : PursuitValue) → GoesBackTo u p → outcome_back u.last (option_map certificate_value u.outcome) ≡ None → None ≡ outcome u.cluster p
+no_outcome_back u p h none = ap (option_map decided_by) (sym none ∙ h.outcome)
 
 -- ---- undone
 

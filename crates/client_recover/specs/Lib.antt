@@ -9,3 +9,4 @@ pub mod Replies
 pub mod Quorums
 pub mod Owned
 pub mod Standing
+pub mod Writable

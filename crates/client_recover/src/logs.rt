@@ -10,6 +10,7 @@ ghost use Rattle.client_recover.specs.declared.logs.Logs as declared;
 ghost use Rattle.client_recover.specs.Kept.{as_part, as_latest};
 ghost use Rattle.client_recover.specs.Replies.{earliest_at, latest_at, put_back, HasPlace, HoldsLogs, HoldsBefore};
 ghost use Rattle.client_recover.specs.Replies.{LogReplies, IsBefore, SameLogs, NotesFirst, ForgetsFirst, NotesLatest, RestoresLatest};
+ghost use Rattle.client_recover.specs.Writable.{AreSound, IsSound, PutsBack};
 
 use basil_types::bytes::Bytes;
 use basil_types::cluster::Cluster;
@@ -104,6 +105,7 @@ impl Logs {
     /// No log reply. Takes no memory.
     pub(crate) fn new(alloc: Global) -> Logs
         ensures holds { HoldsLogs result [] }
+        ensures sound { AreSound result }
         ensures count { result.count ≡ 0 }
     {
         Logs {
@@ -186,6 +188,8 @@ impl Logs {
         ensures holds { OnOk result ((replies : LogReplies) → HoldsLogs self.old replies →
             HoldsLogs self.new (replies ++ log_reply_of reply.now ∷ [])) }
         ensures back { IfOk result (λ last. IsBefore last self.old self.new) }
+        ensures sound { OnOk result (IsSound (log_reply_of reply.now) → AreSound self.old → AreSound self.new) }
+        ensures sound_back { IfOk result (λ last. AreSound self.old → PutsBack last.replica last.latest) }
         ensures as_before { OnErr result (SameLogs self.old self.new) }
         ensures count { OnOk result (self.new.count ≡ self.old.count + 1) }
     {
@@ -215,6 +219,7 @@ impl Logs {
         ensures holds { (replies : LogReplies) → HoldsBefore last self.old replies →
             HoldsLogs self.new replies }
         ensures same { (before : declared.Logs) → IsBefore last before self.old → SameLogs before self.new }
+        ensures sound { AreSound self.old → PutsBack last.replica last.latest → AreSound self.new }
         ensures count { self.new.count ≤ self.old.count }
     {
         if last.first {
@@ -226,7 +231,8 @@ impl Logs {
 
     /// Makes a replica's latest what it was.
     fn restore_latest(&mut self, replica: u8, before: Latest)
-        ensures { RestoresLatest self.old self.new replica before }
+        ensures restores { RestoresLatest self.old self.new replica before }
+        ensures sound { AreSound self.old → PutsBack replica before → AreSound self.new }
     {
         match before {
             Latest::Kept => {}

@@ -5,9 +5,10 @@ ghost use Rattle.basil_types.specs.Transaction as transactions;
 ghost use Rattle.certificates.specs.Deciding.{HasGoodForm};
 ghost use Rattle.certificates.specs.Refusals as refusals;
 ghost use Rattle.frame_values.specs.Owned.{certificate_value};
-ghost use Rattle.frame_views.specs.Fitting.{IsSignature};
+ghost use Rattle.frame_views.specs.Fitting.{IsId, IsSignature};
 ghost use Rattle.txn_meta.specs.Places as places;
 ghost use Rattle.client_recover.specs.Certifying.{certificate_by};
+ghost use Rattle.client_recover.specs.Writable.{AreSigned, AreSound, IsSoundLast, FitsOutcome, FitsOutcome-prop};
 
 use crate::checks::{check_certificate, check_log, check_vote};
 use crate::fast::{conflict, fast};
@@ -21,6 +22,7 @@ use basil_types::memory::NoMemory;
 use basil_types::party::Decision;
 use basil_types::transaction::{Transaction, TransactionView};
 use certificates::FrameFault;
+use frame_fitting::wider::may_be_written;
 use frame_values::decoding::own_certificate;
 use frame_values::owned::{Certificate, CertificateBody, InvokeMessage, Message, St2Message};
 use frame_views::frames::{LogReplyView, MessageView, VoteView, WritebackView};
@@ -61,18 +63,25 @@ pub struct Pursuit {
     ghost named: { id ≡ transactions.id transaction },
     ghost involves: { shards ≡ places.involved cluster transaction },
     ghost few: { vec_len votes + logs.count < 2 ^ 32 },
+    ghost votes_signed: { AreSigned votes.items },
+    ghost logs_sound: { AreSound logs },
+    ghost last_sound: { IsSoundLast last },
+    ghost outcome_fits: { FitsOutcome outcome } by { FitsOutcome-prop outcome },
 }
 
 impl Pursuit {
-    ghost use Rattle.std.specs.Prelude.{◌≢◌, ◌∷◌, Bool, false, Some, Err, IfOk, OnOk, OnErr, IfErr, option_map, length, if◌then◌else◌, ◌==◌};
+    ghost use Rattle.std.specs.Prelude.{◌≢◌, ◌∷◌, Bool, false, Some, Err, IfOk, IfSome, OnOk, OnErr, IfErr, is_some, option_map, length, if◌then◌else◌, ◌==◌};
+    ghost use Rattle.std.specs.Option.{ForSome};
     ghost use Rattle.std.specs.Str.{bytes_eq};
     ghost use Rattle.basil_types.specs.Built.{or_else};
     ghost use Rattle.basil_types.specs.Shown.{transaction_of};
     ghost use Rattle.certificates.specs.declared.fault.FrameFault.TheVariants as faults;
     ghost use Rattle.frame_values.specs.Owned.{message_value};
-    ghost use Rattle.frame_views.specs.Fitting.{FitsMessage, FitsVoted, FitsWriteback, bounds_of};
+    ghost use Rattle.frame_views.specs.Fitting.{FitsMessage, FitsVoted, FitsLogReply, FitsWriteback, FitsCertificate};
+    ghost use Rattle.frame_views.specs.Fitting.{bounds_of, widest};
     ghost use Rattle.frame_views.specs.Shown.{message_of, voted_of};
     ghost use Rattle.frame_views.specs.Shown as shown;
+    ghost use Rattle.frame_views.specs.Values.{CertificateValue};
     ghost use Rattle.client_recover.specs.Taken.{PursuitValue, TakenVote, TakenLog, TakenCertificate};
     ghost use Rattle.client_recover.specs.Certifying as certifying;
     ghost use Rattle.client_recover.specs.Certifying.{conflict_by};
@@ -80,7 +89,7 @@ impl Pursuit {
     ghost use Rattle.client_recover.specs.Frames.{vote_of, log_reply_of, writeback_of};
     ghost use Rattle.client_recover.specs.Frames.{vote_taken, log_taken, certificate_taken};
     ghost use Rattle.client_recover.specs.Kept as kept;
-    ghost use Rattle.client_recover.specs.Kept.{fast_by};
+    ghost use Rattle.client_recover.specs.Kept.{fast_by, logged_by};
     ghost use Rattle.client_recover.specs.Owned.{shown_outcome, logged_value, unstarted, invoked};
     ghost use Rattle.client_recover.specs.Pursuits as pursuits;
     ghost use Rattle.client_recover.specs.Pursuits.{second_stage, invoke_message};
@@ -240,9 +249,12 @@ impl Pursuit {
     /// The message of the second stage, with the tallies of the lowest voters, or want of memory. None exactly where
     /// `settled` is None.
     pub fn second(&self) -> Result<Option<Message>, NoMemory>
-        ensures { (p : PursuitValue) → StandsFor self.now p → IfOk result (λ m. option_map message_value m
+        ensures value { (p : PursuitValue) → StandsFor self.now p → IfOk result (λ m. option_map message_value m
             ≡ option_map (second_stage p) (certifying.settled self.now.cluster p.transaction p.taken)) }
+        // It has a spelling.
+        ensures fits { IfOk result (λ m. IfSome m (λ m. FitsMessage widest (message_value m))) }
     {
+        self.seconds_fit();
         let to_log = logged(
             self.alloc,
             &self.cluster,
@@ -261,9 +273,12 @@ impl Pursuit {
     /// The message that invokes the fallback, with each replica's latest log reply, or want of memory. None exactly
     /// where no log reply was taken (Basil, fallback).
     pub fn invoke(&self) -> Result<Option<Message>, NoMemory>
-        ensures { (p : PursuitValue) → StandsFor self.now p → IfOk result (λ m. option_map message_value m
+        ensures value { (p : PursuitValue) → StandsFor self.now p → IfOk result (λ m. option_map message_value m
             ≡ (if length (replies_of p.taken) == 0 then None else Some (invoke_message self.now.cluster p))) }
+        // It has a spelling.
+        ensures fits { IfOk result (λ m. IfSome m (λ m. FitsMessage widest (message_value m))) }
     {
+        self.invokes_fit();
         if self.logs.count() == 0 {
             return Ok(None);
         }
@@ -284,6 +299,19 @@ impl Pursuit {
         ensures { (p : PursuitValue) → StandsFor self.now p → result ≡ replies_held p.taken }
     {
         self.count()
+    }
+
+    /// What `held` told before the last add that `undo` would take back.
+    pub fn held_before(&self) -> u32
+        ensures { (p : PursuitValue) → GoesBackTo self.now p → result ≡ replies_held p.taken }
+    {
+        let votes = self.votes.len() as u32;
+        let logs = self.logs.count();
+        match &self.last {
+            Last::Same | Last::Outcome => votes + logs,
+            Last::Vote => votes.saturating_sub(1) + logs,
+            Last::Log(_) => votes + logs.saturating_sub(1),
+        }
     }
 
     /// The cluster whose frames it takes.
@@ -325,13 +353,75 @@ impl Pursuit {
 
     /// The decision and its certificate. None exactly where the frames that were taken decide nothing.
     pub fn outcome(&self) -> Option<(Decision, &Certificate)>
-        ensures { (p : PursuitValue) → StandsFor self.now p →
+        ensures value { (p : PursuitValue) → StandsFor self.now p →
             option_map shown_outcome result ≡ pursuits.outcome self.now.cluster p }
+        // The certificate has a spelling.
+        ensures fits { IfSome result (λ o. FitsCertificate widest (certificate_value o.1.now)) }
     {
         match &self.outcome {
             Some(certificate) => Some((decision_of(certificate), certificate)),
             None => None,
         }
+    }
+
+    /// What `outcome` told before the last add that `undo` would take back.
+    pub fn outcome_before(&self) -> Option<(Decision, &Certificate)>
+        ensures value { (p : PursuitValue) → GoesBackTo self.now p →
+            option_map shown_outcome result ≡ pursuits.outcome self.now.cluster p }
+        // The certificate has a spelling.
+        ensures fits { IfSome result (λ o. FitsCertificate widest (certificate_value o.1.now)) }
+    {
+        match &self.last {
+            Last::Same => self.outcome(),
+            Last::Vote | Last::Log(_) | Last::Outcome => None,
+        }
+    }
+
+    /// A second stage that the votes allow has a spelling.
+    fn seconds_fit(&self)
+        ensures { ForSome (logged_by self.now.cluster self.now.shards self.now.votes.items)
+            (λ l. FitsMessage widest (second_stage (unstarted self.now.transaction self.now.signature) l)) }
+    {
+        let _ = self.cluster.n();
+        let _ = self.transaction.view();
+    }
+
+    /// The invoke with the log replies that are kept has a spelling.
+    fn invokes_fit(&self)
+        ensures { FitsMessage widest (invoked self.now.cluster self.now.transaction self.now.logs) }
+    {
+        let _ = self.cluster.n();
+        let _ = self.log_shard();
+        id_fits(&self.id);
+    }
+
+    /// What the votes decide has a spelling, where this is the last of them.
+    fn decided_fits(&self, vote: &VoteView<'_>)
+        requires { FitsVoted (bounds_of self.now.cluster) (voted_of vote.now) }
+        ensures { ForSome (or_else (fast_by self.now.cluster self.now.id self.now.shards self.now.votes.items)
+            (conflict_by self.now.transaction (voted_of vote.now))) (FitsCertificate widest) }
+    {
+        let _ = self.cluster.n();
+        id_fits(&self.id);
+        may_be_written();
+    }
+
+    /// What the log replies decide has a spelling.
+    fn logged_fits(&self, decision: Decision, decided: u64)
+        ensures { ForSome (quorums.logged_as self.now.cluster self.now.transaction self.now.logs decision decided)
+            (FitsCertificate widest) }
+    {
+        let _ = self.cluster.n();
+        let _ = self.log_shard();
+        id_fits(&self.id);
+    }
+
+    /// A certificate that fits the cluster has a spelling.
+    fn certificates_fit(&self)
+        ensures { (c : CertificateValue) → FitsCertificate (bounds_of self.now.cluster) c → FitsCertificate widest c }
+    {
+        let _ = self.cluster.n();
+        may_be_written();
     }
 
     /// The message of a second stage that logs this.
@@ -362,7 +452,8 @@ impl Pursuit {
 
     /// The log shard.
     fn log_shard(&self) -> u8
-        ensures { result ≡ places.log_shard self.now.cluster self.now.transaction }
+        ensures value { result ≡ places.log_shard self.now.cluster self.now.transaction }
+        ensures in_range { result < self.now.cluster.shards }
     {
         log_shard(self.transaction.view(), &self.cluster)
     }
@@ -404,13 +495,21 @@ impl Pursuit {
         id.as_slice() == self.id.as_slice()
     }
 
+    /// Whether there is an outcome.
+    fn is_decided(&self) -> bool
+        ensures { result ≡ is_some self.now.outcome }
+    {
+        self.outcome.is_some()
+    }
+
     /// Takes a valid vote.
     fn take_vote(&mut self, vote: &VoteView<'_>) -> Result<(), NoMemory>
+        requires { FitsVoted (bounds_of self.old.cluster) (voted_of vote.now) }
         ensures taken { OnOk result (Takes self.old self.new (TakenVote (voted_of vote.now))) }
         ensures as_before { OnErr result (IsAsBefore self.old self.new) }
         ensures same_task { SameTask self.old self.new }
     {
-        if self.outcome.is_some() {
+        if self.is_decided() {
             self.last = Last::Same;
             return Ok(());
         }
@@ -426,6 +525,7 @@ impl Pursuit {
         requires open { self.old.outcome ≡ None }
         requires first { kept.has_voted (voted_of vote.now).shard
             (voted_of vote.now).replica self.old.votes.items ≡ false }
+        requires fits { FitsVoted (bounds_of self.old.cluster) (voted_of vote.now) }
         ensures taken { OnOk result (Takes self.old self.new (TakenVote (voted_of vote.now))) }
         ensures as_before { OnErr result (IsAsBefore self.old self.new) }
         ensures same_task { SameTask self.old self.new }
@@ -440,6 +540,7 @@ impl Pursuit {
             signature: Bytes::copy_of(self.alloc, vote.signature)?,
         };
         self.votes.push(counted)?;
+        self.decided_fits(vote);
         match self.decided_by(vote) {
             Ok(outcome) => {
                 self.outcome = outcome;
@@ -478,6 +579,7 @@ impl Pursuit {
         keys: &V,
         reply: &LogReplyView<'_>,
     ) -> Result<(), FrameFault>
+        requires { FitsLogReply (bounds_of self.old.cluster) (shown.log_reply_of reply.now) }
         ensures taken { OnOk result (TakesOf (log_taken (V.accepted keys.now) self.old.cluster self.old.transaction
             (Some (shown.log_reply_of reply.now))) self.old self.new) }
         ensures refused { IfErr result (λ e. e ≢ faults.NoMemory → log_taken (V.accepted keys.now) self.old.cluster
@@ -499,11 +601,12 @@ impl Pursuit {
 
     /// Takes a valid log reply.
     fn take_log(&mut self, reply: &LogReplyView<'_>) -> Result<(), NoMemory>
+        requires { FitsLogReply (bounds_of self.old.cluster) (shown.log_reply_of reply.now) }
         ensures taken { OnOk result (Takes self.old self.new (TakenLog (shown.log_reply_of reply.now))) }
         ensures as_before { OnErr result (IsAsBefore self.old self.new) }
         ensures same_task { SameTask self.old self.new }
     {
-        if self.outcome.is_some() {
+        if self.is_decided() {
             self.last = Last::Same;
             return Ok(());
         }
@@ -512,7 +615,8 @@ impl Pursuit {
 
     /// Counts a log reply, and decides by it.
     fn count_log(&mut self, reply: &LogReplyView<'_>) -> Result<(), NoMemory>
-        requires { self.old.outcome ≡ None }
+        requires open { self.old.outcome ≡ None }
+        requires fits { FitsLogReply (bounds_of self.old.cluster) (shown.log_reply_of reply.now) }
         ensures taken { OnOk result (Takes self.old self.new (TakenLog (shown.log_reply_of reply.now))) }
         ensures as_before { OnErr result (IsAsBefore self.old self.new) }
         ensures same_task { SameTask self.old self.new }
@@ -521,6 +625,7 @@ impl Pursuit {
             return Err(NoMemory);
         }
         let last = self.logs.add(self.alloc, reply)?;
+        self.logged_fits(reply.decision, reply.decided);
         match self.logged_as(reply.decision, reply.decided) {
             Ok(outcome) => {
                 self.outcome = outcome;
@@ -591,16 +696,18 @@ impl Pursuit {
 
     /// Takes a valid certificate.
     fn take_certificate(&mut self, m: &WritebackView<'_>) -> Result<(), NoMemory>
+        requires { FitsWriteback (bounds_of self.old.cluster) (shown.writeback_of m.now) }
         ensures taken { OnOk result
             (Takes self.old self.new (TakenCertificate (shown.writeback_of m.now).certificate)) }
         ensures as_before { OnErr result (IsAsBefore self.old self.new) }
         ensures same_task { SameTask self.old self.new }
     {
-        if self.outcome.is_some() {
+        if self.is_decided() {
             self.last = Last::Same;
             return Ok(());
         }
         let certificate = own_certificate(self.alloc, &m.certificate)?;
+        self.certificates_fit();
         self.outcome = Some(certificate);
         self.last = Last::Outcome;
         Ok(())
@@ -619,6 +726,11 @@ fn decision_of(certificate: &Certificate) -> Decision
         }
     }
 }
+
+/// An id has 32 bytes.
+fn id_fits(id: &[u8; 32])
+    ensures { IsId id.now }
+{}
 
 /// The id of a transaction.
 fn own_id(t: &Transaction) -> [u8; 32]

@@ -12,14 +12,20 @@ mod proofs;
 #[cfg(test)]
 mod proving;
 #[cfg(test)]
+mod pursuing;
+#[cfg(test)]
 mod pursuits;
 #[cfg(test)]
 mod replies;
 #[cfg(test)]
 mod reply_vectors;
 #[cfg(test)]
+mod stages;
+#[cfg(test)]
 mod tallies;
 #[cfg(test)]
 mod told;
+#[cfg(test)]
+mod undone;
 #[cfg(test)]
 mod vectors;

@@ -2,95 +2,13 @@
 
 use crate::answers::{Pursued, frame_of};
 use crate::made::fast_commit;
-use crate::told;
+use crate::pursuing::{READS_A, after, outcome_text, pursuit_of, take};
 use crate::vectors::{WRITES_A, WRITES_B, WRITES_BOTH};
-use basil_types::bytes::Bytes;
 use basil_types::cluster::Cluster;
-use basil_types::transaction::TransactionView;
 use certificates::CertRefusal;
-use client_recover::{FrameFault, Pursuit};
-use frame_views::frames::{MessageView, check};
-use keyring::plain::PlainKeys;
+use client_recover::FrameFault;
 use std::alloc::Global;
 use std::test::Fail;
-use txn_meta::form::check_form;
-
-/// Time 30, client 1, a read of a as genesis has it: committed, a rival of a writer of a at time 10.
-const READS_A: &[u8] = &[
-    1, 0, 0, 0, 0, 0, 0, 0, 30, 1, 1, 1, 0x61, 0, 0, 0, 0, 0, 0, 0, 0, 0, 0, 0, 0, 0, 0, 0, 0, 0,
-    0, 0, 0, 0, 0, 0, 0, 0, 0, 0, 0, 0, 0, 0, 0, 0, 0, 0, 0, 0, 0, 0, 0, 0, 0, 0,
-];
-
-/// A pursuit for which no frame was taken; fails where the bytes are no transaction of good form.
-fn pursuit_of(alloc: Global, transaction: &[u8], cluster: &Cluster) -> Result<Pursuit, Fail> {
-    let signature = Bytes::copy_of(alloc, b"signature")?;
-    match TransactionView::read(transaction, 0) {
-        Ok(t) => {
-            let owned = t.try_owned(alloc)?;
-            match check_form(owned.view()) {
-                Ok(()) => Ok(Pursuit::new(alloc, owned, signature, *cluster)),
-                Err(_) => Err(Fail::new("no good form")),
-            }
-        }
-        Err(_) => Err(Fail::new("no transaction")),
-    }
-}
-
-/// What is pursued, with f = 1: a writer of a in a cluster of one shard, and one of a and b in a cluster of two, where a is
-/// of shard 1 and b of shard 0.
-fn pursued<'a>(shards: u8, rival: &'a [u8]) -> Pursued<'a> {
-    if shards == 1 {
-        Pursued {
-            transaction: WRITES_A,
-            rival,
-            tallies: &[(0, 6)],
-        }
-    } else {
-        Pursued {
-            transaction: WRITES_BOTH,
-            rival,
-            tallies: &[(0, 6), (1, 6)],
-        }
-    }
-}
-
-/// Takes a frame by its kind; fails where it is no vote, log reply or writeback of the cluster.
-fn take(pursuit: &mut Pursuit, frame: &[u8]) -> Result<Result<(), FrameFault>, Fail> {
-    let cluster = *pursuit.cluster();
-    let keys = PlainKeys::new(&cluster);
-    match check(frame, &cluster) {
-        Ok(m) => match m {
-            MessageView::Vote(_) => Ok(pursuit.add_vote(&keys, &m)),
-            MessageView::LogReply(_) => Ok(pursuit.add_log(&keys, &m)),
-            MessageView::Writeback(_) => Ok(pursuit.add_certificate(&keys, &m)),
-            _ => Err(Fail::new("another kind")),
-        },
-        Err(_) => Err(Fail::new("no frame")),
-    }
-}
-
-/// A pursuit that took the frames of these names, in order; fails where one is refused.
-fn after(alloc: Global, shards: u8, words: &str) -> Result<Pursuit, Fail> {
-    let cluster = Cluster::new(1, shards, 2, 100)?;
-    let rival = fast_commit(alloc, READS_A, &[(shards.saturating_sub(1), 6)])?;
-    let pursued = pursued(shards, &rival);
-    let mut pursuit = pursuit_of(alloc, pursued.transaction, &cluster)?;
-    for word in words.split(' ') {
-        let frame = frame_of(alloc, &pursued, word)?;
-        if take(&mut pursuit, &frame)?.is_err() {
-            return Err(Fail::new("refused"));
-        }
-    }
-    Ok(pursuit)
-}
-
-/// The outcome as a text, empty where there is none.
-fn outcome(alloc: Global, pursuit: &Pursuit) -> Result<String, Fail> {
-    match pursuit.outcome() {
-        Some((_, certificate)) => Ok(told::certificate(alloc, certificate)?),
-        None => Ok(String::new(alloc)),
-    }
-}
 
 /// The shards of the cluster, the frames, and the certificate that decides, with f = 1: a fast commit wants six votes of
 /// each shard, a fast abort four of one, and a logged decision five log replies.
@@ -151,7 +69,7 @@ const OUTCOMES: &[(u8, &str, &str)] = &[
 fn five_rules_decide_in_their_order(rt: HostRuntime) -> Result<(), Fail> {
     for (shards, words, wanted) in OUTCOMES {
         let pursuit = after(rt.alloc(), *shards, words)?;
-        let found = outcome(rt.alloc(), &pursuit)?;
+        let found = outcome_text(rt.alloc(), pursuit.outcome())?;
         assert!(rt; found.as_str() == *wanted, "{words}: {found}");
     }
     Ok(())

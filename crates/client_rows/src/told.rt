@@ -1,7 +1,9 @@
-//! Certificates as short texts.
+//! Certificates, second stages and invokes as short texts.
 
 use basil_types::party::Decision;
-use frame_values::owned::{Certificate, CertificateBody, LogPart, ShardVotes, VotePart};
+use frame_values::owned::{
+    Certificate, CertificateBody, InvokePart, LogPart, Message, ShardVotes, VotePart,
+};
 use std::alloc::{AllocError, Global};
 
 /// A decision by its name.
@@ -60,6 +62,32 @@ pub(crate) fn certificate(alloc: Global, told: &Certificate) -> Result<String, A
             write!(text, "logged {} in {decided}:", name_of(*decision))?;
             put_logs(&mut text, logs.as_slice())?;
         }
+    }
+    Ok(text)
+}
+
+/// ` 2@3 commit 1`, the log reply of replica 2 with view 3 current: it commits, decided in view 1.
+fn put_replies(text: &mut String, replies: &[InvokePart]) -> Result<(), AllocError> {
+    for reply in replies {
+        write!(text, " {}@{} ", reply.replica, reply.current)?;
+        write!(text, "{} {}", name_of(reply.decision), reply.decided)?;
+    }
+    Ok(())
+}
+
+/// A second stage or an invoke: what it says, and by whom. Empty for another message.
+pub(crate) fn message(alloc: Global, told: &Message) -> Result<String, AllocError> {
+    let mut text = String::new(alloc);
+    match told {
+        Message::St2(m) => {
+            text.push_str(name_of(m.decision))?;
+            put_tallies(&mut text, m.tallies.as_slice())?;
+        }
+        Message::Invoke(m) => {
+            write!(text, "{}:", m.shard)?;
+            put_replies(&mut text, m.replies.as_slice())?;
+        }
+        _ => {}
     }
     Ok(text)
 }

@@ -36,7 +36,11 @@ fn transaction(alloc: Global, shards: u8) -> Result<Vec<u8>, NoMemory> {
 }
 
 /// The pen's signature of these words.
-fn signed_by<S: Signer>(alloc: Global, pen: &mut S, words: &[u8]) -> Result<Vec<u8>, NoMemory> {
+pub(crate) fn signed_by<S: Signer>(
+    alloc: Global,
+    pen: &mut S,
+    words: &[u8],
+) -> Result<Vec<u8>, NoMemory> {
     let mut signature = Vec::from_elem(alloc, 0u8, pen.size())?;
     match pen.sign_into(words, &mut signature) {
         Ok(()) => Ok(signature),
@@ -73,7 +77,7 @@ fn put_vote(
 }
 
 /// The votes of every replica of a shard.
-fn put_shard(
+pub(crate) fn put_shard(
     alloc: Global,
     out: &mut Vec<u8>,
     votes: Votes,

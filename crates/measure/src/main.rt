@@ -6,6 +6,7 @@ mod frames;
 mod lines;
 mod made;
 mod signatures;
+mod steps;
 mod work;
 
 use std::process::ExitCode;

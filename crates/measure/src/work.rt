@@ -5,6 +5,7 @@ use crate::frames::{Place, Reading, Size, read_often};
 use crate::lines::{long_line, short_lines};
 use crate::made::Votes;
 use crate::signatures::{make_keys, sign, verify_often};
+use crate::steps::{Handing, Stepping, lms_steps, plain_steps};
 use basil_types::memory::NoMemory;
 use lms_sign::LmsSet;
 use std::alloc::Global;
@@ -28,6 +29,10 @@ pub enum Work {
     Prove(Proving, Votes, u8),
     /// Makes the keys of a replay of the largest cluster so many times.
     Rings(LmsSet),
+    /// Hands a replica of plain keys that knows so many transactions so many frames.
+    Step(Stepping, Handing, u32),
+    /// Hands a replica of LMS keys so many first stages.
+    LmsStep(LmsSet, Handing),
 }
 
 /// The works, and their names.
@@ -124,6 +129,44 @@ const WORKS: &[(&str, Work)] = &[
     ),
     ("rings-w4h5", Work::Rings(LmsSet::W4H5)),
     ("rings-w8h5", Work::Rings(LmsSet::W8H5)),
+    (
+        "first-1000",
+        Work::Step(Stepping::FirstStage, Handing::Handed, 1000),
+    ),
+    (
+        "first-400000",
+        Work::Step(Stepping::FirstStage, Handing::Handed, 400000),
+    ),
+    (
+        "first-made",
+        Work::Step(Stepping::FirstStage, Handing::Made, 0),
+    ),
+    (
+        "writeback-1000",
+        Work::Step(Stepping::Writeback, Handing::Handed, 1000),
+    ),
+    (
+        "writeback-400000",
+        Work::Step(Stepping::Writeback, Handing::Handed, 400000),
+    ),
+    (
+        "writeback-made",
+        Work::Step(Stepping::Writeback, Handing::Made, 0),
+    ),
+    (
+        "read-1000",
+        Work::Step(Stepping::Read, Handing::Handed, 1000),
+    ),
+    (
+        "read-400000",
+        Work::Step(Stepping::Read, Handing::Handed, 400000),
+    ),
+    ("read-made", Work::Step(Stepping::Read, Handing::Made, 0)),
+    ("first-w4h10", Work::LmsStep(LmsSet::W4H10, Handing::Handed)),
+    (
+        "first-w4h10-made",
+        Work::LmsStep(LmsSet::W4H10, Handing::Made),
+    ),
 ];
 
 impl Work {
@@ -149,5 +192,7 @@ pub fn checksum(alloc: Global, work: Work, count: u32) -> Result<u64, NoMemory> 
         Work::Read(reading, size, place) => read_often(alloc, reading, size, place, count),
         Work::Prove(proving, votes, shards) => prove(alloc, proving, votes, shards, count),
         Work::Rings(set) => make_rings(alloc, set, count),
+        Work::Step(stepping, handing, known) => plain_steps(alloc, stepping, handing, known, count),
+        Work::LmsStep(set, handing) => lms_steps(alloc, set, handing, count),
     }
 }

@@ -10,7 +10,8 @@ or_same : (x y z : Option Refusal) → or_else x (or_else y z) ≡ or_else (or_e
 or_same None y z = refl
 or_same (Some e) y z = refl
 
-pub refused_first : (x y z : Option Refusal) (e : Refusal) (done : Done) → or_else x y ≡ Some e → unless (or_else x (or_else y z)) done ≡ Err e
+pub refused_first : (x y z : Option Refusal) (e : Refusal) (done : Done) → or_else x y ≡ Some e
+    → unless (or_else x (or_else y z)) done ≡ Err e
 refused_first x y z e done h = ap (λ o. unless o done) (or_same x y z ∙ ap (λ o. or_else o z) h)
 
 pub refused_last : (x y z : Option Refusal) → or_else x y ≡ None → or_else x (or_else y z) ≡ z

@@ -18,7 +18,8 @@ use Rattle.replica_core.specs.Replicas.{ReplicaSelf, BookValue}
 use Rattle.replica_core.specs.Signing.{exhausted}
 use Rattle.replica_core.specs.Telling.{IsPlanned}
 
-pub collects : (me : ReplicaSelf) (seat : Seat) (signing : Signing) (book : BookValue) (t : TransactionValue) (m : ElectValue) (i : List ℕ) (word : ElectPart) (next : LeadingValue) (p : ProposalValue) (r : Result LeadWork Refusal)
+pub collects : (me : ReplicaSelf) (seat : Seat) (signing : Signing) (book : BookValue) (t : TransactionValue) (m : ElectValue) (i : List ℕ)
+    (word : ElectPart) (next : LeadingValue) (p : ProposalValue) (r : Result LeadWork Refusal)
     → seat.home ≡ me.home → i ≡ id t → word ≡ word_of m → next.next ≡ Some (collected me.home.cluster.f book.kept i m.view word)
     → proposal_of me.home.cluster.f book.kept i m.view word ≡ Some p
     → IsPlanned (perform_lead signing (kept_after seat book t m)) book r (unless (exhausted 1 book.pen) (propose_done me book t m p))
@@ -32,4 +33,5 @@ collects me seat signing book t m i word next p r home named signed kept proposa
     let made : proposal_of f book.kept (id t) m.view (word_of m) ≡ Some p =
     sym (ap (λ x. proposal_of f book.kept x m.view word) named ∙ ap (proposal_of f book.kept (id t) m.view) signed) ∙ proposal in
     subst (λ (ks : List KeptWord). IsPlanned (perform_lead signing ks) book r (collect me book t m)) (sym same)
-    (subst (λ (o : Option ProposalValue). IsPlanned (perform_lead signing (kept_after seat book t m)) book r (collect_by me book t m o)) (sym made) h)
+    (subst (λ (o : Option ProposalValue). IsPlanned (perform_lead signing (kept_after seat book t m)) book r (collect_by me book t m o))
+    (sym made) h)

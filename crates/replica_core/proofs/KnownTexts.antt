@@ -11,7 +11,8 @@ use Rattle.replica_core.specs.Known.{known_of, with_known}
 abbrev text : List EntryValue → TransactionValue → Option ℕ → TransactionValue
 text es t o = option_map_or (λ (e : EntryValue). e.transaction) (option_and_then (slice_get es) o) t
 
-named_by : (o : Option EntryValue) (t : TransactionValue) (i : List ℕ) → option_map id_of o ≡ Some i → id (option_map_or (λ (e : EntryValue). e.transaction) o t) ≡ i
+named_by : (o : Option EntryValue) (t : TransactionValue) (i : List ℕ) → option_map id_of o ≡ Some i
+    → id (option_map_or (λ (e : EntryValue). e.transaction) o t) ≡ i
 named_by None t i h = absurd cc
 named_by (Some e) t i h = let z : id_of e ≡ i = cc in z
 
@@ -33,7 +34,8 @@ known_arrives law es t = by (place_of es (id t)) refl
         ∙ sym (ap (λ o. cond (is_some o) es (es ++ arrived t ∷ [])) e)
 
 -- where it is at a place, and where it isn't known
-pub known_at : (es : List EntryValue) (t : TransactionValue) (p : ℕ) (e : EntryValue) → place_of es (id t) ≡ Some p → slice_get es p ≡ Some e → known_of es t ≡ e.transaction
+pub known_at : (es : List EntryValue) (t : TransactionValue) (p : ℕ) (e : EntryValue) → place_of es (id t) ≡ Some p
+    → slice_get es p ≡ Some e → known_of es t ≡ e.transaction
 known_at es t p e at got = ap (text es t) at ∙ ap (λ (o : Option EntryValue). option_map_or (λ (e : EntryValue). e.transaction) o t) got
 
 pub known_not : (es : List EntryValue) (t : TransactionValue) → place_of es (id t) ≡ None → known_of es t ≡ t

@@ -19,7 +19,8 @@ pub written_by : (c : CollectorValue) (held : Bool) → AreWritten c → AllWrit
 written_by c true h = h.before
 written_by c false h = h.kept
 
-pub written_collected : (f : ℕ) (kept : List KeptWord) (id : List ℕ) (view : ℕ) (word : ElectPart) → AllWritten kept → IsWritten word → AllWritten (collected f kept id view word)
+pub written_collected : (f : ℕ) (kept : List KeptWord) (id : List ℕ) (view : ℕ) (word : ElectPart) → AllWritten kept → IsWritten word
+    → AllWritten (collected f kept id view word)
 written_collected f kept id view word all one = by (counts f kept id view word)
   where
     by : (b : Bool) → AllWritten (cond b (kept ++ record { id = id; view = view; word = word } ∷ []) kept)
@@ -27,10 +28,12 @@ written_collected f kept id view word all one = by (counts f kept id view word)
     by false = all
 
 words_written : (kept : List KeptWord) (id : List ℕ) (view : ℕ) → AllWritten kept → All IsWritten (words_of kept id view)
-words_written kept id view all = All-map IsWritten (λ (k : KeptWord). k.word) (filter (is_of id view) kept) (All-filter (is_of id view) (λ (k : KeptWord). IsWritten k.word) kept all)
+words_written kept id view all = All-map IsWritten (λ (k : KeptWord). k.word) (filter (is_of id view) kept)
+    (All-filter (is_of id view) (λ (k : KeptWord). IsWritten k.word) kept all)
 
 -- each stands above the one before it
-items_from : (floor : ℕ) (w : ElectPart) (ws : List ElectPart) → floor ≤ w.replica → IsStrictlyIncreasing (map (λ w. w.replica) (w ∷ ws)) → All IsWritten (w ∷ ws)
+items_from : (floor : ℕ) (w : ElectPart) (ws : List ElectPart) → floor ≤ w.replica → IsStrictlyIncreasing (map (λ w. w.replica) (w ∷ ws))
+    → All IsWritten (w ∷ ws)
     → AreItems (FitsWord widest) after_word floor (map word_value (w ∷ ws))
 items_from floor w [] least up all =
     let one = All-head IsWritten w [] all in
@@ -41,12 +44,14 @@ items_from floor w (v ∷ ws) least up all =
     let rest : IsStrictlyIncreasing (map (λ w. w.replica) (v ∷ ws)) =
     λ k h.
     let i : suc k + 1 ≡ suc (k + 1) = omega arith in
-    subst (λ n. slice_index (map (λ w. w.replica) (w ∷ v ∷ ws)) (suc k) < slice_index (map (λ w. w.replica) (w ∷ v ∷ ws)) n) i (up (suc k) (omega (arith, h))) in (
+    subst (λ n. slice_index (map (λ w. w.replica) (w ∷ v ∷ ws)) (suc k) < slice_index (map (λ w. w.replica) (w ∷ v ∷ ws)) n) i
+    (up (suc k) (omega (arith, h))) in (
       record { above = least; below = one.replica; signature = one.signature },
       items_from (w.replica + 1) v ws (omega (arith, next)) rest (All-tail IsWritten w (v ∷ ws) all),
     )
 
-items_of : (ws : List ElectPart) → IsStrictlyIncreasing (map (λ w. w.replica) ws) → All IsWritten ws → AreItems (FitsWord widest) after_word 0 (map word_value ws)
+items_of : (ws : List ElectPart) → IsStrictlyIncreasing (map (λ w. w.replica) ws) → All IsWritten ws
+    → AreItems (FitsWord widest) after_word 0 (map word_value ws)
 items_of [] up all = tt
 items_of (w ∷ ws) up all = items_from 0 w ws (omega arith) up all
 
@@ -54,7 +59,8 @@ same_length : (ws : List ElectPart) → length (map word_value ws) ≡ length ws
 same_length [] = refl
 same_length (w ∷ ws) = ap suc (same_length ws)
 
-pub proposal_counted : (c : Setting) (kept : List KeptWord) (id : List ℕ) (view : ℕ) (ps : List ElectPart) (decision : Decision) → IsSetting c → AllWritten kept
+pub proposal_counted : (c : Setting) (kept : List KeptWord) (id : List ℕ) (view : ℕ) (ps : List ElectPart) (decision : Decision)
+    → IsSetting c → AllWritten kept
     → IsPermutation (words_of kept id view) ps → Elects c.f ps decision → AreCounted (FitsWord widest) after_word (map word_value ps)
 proposal_counted c kept id view ps decision setting all same elects =
     record {

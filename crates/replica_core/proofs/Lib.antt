@@ -18,3 +18,7 @@ mod ReadPlans
 mod LeadPlans
 mod KnownTexts
 mod Performing
+mod Behind
+mod Stepping
+mod KindPlans
+mod Recovering

@@ -57,7 +57,8 @@ module _ (seat : Seat) (accepts : Accepted) (signing : Signing) (book : BookValu
   log : List ℕ → LogCell → Option (List ℕ) → List ℕ → LoggedEntry
   log id cell reply askers = record { id = id; cell = cell; reply = reply; askers = askers }
 
-  module _ (from : Party) (t : TransactionValue) (id : List ℕ) (cell : LogCell) (askers : List ℕ) (arrives : Option TransactionValue) (asked : Vec ℕ Global) (law : LogRepliesEnd)
+  module _ (from : Party) (t : TransactionValue) (id : List ℕ) (cell : LogCell) (askers : List ℕ) (arrives : Option TransactionValue)
+      (asked : Vec ℕ Global) (law : LogRepliesEnd)
       (entries : arrived_in book.entries arrives ≡ with_known book.entries t) (asks : asked.items ≡ asked_by from askers) where
     pub anew_planned : (p : Pending) → exhausted 1 book.pen ≡ None → p.words ≡ words_of (said_words_of seat id cell)
         → fronts_of p ≡ front_for (unsigned_log_reply (said_reply seat id cell)) from ∷ []
@@ -67,43 +68,72 @@ module _ (seat : Seat) (accepts : Accepted) (signing : Signing) (book : BookValu
     anew_planned p left words fronts =
         let me = self_at seat accepts signing in
         let gives = signing.gives book.pen.spent in
-        let reply : List ℕ → List Envelope = λ w. framed (reply_to from (log_reply (self_at seat accepts signing) id cell (signing.gives book.pen.spent w))) ∷ [] in
+        let reply : List ℕ
+        → List Envelope = λ w. framed
+        (reply_to from (log_reply (self_at seat accepts signing) id cell (signing.gives book.pen.spent w))) ∷ [] in
         let g = signing.gives book.pen.spent p.words in
         let sent : framed (reply_to from (log_reply (self_at seat accepts signing) id cell g)) ∷ [] ≡ sealed_all g p =
-        sends_one (LogReply (log_reply (self_at seat accepts signing) id cell g)) (unsigned_log_reply (said_reply seat id cell)) g p from (law (log_reply (self_at seat accepts signing) id cell g)) fronts in
+        sends_one (LogReply (log_reply (self_at seat accepts signing) id cell g)) (unsigned_log_reply (said_reply seat id cell)) g p from
+        (law (log_reply (self_at seat accepts signing) id cell g)) fronts in
         ap (λ o. told_of (unless o (reply_anew (self_at seat accepts signing) from book t (logged_at id cell askers)))) left
-        ∙ ap Ok (ap (λ w. made (with_known book.entries t) (log id cell (Some (signing.gives book.pen.spent w)) (asked_by from askers)) (w ∷ []) (framed (reply_to from (log_reply (self_at seat accepts signing) id cell (signing.gives book.pen.spent w))) ∷ [])) (sym words)
-        ∙ ap (λ es. made es (log id cell (Some g) (asked_by from askers)) (p.words ∷ []) (framed (reply_to from (log_reply (self_at seat accepts signing) id cell g)) ∷ [])) (sym entries)
-        ∙ ap (λ ns. made (arrived_in book.entries arrives) (log id cell (Some g) ns) (p.words ∷ []) (framed (reply_to from (log_reply (self_at seat accepts signing) id cell g)) ∷ [])) (sym asks)
+        ∙ ap Ok
+        (ap
+        (λ w. made (with_known book.entries t) (log id cell (Some (signing.gives book.pen.spent w)) (asked_by from askers)) (w ∷ [])
+        (framed (reply_to from (log_reply (self_at seat accepts signing) id cell (signing.gives book.pen.spent w))) ∷ []))
+        (sym words)
+        ∙ ap
+        (λ es. made es (log id cell (Some g) (asked_by from askers)) (p.words ∷ [])
+        (framed (reply_to from (log_reply (self_at seat accepts signing) id cell g)) ∷ [])) (sym entries)
+        ∙ ap
+        (λ ns. made (arrived_in book.entries arrives) (log id cell (Some g) ns) (p.words ∷ [])
+        (framed (reply_to from (log_reply (self_at seat accepts signing) id cell g)) ∷ [])) (sym asks)
         ∙ ap (made (arrived_in book.entries arrives) (log id cell (Some g) asked.items) (p.words ∷ [])) sent)
 
     pub again_planned : (stored frame : List ℕ) → frame ≡ unsigned_log_reply (said_reply seat id cell) ++ long_text stored
         → told_of (Ok (reply_again (self_at seat accepts signing) from book t (logged_at id cell askers) stored))
-        ≡ Ok (perform_log signing (begun book) (record { arrives = arrives; id = id; cell = cell; askers = asked; said = Again stored (record { to = from; frame = frame }) }))
+        ≡ Ok
+        (perform_log signing (begun book)
+        (record {
+          arrives = arrives;
+          id = id;
+          cell = cell;
+          askers = asked;
+          said = Again stored
+              (record { to = from; frame = frame });
+        }))
     again_planned stored frame is =
         let told : List EntryValue → List ℕ → List ℕ → Told =
         λ es ns frame.
         let l : LoggedEntry = record { id = id; cell = cell; reply = Some stored; askers = ns } in
         let e : Envelope = record { to = from; frame = frame } in
         record { book = record book { entries = es; logged = put_logged l book.logged }; signed = []; sent = e ∷ [] } in
-        let spelled : spelling (LogReply (log_reply (self_at seat accepts signing) id cell stored)) ≡ frame = law (log_reply (self_at seat accepts signing) id cell stored) ∙ sym is in
-        ap Ok (ap (λ es. told es (asked_by from askers) (spelling (LogReply (log_reply (self_at seat accepts signing) id cell stored)))) (sym entries)
-        ∙ ap (λ ns. told (arrived_in book.entries arrives) ns (spelling (LogReply (log_reply (self_at seat accepts signing) id cell stored)))) (sym asks)
+        let spelled : spelling (LogReply (log_reply (self_at seat accepts signing) id cell stored)) ≡ frame = law
+        (log_reply (self_at seat accepts signing) id cell stored) ∙ sym is in
+        ap Ok
+        (ap (λ es. told es (asked_by from askers) (spelling (LogReply (log_reply (self_at seat accepts signing) id cell stored))))
+        (sym entries)
+        ∙ ap
+        (λ ns. told (arrived_in book.entries arrives) ns
+        (spelling (LogReply (log_reply (self_at seat accepts signing) id cell stored)))) (sym asks)
         ∙ ap (told (arrived_in book.entries arrives) asked.items) spelled)
 
   pub enter_planned : (from : Party) (t : TransactionValue) (l : LoggedEntry) (view : ℕ) (asked : Vec ℕ Global) (p : Pending) → ElectsEnd
       → stale l.cell.current view ≡ None → exhausted 1 book.pen ≡ None → asked.items ≡ asked_by from l.askers
       → p.words ≡ words_of (election_words (self_at seat accepts signing) l.id l.cell.decision view)
-      → fronts_of p ≡ front_for (unsigned_elect (elect_said seat t l.cell.decision view)) (Replica seat.home.shard (leader_of seat.home.cluster t.time view)) ∷ []
+      → fronts_of p ≡ front_for (unsigned_elect (elect_said seat t l.cell.decision view))
+      (Replica seat.home.shard (leader_of seat.home.cluster t.time view)) ∷ []
       → told_of (enter_view (self_at seat accepts signing) from book t l view)
-      ≡ Ok (perform_log signing (begun book) (record { arrives = None; id = l.id; cell = entered l.cell view; askers = asked; said = Entered p }))
+      ≡ Ok
+      (perform_log signing (begun book)
+      (record { arrives = None; id = l.id; cell = entered l.cell view; askers = asked; said = Entered p }))
   unfolding made log
   enter_planned from t l view asked p law raised left asks words fronts =
       let g = signing.gives book.pen.spent p.words in
       let leader = Replica seat.home.shard (leader_of seat.home.cluster t.time view) in
       let word : List ℕ → ElectValue =
       λ w. record { transaction = t; shard = seat.home.shard; replica = seat.index; decision = l.cell.decision; view = view; signature = signing.gives book.pen.spent w } in
-      let sent : (w : List ℕ) → List Envelope = λ w. let e : EnvelopeValue = record { to = leader; message = Elect (word w) } in framed e ∷ [] in
+      let sent : (w : List ℕ)
+      → List Envelope = λ w. let e : EnvelopeValue = record { to = leader; message = Elect (word w) } in framed e ∷ [] in
       let sealed : (let e : EnvelopeValue = record { to = leader; message = Elect (word p.words) } in framed e) ∷ [] ≡ sealed_all g p =
       sends_one (Elect (word p.words)) (unsigned_elect (elect_said seat t l.cell.decision view)) g p leader (law (word p.words)) fronts in
       ap (λ o. told_of (unless (or_else o (exhausted 1 book.pen)) (enter_done (self_at seat accepts signing) from book t l view))) raised
@@ -112,8 +142,10 @@ module _ (seat : Seat) (accepts : Accepted) (signing : Signing) (book : BookValu
       ∙ ap (λ ns. made book.entries (log l.id (entered l.cell view) None ns) (p.words ∷ []) (sent p.words)) (sym asks)
       ∙ ap (made book.entries (log l.id (entered l.cell view) None asked.items) (p.words ∷ [])) sealed)
 
-  pub told_planned : (t : TransactionValue) (m : DecideValue) (l : Option LoggedEntry) (id : List ℕ) (cell : LogCell) (askers : List ℕ) (arrives : Option TransactionValue) (copied : Vec ℕ Global) (p : Pending) → LogRepliesEnd
-      → exhausted 1 book.pen ≡ None → arrived_in book.entries arrives ≡ with_known book.entries t → transactions.id t ≡ id → cell_of m.decision m.view ≡ cell → askers_with l ≡ askers
+  pub told_planned : (t : TransactionValue) (m : DecideValue) (l : Option LoggedEntry) (id : List ℕ) (cell : LogCell) (askers : List ℕ)
+      (arrives : Option TransactionValue) (copied : Vec ℕ Global) (p : Pending) → LogRepliesEnd
+      → exhausted 1 book.pen ≡ None → arrived_in book.entries arrives ≡ with_known book.entries t → transactions.id t ≡ id
+      → cell_of m.decision m.view ≡ cell → askers_with l ≡ askers
       → copied.items ≡ askers → p.words ≡ words_of (said_words_of seat id cell)
       → fronts_of p ≡ map (front_for (unsigned_log_reply (said_reply seat id cell))) (map Client askers)
       → told_of (unless (exhausted 1 book.pen) (adopt_done (self_at seat accepts signing) book t m l))
@@ -122,12 +154,17 @@ module _ (seat : Seat) (accepts : Accepted) (signing : Signing) (book : BookValu
   told_planned t m l id cell askers arrives copied p law left entries named celled asks copy words fronts =
       let g = signing.gives book.pen.spent p.words in
       let sent : List ℕ → LogCell → List ℕ → List ℕ → List Envelope =
-      λ id cell ns w. map framed (map (λ number. reply_to (Client number) (log_reply (self_at seat accepts signing) id cell (signing.gives book.pen.spent w))) ns) in
+      λ id cell ns w. map framed
+      (map
+      (λ number. reply_to (Client number)
+      (log_reply (self_at seat accepts signing) id cell (signing.gives book.pen.spent w))) ns) in
       let told : List ℕ → LogCell → List ℕ → List ℕ → Told =
-      λ id cell ns w. made (with_known book.entries t) (log id cell (Some (signing.gives book.pen.spent w)) ns) (w ∷ []) (sent id cell ns w) in
+      λ id cell ns w. made (with_known book.entries t) (log id cell (Some (signing.gives book.pen.spent w)) ns) (w ∷ [])
+      (sent id cell ns w) in
       let said : List ℕ → LogCell → List ℕ = λ id cell. words_of (log_words (self_at seat accepts signing) id cell) in
       let sealed : sent id cell askers p.words ≡ sealed_all g p =
-      sends (LogReply (log_reply (self_at seat accepts signing) id cell g)) (unsigned_log_reply (said_reply seat id cell)) g p Client askers (law (log_reply (self_at seat accepts signing) id cell g)) fronts in
+      sends (LogReply (log_reply (self_at seat accepts signing) id cell g)) (unsigned_log_reply (said_reply seat id cell)) g p Client askers
+      (law (log_reply (self_at seat accepts signing) id cell g)) fronts in
       ap (λ o. told_of (unless o (adopt_done (self_at seat accepts signing) book t m l))) left
       ∙ ap Ok (ap (λ i. told i (cell_of m.decision m.view) (askers_with l) (said i (cell_of m.decision m.view))) named
       ∙ ap (λ c. told id c (askers_with l) (said id c)) celled
@@ -137,6 +174,7 @@ module _ (seat : Seat) (accepts : Accepted) (signing : Signing) (book : BookValu
       ∙ ap (λ ns. made (arrived_in book.entries arrives) (log id cell (Some g) ns) (p.words ∷ []) (sent id cell askers p.words)) (sym copy)
       ∙ ap (made (arrived_in book.entries arrives) (log id cell (Some g) copied.items) (p.words ∷ [])) sealed)
 
-pub says_of_all : (size left : ℕ) (r : Result LogWork Refusal) → IfOk r (λ w. (size left : ℕ) → CanSay size left w.said) → IfOk r (λ w. CanSay size left w.said)
+pub says_of_all : (size left : ℕ) (r : Result LogWork Refusal) → IfOk r (λ w. (size left : ℕ) → CanSay size left w.said)
+    → IfOk r (λ w. CanSay size left w.said)
 says_of_all size left (Ok w) h = h size left
 says_of_all size left (Err e) h = h

@@ -28,11 +28,14 @@ swapped a b false e = by (bytes_eq b a) refl
 entry_of : List ℕ × Log → LoggedEntry
 entry_of e = logged_as e.0 e.1
 
-pub found : (id : List ℕ) (es : List (List ℕ × Log)) → option_map (logged_as id) (lookup (bytes_eq id) es) ≡ find (is_of id) (map (λ e. logged_as e.0 e.1) es)
+pub found : (id : List ℕ) (es : List (List ℕ × Log))
+    → option_map (logged_as id) (lookup (bytes_eq id) es) ≡ find (is_of id) (map (λ e. logged_as e.0 e.1) es)
 found id [] = refl
 found id ((k, v) ∷ es) = by (found id es) (bytes_eq id k) refl
   where
-    by : option_map (logged_as id) (lookup (bytes_eq id) es) ≡ find (is_of id) (map (λ e. logged_as e.0 e.1) es) → (b : Bool) → bytes_eq id k ≡ b → option_map (logged_as id) (lookup (bytes_eq id) ((k, v) ∷ es)) ≡ find (is_of id) (map (λ e. logged_as e.0 e.1) ((k, v) ∷ es))
+    by : option_map (logged_as id) (lookup (bytes_eq id) es) ≡ find (is_of id) (map (λ e. logged_as e.0 e.1) es) → (b : Bool)
+        → bytes_eq id k ≡ b
+        → option_map (logged_as id) (lookup (bytes_eq id) ((k, v) ∷ es)) ≡ find (is_of id) (map (λ e. logged_as e.0 e.1) ((k, v) ∷ es))
     by next true e =
         let same : id ≡ k = (bytes_eq-Decides id k).0 e in
         ap (λ b. option_map (logged_as id) (cond b (Some v) (lookup (bytes_eq id) es))) e
@@ -43,20 +46,30 @@ found id ((k, v) ∷ es) = by (found id es) (bytes_eq id k) refl
         ∙ next
         ∙ sym (ap (λ b. cond b (Some (logged_as k v)) (find (is_of id) (map (λ e. logged_as e.0 e.1) es))) (swapped id k false e))
 
-pub put_in : (id : List ℕ) (l : Log) (es : List (List ℕ × Log)) → map (λ e. logged_as e.0 e.1) (insert_entry bytes_eq es id l) ≡ put_logged (logged_as id l) (map (λ e. logged_as e.0 e.1) es)
+pub put_in : (id : List ℕ) (l : Log) (es : List (List ℕ × Log))
+    → map (λ e. logged_as e.0 e.1) (insert_entry bytes_eq es id l) ≡ put_logged (logged_as id l) (map (λ e. logged_as e.0 e.1) es)
 put_in id l [] = refl
 put_in id l ((k, v) ∷ es) = by (put_in id l es) (bytes_eq id k) refl
   where
-    by : map (λ e. logged_as e.0 e.1) (insert_entry bytes_eq es id l) ≡ put_logged (logged_as id l) (map (λ e. logged_as e.0 e.1) es) → (b : Bool) → bytes_eq id k ≡ b → map (λ e. logged_as e.0 e.1) (insert_entry bytes_eq ((k, v) ∷ es) id l) ≡ put_logged (logged_as id l) (map (λ e. logged_as e.0 e.1) ((k, v) ∷ es))
+    by : map (λ e. logged_as e.0 e.1) (insert_entry bytes_eq es id l) ≡ put_logged (logged_as id l) (map (λ e. logged_as e.0 e.1) es)
+        → (b : Bool) → bytes_eq id k ≡ b
+        → map (λ e. logged_as e.0 e.1) (insert_entry bytes_eq ((k, v) ∷ es) id l) ≡ put_logged (logged_as id l)
+        (map (λ e. logged_as e.0 e.1) ((k, v) ∷ es))
     by next true e =
         let same : id ≡ k = (bytes_eq-Decides id k).0 e in
         ap (λ b. map (λ e. logged_as e.0 e.1) (cond b ((k, l) ∷ es) ((k, v) ∷ insert_entry bytes_eq es id l))) e
         ∙ ap (λ i. logged_as i l ∷ map (λ e. logged_as e.0 e.1) es) (sym same)
-        ∙ sym (ap (λ b. cond b (logged_as id l ∷ map (λ e. logged_as e.0 e.1) es) (logged_as k v ∷ put_logged (logged_as id l) (map (λ e. logged_as e.0 e.1) es))) (swapped id k true e))
+        ∙ sym
+        (ap
+        (λ b. cond b (logged_as id l ∷ map (λ e. logged_as e.0 e.1) es)
+        (logged_as k v ∷ put_logged (logged_as id l) (map (λ e. logged_as e.0 e.1) es))) (swapped id k true e))
     by next false e =
         ap (λ b. map (λ e. logged_as e.0 e.1) (cond b ((k, l) ∷ es) ((k, v) ∷ insert_entry bytes_eq es id l))) e
         ∙ ap (λ r. logged_as k v ∷ r) next
-        ∙ sym (ap (λ b. cond b (logged_as id l ∷ map (λ e. logged_as e.0 e.1) es) (logged_as k v ∷ put_logged (logged_as id l) (map (λ e. logged_as e.0 e.1) es))) (swapped id k false e))
+        ∙ sym
+        (ap
+        (λ b. cond b (logged_as id l ∷ map (λ e. logged_as e.0 e.1) es)
+        (logged_as k v ∷ put_logged (logged_as id l) (map (λ e. logged_as e.0 e.1) es))) (swapped id k false e))
 
 -- ---- ascending numbers
 
@@ -86,22 +99,27 @@ pub put_same : (n : ℕ) (xs : List ℕ) (p : ℕ) → position (λ k. nat_le n 
 put_same n [] p h s = absurd cc
 put_same n (x ∷ xs) p h s = by (put_same n xs) (nat_le n x) refl
   where
-    by : ((q : ℕ) → position (λ k. nat_le n k) xs ≡ Some q → slice_get xs q ≡ Some n → put nat_cmp n xs ≡ xs) → (b : Bool) → nat_le n x ≡ b → put nat_cmp n (x ∷ xs) ≡ x ∷ xs
+    by : ((q : ℕ) → position (λ k. nat_le n k) xs ≡ Some q → slice_get xs q ≡ Some n → put nat_cmp n xs ≡ xs) → (b : Bool) → nat_le n x ≡ b
+        → put nat_cmp n (x ∷ xs) ≡ x ∷ xs
     by next true e =
         let z = first_placed (nat_le n x) (position (λ k. nat_le n k) xs) p (sym (position-cons (λ k. nat_le n k) x xs) ∙ h) e in
         let got : Some x ≡ Some n = sym (ap (slice_get (x ∷ xs)) z) ∙ s in
         let is : n ≡ x = cc in
         ap (λ o. match_ordering o (n ∷ x ∷ xs) (n ∷ xs) (x ∷ put nat_cmp n xs)) (sym (nat_cmp_is n x Equal is)) ∙ ap (λ k. k ∷ xs) is
     by next false e =
-        let z = later_placed (position (λ k. nat_le n k) xs) p (sym (ap (λ b. cond b (Some 0) (option_map (λ k. k + 1) (position (λ k. nat_le n k) xs))) e) ∙ sym (position-cons (λ k. nat_le n k) x xs) ∙ h) in
+        let z = later_placed (position (λ k. nat_le n k) xs) p
+        (sym (ap (λ b. cond b (Some 0) (option_map (λ k. k + 1) (position (λ k. nat_le n k) xs))) e)
+        ∙ sym (position-cons (λ k. nat_le n k) x xs) ∙ h) in
         ap (λ o. match_ordering o (n ∷ x ∷ xs) (n ∷ xs) (x ∷ put nat_cmp n xs)) (above n x e)
         ∙ ap (λ l. x ∷ l) (next z.0 z.1 (sym (ap (slice_get (x ∷ xs)) z.2) ∙ s))
 
-pub put_between : (n : ℕ) (xs : List ℕ) (p : ℕ) → position (λ k. nat_le n k) xs ≡ Some p → (slice_get xs p ≡ Some n → ⊥) → put nat_cmp n xs ≡ insert xs p n
+pub put_between : (n : ℕ) (xs : List ℕ) (p : ℕ) → position (λ k. nat_le n k) xs ≡ Some p → (slice_get xs p ≡ Some n → ⊥)
+    → put nat_cmp n xs ≡ insert xs p n
 put_between n [] p h s = absurd cc
 put_between n (x ∷ xs) p h s = by (put_between n xs) (nat_le n x) refl
   where
-    by : ((q : ℕ) → position (λ k. nat_le n k) xs ≡ Some q → (slice_get xs q ≡ Some n → ⊥) → put nat_cmp n xs ≡ insert xs q n) → (b : Bool) → nat_le n x ≡ b → put nat_cmp n (x ∷ xs) ≡ insert (x ∷ xs) p n
+    by : ((q : ℕ) → position (λ k. nat_le n k) xs ≡ Some q → (slice_get xs q ≡ Some n → ⊥) → put nat_cmp n xs ≡ insert xs q n) → (b : Bool)
+        → nat_le n x ≡ b → put nat_cmp n (x ∷ xs) ≡ insert (x ∷ xs) p n
     by next true e =
         let z = first_placed (nat_le n x) (position (λ k. nat_le n k) xs) p (sym (position-cons (λ k. nat_le n k) x xs) ∙ h) e in
         let other : n ≡ x → ⊥ = λ is. s (ap (slice_get (x ∷ xs)) z ∙ ap Some (sym is)) in
@@ -109,7 +127,9 @@ put_between n (x ∷ xs) p h s = by (put_between n xs) (nat_le n x) refl
         ap (λ o. match_ordering o (n ∷ x ∷ xs) (n ∷ xs) (x ∷ put nat_cmp n xs)) (sym (nat_cmp_is n x Less (omega (arith, le, other))))
         ∙ sym (ap (λ k. insert (x ∷ xs) k n) z)
     by next false e =
-        let z = later_placed (position (λ k. nat_le n k) xs) p (sym (ap (λ b. cond b (Some 0) (option_map (λ k. k + 1) (position (λ k. nat_le n k) xs))) e) ∙ sym (position-cons (λ k. nat_le n k) x xs) ∙ h) in
+        let z = later_placed (position (λ k. nat_le n k) xs) p
+        (sym (ap (λ b. cond b (Some 0) (option_map (λ k. k + 1) (position (λ k. nat_le n k) xs))) e)
+        ∙ sym (position-cons (λ k. nat_le n k) x xs) ∙ h) in
         ap (λ o. match_ordering o (n ∷ x ∷ xs) (n ∷ xs) (x ∷ put nat_cmp n xs)) (above n x e)
         ∙ ap (λ l. x ∷ l) (next z.0 z.1 (λ g. s (ap (slice_get (x ∷ xs)) z.2 ∙ g)))
         ∙ sym (ap (λ k. insert (x ∷ xs) k n) z.2)

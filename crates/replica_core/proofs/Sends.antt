@@ -23,25 +23,30 @@ map_sealed s [] = refl
 map_sealed s (u ∷ us) = ap (λ l. sealed s u ∷ l) (map_sealed s us)
 
 sent_all : {A : Type 0} (m : MessageValue) (bytes g : List ℕ) → spelling m ≡ bytes ++ long_text g → (to : A → Party) (xs : List A)
-    → map framed (map (λ x. let e : EnvelopeValue = record { to = to x; message = m } in e) xs) ≡ map (seal_front g) (map (front_for bytes) (map to xs))
+    → map framed (map (λ x. let e : EnvelopeValue = record { to = to x; message = m } in e) xs) ≡ map (seal_front g)
+    (map (front_for bytes) (map to xs))
 sent_all m bytes g law to [] = refl
 sent_all m bytes g law to (x ∷ xs) =
-    ap (λ (b : List ℕ). let e : Envelope = record { to = to x; frame = b } in e ∷ map framed (map (λ x. let e : EnvelopeValue = record { to = to x; message = m } in e) xs)) law
+    ap (λ (b : List ℕ). let e : Envelope = record { to = to x; frame = b } in e ∷ map framed
+    (map (λ x. let e : EnvelopeValue = record { to = to x; message = m } in e) xs)) law
     ∙ ap (λ l. seal_front g (front_for bytes (to x)) ∷ l) (sent_all m bytes g law to xs)
 
 -- what waits for these parties is sent to them
-pub sends : {A : Type 0} (m : MessageValue) (bytes g : List ℕ) (p : Pending) (to : A → Party) (xs : List A) → spelling m ≡ bytes ++ long_text g → fronts_of p ≡ map (front_for bytes) (map to xs)
+pub sends : {A : Type 0} (m : MessageValue) (bytes g : List ℕ) (p : Pending) (to : A → Party) (xs : List A)
+    → spelling m ≡ bytes ++ long_text g → fronts_of p ≡ map (front_for bytes) (map to xs)
     → map framed (map (λ x. let e : EnvelopeValue = record { to = to x; message = m } in e) xs) ≡ sealed_all g p
 sends m bytes g p to xs law fronts = sent_all m bytes g law to xs ∙ sym (ap (map (seal_front g)) fronts) ∙ sym (map_sealed g p.frames.items)
 
 -- and what waits for one is sent to it
-pub sends_one : (m : MessageValue) (bytes g : List ℕ) (p : Pending) (to : Party) → spelling m ≡ bytes ++ long_text g → fronts_of p ≡ front_for bytes to ∷ []
+pub sends_one : (m : MessageValue) (bytes g : List ℕ) (p : Pending) (to : Party) → spelling m ≡ bytes ++ long_text g
+    → fronts_of p ≡ front_for bytes to ∷ []
     → framed (let e : EnvelopeValue = record { to = to; message = m } in e) ∷ [] ≡ sealed_all g p
 sends_one m bytes g p to law fronts = sends m bytes g p (λ (x : Party). x) (to ∷ []) law fronts
 
 -- ---- one by one
 
-take_next : (F : Party → Front) (ps : List Party) (k : ℕ) (d : Party) → k < length ps → take (suc k) (map F ps) ≡ take k (map F ps) ++ F (slice_index_or ps k d) ∷ []
+take_next : (F : Party → Front) (ps : List Party) (k : ℕ) (d : Party) → k < length ps
+    → take (suc k) (map F ps) ≡ take k (map F ps) ++ F (slice_index_or ps k d) ∷ []
 take_next F [] k d h = absurd (omega (arith, h))
 take_next F (p ∷ ps) zero d h = refl
 take_next F (p ∷ ps) (suc k) d h = ap (λ l. F p ∷ l) (take_next F ps k d (omega (arith, h)))
@@ -50,7 +55,9 @@ map_push : (fs : List Unsigned) (u : Unsigned) → map front_of (fs ++ u ∷ [])
 map_push [] u = refl
 map_push (f ∷ fs) u = ap (λ l. front_of f ∷ l) (map_push fs u)
 
-pub next_front : (F : Party → Front) (ps : List Party) (k : ℕ) (d : Party) (fs ns : List Unsigned) (u : Unsigned) → ns ≡ fs ++ u ∷ [] → front_of u ≡ F (slice_index_or ps k d) → k < length ps → map front_of fs ≡ take k (map F ps) → map front_of ns ≡ take (k + 1) (map F ps)
+pub next_front : (F : Party → Front) (ps : List Party) (k : ℕ) (d : Party) (fs ns : List Unsigned) (u : Unsigned) → ns ≡ fs ++ u ∷ []
+    → front_of u ≡ F (slice_index_or ps k d) → k < length ps → map front_of fs ≡ take k (map F ps)
+    → map front_of ns ≡ take (k + 1) (map F ps)
 next_front F ps k d fs ns u n f h e =
     let i : k + 1 ≡ suc k = omega arith in
     ap (map front_of) n ∙ map_push fs u ∙ ap (λ l. l ++ front_of u ∷ []) e ∙ ap (λ x. take k (map F ps) ++ x ∷ []) f

@@ -133,7 +133,11 @@ fn is_led_by_another(seat: &Seat, time: u64, view: u64, replica: u8) -> bool
 }
 
 /// The known transaction of this id, whatever other bytes of this id came, or these.
-fn known_text<'a>(known: &'a Known, id: &[u8; 32], t: TransactionView<'a>) -> TransactionView<'a>
+pub(crate) fn known_text<'a>(
+    known: &'a Known,
+    id: &[u8; 32],
+    t: TransactionView<'a>,
+) -> TransactionView<'a>
     requires { id.now ≡ transactions.id (transaction_of t) }
     ensures text { transaction_of result ≡ tables.known_of known.now.table.entries (transaction_of t.entry) }
     ensures named { transactions.id (transaction_of result) ≡ id.now }

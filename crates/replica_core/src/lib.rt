@@ -1,11 +1,13 @@
 //! A replica: its answer to every kind of frame (Basil, sections 4 and 5).
 #![tactic(auto)]
 
+mod answering;
 mod arriving;
 mod election;
 mod first;
 mod fronts;
 mod invoke;
+mod kinds;
 mod known;
 mod leading;
 mod log;
@@ -16,6 +18,7 @@ mod plan;
 mod reads;
 pub mod refusal;
 mod refuse;
+mod replica;
 mod seat;
 mod second;
 mod work;
@@ -23,3 +26,4 @@ mod writeback;
 
 pub use plan::Plan;
 pub use refusal::Refusal;
+pub use replica::Replica;

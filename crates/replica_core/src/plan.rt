@@ -1,6 +1,6 @@
 //! Planned work of every kind.
 
-ghost use Rattle.std.specs.Prelude.{◌≡◌, IfSome, OnOk};
+ghost use Rattle.std.specs.Prelude.{◌≡◌, [], IfOk, IfSome, OnOk};
 ghost use Rattle.mvtso_check.specs.Standing.{StandsFor};
 ghost use Rattle.node_steps.specs.Pendings.{Sends};
 ghost use Rattle.node_steps.specs.Pens.{pen_value};
@@ -19,7 +19,8 @@ use crate::work::KnownWork;
 use basil_types::memory::NoMemory;
 use basil_types::outbox::Outbox;
 use keyring::signer::Signer;
-use node_steps::pending::make_room;
+use node_steps::pending::{make_room, outbox};
+use std::alloc::Global;
 
 /// What a planned answer does.
 #[derive(Drop)]
@@ -40,6 +41,31 @@ pub struct Plan {
 }
 
 impl Plan {
+    /// Planned work with room for what it sends, by a pen with signatures of this size; or memory is wanting.
+    pub(crate) fn of(alloc: Global, work: Work, size: usize) -> Result<Plan, NoMemory>
+        ensures work { IfOk result (λ p. p.work ≡ work) }
+        ensures room { IfOk result (λ p. HasRoomFor p.out (message_count work) (word_count work)) }
+        ensures unsent { IfOk result (λ p. p.out.messages.items ≡ []) }
+        ensures unsigned { IfOk result (λ p. p.out.signed.items ≡ []) }
+        ensures messages { IfOk result (λ p. p.messages ≡ message_count work) }
+        ensures bytes { IfOk result (λ p. p.bytes ≡ byte_count size work) }
+    {
+        let mut out = outbox(alloc);
+        work.room_in(&mut out)?;
+        let Some(messages) = work.messages() else {
+            return Err(NoMemory);
+        };
+        let Some(bytes) = work.bytes(size) else {
+            return Err(NoMemory);
+        };
+        Ok(Plan {
+            work,
+            out,
+            messages: messages as u64,
+            bytes,
+        })
+    }
+
     /// How many messages it sends.
     pub fn messages(&self) -> u64
         ensures { result ≡ self.now.messages }

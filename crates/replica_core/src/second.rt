@@ -1,6 +1,6 @@
 //! Log replies are planned: of a second stage and of a recovery (Basil, stage 2 and fallback).
 
-ghost use Rattle.std.specs.Prelude.{◌≡◌, ◌≤◌, ◌++◌, Ok, IfOk, ℕ, length};
+ghost use Rattle.std.specs.Prelude.{◌≡◌, ◌≤◌, ◌++◌, Ok, Some, IfOk, ℕ, is_some, length, true};
 ghost use Rattle.basil_types.specs.Shown.{transaction_of};
 ghost use Rattle.basil_types.specs.Limits.{signature_limit};
 ghost use Rattle.basil_types.specs.Transaction as transactions;
@@ -12,7 +12,7 @@ ghost use Rattle.keyring.specs.Signing.{Signing};
 ghost use Rattle.node_steps.specs.Pendings.{fronts_of, IsReady};
 ghost use Rattle.node_steps.specs.Pens.{pen_value};
 ghost use Rattle.node_steps.specs.Refusing.{unless};
-ghost use Rattle.replica_core.specs.Replicas.{BookValue};
+ghost use Rattle.replica_core.specs.Replicas.{BookValue, LoggedEntry};
 ghost use Rattle.replica_core.specs.Known as tables;
 ghost use Rattle.replica_core.specs.Known.{logged_with, with_known};
 ghost use Rattle.replica_core.specs.SecondStage.{reply_of, reply_anew, reply_again, log_or_reply};
@@ -210,5 +210,35 @@ pub(crate) fn plan_log<S: Signer>(
     match logged.find(&id) {
         Some(log) => plan_reply(pen, seat, from, &id, log, arrives),
         None => plan_anew(pen, seat, from, &id, log_first(decision), &[], arrives),
+    }
+}
+
+/// Plans the reply that says what is logged of a transaction without outcome, of which something is.
+pub(crate) fn plan_told<S: Signer>(
+    known: &mut Known,
+    logged: &mut Logged,
+    pen: &S,
+    seat: &Seat,
+    from: Party,
+    id: &[u8; 32],
+    t: TransactionView<'_>,
+) -> Result<LogWork, Refusal>
+    requires { is_some (logged_with logged.old.entries id.now) ≡ true }
+    ensures answer { (accepts : Accepted) (book : BookValue) (l : LoggedEntry)
+        → logged_with logged.old.entries id.now ≡ Some l
+        → IsPlanned (perform_log (S.fixed pen.now))
+        (log_book_of book known.old logged.old (S.spent pen.now) (S.left_of pen.now)) result
+        (reply_of (self_at seat.now accepts (S.fixed pen.now)) from
+        (log_book_of book known.old logged.old (S.spent pen.now) (S.left_of pen.now)) (transaction_of t.entry) l) }
+    ensures ready { IfOk result (CanLog (S.fixed pen.now).size (S.left_of pen.now) known.new logged.new) }
+    ensures entries { known.new.table.entries ≡ known.old.table.entries }
+    ensures noted { KeepsNoted known.old known.new }
+    ensures logged { logged.new.entries ≡ logged.old.entries }
+{
+    logged.make_room()?;
+    let arrives = newcomer(known, seat.alloc, t)?;
+    match logged.find(id) {
+        Some(log) => plan_reply(pen, seat, from, id, log, arrives),
+        None => unreachable!(),
     }
 }

@@ -48,6 +48,7 @@ fn each_of_400_000_outcomes_releases_the_next_vote(rt: HostRuntime) -> Result<()
     for next in 1..COUNT {
         assert!(rt; releases_next(alloc, &mut table, next)?);
     }
-    assert!(rt; released(&table, 1, 0, COUNT - 1, COMMIT)?.is_empty());
-    Ok(())
+    let last = COUNT - 1;
+    assert!(rt; released(&table, 1, 0, last, COMMIT)?.is_empty());
+    end(alloc, &mut table, last, COMMIT)
 }

@@ -1,4 +1,4 @@
-//! Tests of what a replica is made of, as tables.
+//! Tests of a replica, and of what it is made of, as tables.
 #![tactic(auto)]
 
 #[cfg(test)]
@@ -11,6 +11,8 @@ mod logs;
 mod making;
 #[cfg(test)]
 mod quorums;
+#[cfg(test)]
+mod scenes;
 #[cfg(test)]
 mod stores;
 #[cfg(test)]

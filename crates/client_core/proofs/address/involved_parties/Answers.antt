@@ -14,5 +14,6 @@ loop-place-preserved c =
     let xs = involved cl (transaction_of c.args.t) in
     c.in_ok-add_involved.ensures
     ∙ ap (λ (l : List Party). l ++ parties_at cl (slice_get (members c.involved-shards.result) c.loop-place.place)) c.loop-place.invariant
-    ∙ ap (λ m. flat_map (parties_of cl) (take c.loop-place.place xs) ++ parties_at cl (slice_get (members m) c.loop-place.place)) c.involved-shards.ensures
+    ∙ ap (λ m. flat_map (parties_of cl) (take c.loop-place.place xs) ++ parties_at cl (slice_get (members m) c.loop-place.place))
+    c.involved-shards.ensures
     ∙ sym (next_involved cl xs c.loop-place.place)

@@ -7,4 +7,5 @@ use Rattle.client_core.proofs.preparing.pending_for.Goals as goal
 pub returns-clause-words : goal.returns-clause-words
 returns-clause-words c =
     c.in_ok-pending.ensures.words ∙ c.transaction.ensures
-    ∙ ap (λ (k : List ℕ). words_of (TransactionWords k)) (c.id_of-id.ensures ∙ ap id_of c.bytes.ensures.spelled ∙ ap id c.view.ensures.value)
+    ∙ ap (λ (k : List ℕ). words_of (TransactionWords k))
+    (c.id_of-id.ensures ∙ ap id_of c.bytes.ensures.spelled ∙ ap id c.view.ensures.value)

@@ -27,7 +27,9 @@ returns-in-Ok-plan_pursue-clause-answer g c = λ accepts v h pen.
     let t = c.in-Ok-form.formed in
     let left = ap (λ (p : PenValue). p.left) pen ∙ sym c.left.ensures in
     let at = got held.slots.items c.args.slot x c.requires c.index-place.ensures in
-    let a = prepare_answers held me v c.args.slot x h at None (λ reads p keeps formed. c.in-Ok.ensures.exact me v reads p keeps formed refl left) in
+    let a =
+    prepare_answers held me v c.args.slot x h at None
+    (λ reads p keeps formed. c.in-Ok.ensures.exact me v reads p keeps formed refl left) in
     let same = formed_same_as held me v c.args.slot x h at a.0 t a.2 (c.in-Ok-form.ensures.formed (a.0).reads (a.2).reads) in (
       prepare_done me v c.args.slot a.0,
       a.3,

@@ -26,8 +26,12 @@ returns-in-Ok-clause-answer g c accepts book l celled asks =
     let m = decide_of c.args.m.now in
     let b = book_of book c.args.known.now spent left in
     let bad = ap (λ (k : Option LogCell). or_else (option_map fault_of (adopt_fault k m.view)) (bad_election me m)) celled in
-    subst (λ (o : Option Refusal). IsPlanned (perform_log signing) b c.plan_new.result (unless o (adopt_done me b (known_of c.args.known.now.table.entries (transaction_of c.args.m.now.transaction)) m l)))
-    (sym (refused_last (not_adopted l m.view) (bad_election me m) (exhausted 1 (pen_value spent left)) (bad ∙ c.in-Ok.ensures.adopted accepts signing)))
+    subst
+    (λ (o : Option Refusal). IsPlanned (perform_log signing) b c.plan_new.result
+    (unless o (adopt_done me b (known_of c.args.known.now.table.entries (transaction_of c.args.m.now.transaction)) m l)))
+    (sym
+    (refused_last (not_adopted l m.view) (bad_election me m) (exhausted 1 (pen_value spent left))
+    (bad ∙ c.in-Ok.ensures.adopted accepts signing)))
     (c.plan_new.ensures.answer accepts book m l (sym c.in-Ok.ensures.cell) asks)
 
 pub returns-in-Err-clause-answer : goal.returns-in-Err-clause-answer
@@ -40,4 +44,5 @@ returns-in-Err-clause-answer g c accepts book l celled asks other =
     let b = book_of book c.args.known.now spent left in
     let bad = ap (λ (k : Option LogCell). or_else (option_map fault_of (adopt_fault k m.view)) (bad_election me m)) celled in
     refused_first (not_adopted l m.view) (bad_election me m) (exhausted 1 (pen_value spent left)) c.in-Err.refused
-    (adopt_done me b (known_of c.args.known.now.table.entries (transaction_of c.args.m.now.transaction)) m l) (bad ∙ c.in-Err.ensures.refused accepts signing)
+    (adopt_done me b (known_of c.args.known.now.table.entries (transaction_of c.args.m.now.transaction)) m l)
+    (bad ∙ c.in-Err.ensures.refused accepts signing)

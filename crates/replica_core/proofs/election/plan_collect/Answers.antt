@@ -18,8 +18,10 @@ returns-in-Some-clause-answer g c accepts book =
     let m = elect_message_of c.args.m.now in
     let leading = c.args.leading.now in
     let word : ElectPart = record { replica = c.args.m.now.replica; decision = c.args.m.now.decision; signature = c.in_ok-copy_of.field-0 } in
-    let signed : word ≡ word_of m = ap (λ s. let w : ElectPart = record { replica = c.args.m.now.replica; decision = c.args.m.now.decision; signature = s } in w) c.in_ok-copy_of.ensures in
-    collects (self_at c.args.seat.now accepts signing) c.args.seat.now signing (lead_book_at book leading spent left) (transaction_of c.args.t) m c.args.id.now word
+    let signed : word ≡ word_of m = ap
+    (λ s. let w : ElectPart = record { replica = c.args.m.now.replica; decision = c.args.m.now.decision; signature = s } in w) c.in_ok-copy_of.ensures in
+    collects (self_at c.args.seat.now accepts signing) c.args.seat.now signing (lead_book_at book leading spent left)
+    (transaction_of c.args.t) m c.args.id.now word
     c.collect.new.self (proposal_value c.in-Some.proposal) c.plan_proposal.result refl c.requires.named signed c.in_ok-proposal.ensures.next
     (sym c.in_ok-proposal.ensures.proposal ∙ ap (option_map proposal_value) c.in-Some.is)
     (c.plan_proposal.ensures.answer accepts (lead_book_at book leading spent left) m refl)

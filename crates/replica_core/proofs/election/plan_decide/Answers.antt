@@ -36,15 +36,20 @@ returns-in-Some-clause-answer g c accepts book =
     let l = logged_with old (id mt) in
     let timed : c.time-time.result ≡ t.time = c.time-time.ensures.value ∙ ap (λ (u : TransactionValue). u.time) c.known_text.ensures.text in
     let leads : not (leader_of seat.home.cluster t.time m.view == m.replica) ≡ false =
-    sym (ap (λ (n : ℕ). not (leader_of seat.home.cluster n m.view == m.replica)) timed) ∙ sym c.is_led_by_another.ensures ∙ c.if-is_led_by_another.false in
+    sym (ap (λ (n : ℕ). not (leader_of seat.home.cluster n m.view == m.replica)) timed) ∙ sym c.is_led_by_another.ensures
+    ∙ c.if-is_led_by_another.false in
     let named : c.id_of-id.result ≡ id mt = c.id_of-id.ensures ∙ ap id_of c.bytes.ensures.spelled in
     let log = c.in-Some.log.now in
     let found : logged_with old (id mt) ≡ Some (logged_as c.id_of-id.result log) =
-    sym (ap (logged_with old) named) ∙ ap (λ (ls : List LoggedEntry). logged_with ls c.id_of-id.result) (sym c.make_room.ensures.entries) ∙ sym c.find.ensures
+    sym (ap (logged_with old) named) ∙ ap (λ (ls : List LoggedEntry). logged_with ls c.id_of-id.result) (sym c.make_room.ensures.entries)
+    ∙ sym c.find.ensures
     ∙ ap (option_map (λ x. logged_as c.id_of-id.result x.now)) c.in-Some.is in
-    subst (λ (o : Option Refusal). IsPlanned (perform_log signing) b c.plan_adopt.result (unless (or_else o (adopts me m l (pen_value spent left))) (adopt_done me b t m l)))
+    subst
+    (λ (o : Option Refusal). IsPlanned (perform_log signing) b c.plan_adopt.result
+    (unless (or_else o (adopts me m l (pen_value spent left))) (adopt_done me b t m l)))
     (sym (led (leader_of seat.home.cluster t.time m.view == m.replica) leads))
-    (c.plan_adopt.ensures.answer accepts b l (ap (option_map (λ (x : LoggedEntry). x.cell)) found) (ap askers_with found ∙ sym c.as_slice.ensures.value))
+    (c.plan_adopt.ensures.answer accepts b l (ap (option_map (λ (x : LoggedEntry). x.cell)) found)
+    (ap askers_with found ∙ sym c.as_slice.ensures.value))
 
 pub returns-in-None-clause-answer : goal.returns-in-None-clause-answer
 returns-in-None-clause-answer g c accepts book =
@@ -62,11 +67,15 @@ returns-in-None-clause-answer g c accepts book =
     let l = logged_with old (id mt) in
     let timed : c.time-time.result ≡ t.time = c.time-time.ensures.value ∙ ap (λ (u : TransactionValue). u.time) c.known_text.ensures.text in
     let leads : not (leader_of seat.home.cluster t.time m.view == m.replica) ≡ false =
-    sym (ap (λ (n : ℕ). not (leader_of seat.home.cluster n m.view == m.replica)) timed) ∙ sym c.is_led_by_another.ensures ∙ c.if-is_led_by_another.false in
+    sym (ap (λ (n : ℕ). not (leader_of seat.home.cluster n m.view == m.replica)) timed) ∙ sym c.is_led_by_another.ensures
+    ∙ c.if-is_led_by_another.false in
     let named : c.id_of-id.result ≡ id mt = c.id_of-id.ensures ∙ ap id_of c.bytes.ensures.spelled in
     let found : logged_with old (id mt) ≡ None =
-    sym (ap (logged_with old) named) ∙ ap (λ (ls : List LoggedEntry). logged_with ls c.id_of-id.result) (sym c.make_room.ensures.entries) ∙ sym c.find.ensures
+    sym (ap (logged_with old) named) ∙ ap (λ (ls : List LoggedEntry). logged_with ls c.id_of-id.result) (sym c.make_room.ensures.entries)
+    ∙ sym c.find.ensures
     ∙ ap (option_map (λ x. logged_as c.id_of-id.result x.now)) c.in-None.is in
-    subst (λ (o : Option Refusal). IsPlanned (perform_log signing) b c.plan_adopt-in-None.result (unless (or_else o (adopts me m l (pen_value spent left))) (adopt_done me b t m l)))
+    subst
+    (λ (o : Option Refusal). IsPlanned (perform_log signing) b c.plan_adopt-in-None.result
+    (unless (or_else o (adopts me m l (pen_value spent left))) (adopt_done me b t m l)))
     (sym (led (leader_of seat.home.cluster t.time m.view == m.replica) leads))
     (c.plan_adopt-in-None.ensures.answer accepts b l (ap (option_map (λ (x : LoggedEntry). x.cell)) found) (ap askers_with found))

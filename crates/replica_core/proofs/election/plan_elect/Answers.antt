@@ -27,8 +27,11 @@ returns-clause-answer g c accepts book =
     let text : transaction_of c.known_text-t.result ≡ t = c.known_text-t.ensures.text in
     let timed : c.time.result ≡ t.time = c.time.ensures.value ∙ ap (λ (u : TransactionValue). u.time) text in
     let leads : not (leader_of seat.home.cluster t.time m.view == seat.index) ≡ false =
-    sym (ap (λ (n : ℕ). not (leader_of seat.home.cluster n m.view == seat.index)) timed) ∙ sym c.is_led_by_another.ensures ∙ c.if-is_led_by_another.false in
+    sym (ap (λ (n : ℕ). not (leader_of seat.home.cluster n m.view == seat.index)) timed) ∙ sym c.is_led_by_another.ensures
+    ∙ c.if-is_led_by_another.false in
     let r = c.plan_collect.result in
     let performed = perform_lead signing (kept_next c.plan_collect.new.leading) in
-    subst (λ (o : Option Refusal). IsPlanned performed b r (unless_refused o (collect me b t m))) (sym (led (leader_of seat.home.cluster t.time m.view == seat.index) leads))
-    (subst (λ (u : TransactionValue). IsPlanned performed b r (collect me b u m)) text (c.plan_collect.ensures.answer accepts (book_of book c.args.known.now spent left)))
+    subst (λ (o : Option Refusal). IsPlanned performed b r (unless_refused o (collect me b t m)))
+    (sym (led (leader_of seat.home.cluster t.time m.view == seat.index) leads))
+    (subst (λ (u : TransactionValue). IsPlanned performed b r (collect me b u m)) text
+    (c.plan_collect.ensures.answer accepts (book_of book c.args.known.now spent left)))

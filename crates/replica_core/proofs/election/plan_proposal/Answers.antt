@@ -18,10 +18,12 @@ returns-clause-answer g c accepts book m viewed =
     let seat = c.args.seat.now in
     let t = transaction_of c.args.t in
     let q = proposal_value c.args.proposal.now in
-    propose_planned seat accepts (g.S.Signer.fixed c.args.pen.now) (pen_at book spent left) t m c.args.id.now c.args.view q c.in_ok-pending.pending
+    propose_planned seat accepts (g.S.Signer.fixed c.args.pen.now)
+    (pen_at book spent left) t m c.args.id.now c.args.view q c.in_ok-pending.pending
     c.signatures_end_frames.ensures.decides (can_sign spent left (λ z. c.if-left-eq0.false (c.left-left.ensures ∙ z)))
     (sym c.requires.named) viewed (c.in_ok-pending.ensures.words ∙ c.proposal-words.ensures)
     (c.in_ok-pending.ensures.fronts
     ∙ ap (λ (f : List ℕ). map (front_for f) c.as_slice-2.result.now) (c.as_slice.ensures.value ∙ c.in_ok-front.ensures)
     ∙ ap (λ (ps : List Party). map (front_for (unsigned_decide (decide_said seat t c.args.view q))) ps)
-    (c.as_slice-2.ensures.value ∙ c.in_ok-to.ensures ∙ ap (λ (n : ℕ). map (Replica seat.home.shard) (range_with_len 0 n)) c.n.ensures.value))
+    (c.as_slice-2.ensures.value ∙ c.in_ok-to.ensures
+    ∙ ap (λ (n : ℕ). map (Replica seat.home.shard) (range_with_len 0 n)) c.n.ensures.value))

@@ -25,11 +25,15 @@ returns-clause-answer g c accepts book =
     let t = transaction_of c.args.t in
     let raised : log.cell.current < c.args.view = search rules in
     let word = unsigned_elect (elect_said seat t log.cell.decision c.args.view) in
-    enter_planned seat accepts (g.S.Signer.fixed c.args.pen.now) (pen_at book spent left) c.args.from t (logged_as c.args.id.now log) c.args.view
+    enter_planned seat accepts (g.S.Signer.fixed c.args.pen.now) (pen_at book spent left) c.args.from t
+    (logged_as c.args.id.now log) c.args.view
     c.in_ok-askers.askers c.in_ok-pending.pending c.signatures_end_frames.ensures.elects
     (is_raised log.cell.current c.args.view raised) (can_sign spent left (λ z. c.if-left-eq0.false (c.left-left.ensures ∙ z)))
     (c.in_ok-askers.ensures ∙ ap (asked_by c.args.from) c.as_slice.ensures.value)
     (c.in_ok-pending.ensures.words ∙ c.election-words.ensures)
-    (c.in_ok-pending.ensures.fronts ∙ ap (λ (f : List ℕ). front_for f (Replica seat.home.shard c.leader_of.result) ∷ []) c.in_ok-frame.ensures
-    ∙ ap (λ (i : ℕ). front_for (unsigned_elect (elect_said seat t log.cell.decision c.args.view)) (Replica seat.home.shard i) ∷ []) (c.leader_of.ensures.value ∙ ap (λ (n : ℕ). leader_of seat.home.cluster n c.args.view) c.time.ensures.value))
-    ∙ ap (λ (k : LogCell). let w : LogWork = record { arrives = None; id = c.args.id.now; cell = k; askers = c.in_ok-askers.askers; said = Entered c.in_ok-pending.pending } in Ok (perform_log (g.S.Signer.fixed c.args.pen.now) (begun (pen_at book spent left)) w)) (sym c.enter.ensures.value)
+    (c.in_ok-pending.ensures.fronts
+    ∙ ap (λ (f : List ℕ). front_for f (Replica seat.home.shard c.leader_of.result) ∷ []) c.in_ok-frame.ensures
+    ∙ ap (λ (i : ℕ). front_for (unsigned_elect (elect_said seat t log.cell.decision c.args.view)) (Replica seat.home.shard i) ∷ [])
+    (c.leader_of.ensures.value ∙ ap (λ (n : ℕ). leader_of seat.home.cluster n c.args.view) c.time.ensures.value))
+    ∙ ap
+    (λ (k : LogCell). let w : LogWork = record { arrives = None; id = c.args.id.now; cell = k; askers = c.in_ok-askers.askers; said = Entered c.in_ok-pending.pending } in Ok (perform_log (g.S.Signer.fixed c.args.pen.now) (begun (pen_at book spent left)) w)) (sym c.enter.ensures.value)

@@ -22,9 +22,12 @@ returns-clause-answer g c accepts book =
     let m = invoke_of c.args.m.now in
     let log = c.in-Some-find.log.now in
     let e = entry_of c.in-Some.entry.now in
-    invoked (IsPlanned (perform_log signing) b c.plan_enter.result) (self_at c.args.seat.now accepts signing) c.args.from b m _ _ e (logged_as m.id log) (transaction_of c.view.result) c.raise-view.result
+    invoked (IsPlanned (perform_log signing) b c.plan_enter.result) (self_at c.args.seat.now accepts signing) c.args.from b m _ _ e
+    (logged_as m.id log) (transaction_of c.view.result) c.raise-view.result
     (sym c.entry_with.ensures ∙ ap (option_map (λ e. entry_of e.now)) c.in-Some.is)
-    (ap (λ (l : List LoggedEntry). logged_with l m.id) (sym c.make_room.ensures.entries) ∙ sym c.find.ensures ∙ ap (option_map (λ l. logged_as m.id l.now)) c.in-Some-find.is)
+    (ap (λ (l : List LoggedEntry). logged_with l m.id) (sym c.make_room.ensures.entries) ∙ sym c.find.ensures
+    ∙ ap (option_map (λ l. logged_as m.id l.now)) c.in-Some-find.is)
     c.view.ensures
-    (c.raise-view.ensures.value ∙ ap (λ (v : List ℕ). raised c.args.seat.now.home.cluster.f v log.cell.current) (c.as_slice.ensures.value ∙ c.in_ok-views.ensures))
+    (c.raise-view.ensures.value
+    ∙ ap (λ (v : List ℕ). raised c.args.seat.now.home.cluster.f v log.cell.current) (c.as_slice.ensures.value ∙ c.in_ok-views.ensures))
     (c.plan_enter.ensures.answer accepts b)

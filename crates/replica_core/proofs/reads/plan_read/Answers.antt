@@ -17,11 +17,14 @@ returns-clause-answer g c accepts book stands =
     let spent = g.S.Signer.spent c.args.pen.now in
     let left = g.S.Signer.left_of c.args.pen.now in
     let kept = c.room_for_read.ensures.as_before (held_in c.args.known.now.table.entries) book.noted stands in
-    read_planned c.args.seat.now accepts (g.S.Signer.fixed c.args.pen.now) (book_of book c.args.known.now spent left) c.args.now c.args.from (read_of c.args.m.now)
-    (option_map committed_of c.latest_committed-committed.result) (option_map transaction_of c.latest_prepared-prepared.result) c.in_ok-pending.pending
+    read_planned c.args.seat.now accepts (g.S.Signer.fixed c.args.pen.now) (book_of book c.args.known.now spent left) c.args.now c.args.from
+    (read_of c.args.m.now)
+    (option_map committed_of c.latest_committed-committed.result)
+    (option_map transaction_of c.latest_prepared-prepared.result) c.in_ok-pending.pending
     c.signatures_end_frames.ensures.read_replies
     (ap (λ (b : Bool). cond b (Some (FromFuture c.args.now)) None) (sym c.is_from_future.ensures ∙ c.if-is_from_future.false))
     (can_sign spent left (λ z. c.if-left-eq0.false (c.left-left.ensures ∙ z)))
     (c.latest_committed-committed.ensures book.noted kept) (c.latest_prepared-prepared.ensures book.noted kept)
     c.in_ok-pending.ensures.words c.in_ok-pending.ensures.fronts
-    ∙ ap (λ (k : List ℕ). let w : ReadWork = record { key = k; time = c.args.m.now.time; client = c.args.m.now.client; pending = c.in_ok-pending.pending } in Ok (perform_read (g.S.Signer.fixed c.args.pen.now) (begun (book_of book c.args.known.now spent left)) w)) (sym c.in_ok-key.ensures)
+    ∙ ap
+    (λ (k : List ℕ). let w : ReadWork = record { key = k; time = c.args.m.now.time; client = c.args.m.now.client; pending = c.in_ok-pending.pending } in Ok (perform_read (g.S.Signer.fixed c.args.pen.now) (begun (book_of book c.args.known.now spent left)) w)) (sym c.in_ok-key.ensures)

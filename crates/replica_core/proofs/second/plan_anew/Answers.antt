@@ -10,7 +10,8 @@ pub returns-clause-answer : goal.returns-clause-answer
 returns-clause-answer g c accepts book t entries =
     let spent = g.S.Signer.spent c.args.pen.now in
     let left = g.S.Signer.left_of c.args.pen.now in
-    anew_planned c.args.seat.now accepts (g.S.Signer.fixed c.args.pen.now) (pen_at book spent left) c.args.from t c.args.id.now c.args.cell c.args.askers.now
+    anew_planned c.args.seat.now accepts (g.S.Signer.fixed c.args.pen.now)
+    (pen_at book spent left) c.args.from t c.args.id.now c.args.cell c.args.askers.now
     c.args.arrives c.in_ok-askers.askers c.signatures_end_frames.ensures.log_replies entries c.in_ok-askers.ensures c.in_ok-pending.pending
     (can_sign spent left (λ z. c.if-left-eq0.false (c.left-left.ensures ∙ z)))
     (c.in_ok-pending.ensures.words ∙ c.reply_words-words.ensures)

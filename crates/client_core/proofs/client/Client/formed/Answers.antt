@@ -6,4 +6,5 @@ pub returns : goal.returns
 returns g c = λ v s h at.
     let held = c.args.self.now.held in
     let x = c.index.result.now in
-    c.formed_parts.ensures s.pursuit (shown_at held v c.args.slot x s h.shows (got held.slots.items c.args.slot x c.requires c.index.ensures) at).formed
+    c.formed_parts.ensures s.pursuit
+    (shown_at held v c.args.slot x s h.shows (got held.slots.items c.args.slot x c.requires c.index.ensures) at).formed

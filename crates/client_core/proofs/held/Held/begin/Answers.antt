@@ -1,16 +1,25 @@
-use Rattle.std.proofs.Common.{rules, ◌≡◌, ◌∙◌, length, List, [], ◌∷◌, ◌++◌, refl, ap}
+use Rattle.std.proofs.Common.{◌∙◌, List, [], ◌∷◌, ◌++◌, refl, sym, ap, subst}
 use Rattle.client_core.specs.declared.held.Slot.{Slot}
-use Rattle.client_core.proofs.HeldLaws.{begun_shows}
+use Rattle.client_core.specs.Clusters.{AreOf}
+use Rattle.client_core.proofs.HeldLaws.{are_pushed, begun_shows, none_of}
 use Rattle.client_core.proofs.ShowingLaws.{slots_count}
 use Rattle.client_core.proofs.held.Held.begin.Goals as goal
 
 pub returns-clause-shown : goal.returns-clause-shown
 returns-clause-shown c = λ v h.
-    begun_shows c.args.self.now (record { last = c.args.time; slots = c.push_reserved.new.self }) c.begun.result v c.args.time h refl
-    (c.push_reserved.ensures.items ∙ ap (λ (l : List Slot). l ++ c.begun.result ∷ []) c.in_ok-reserve.ensures.items)
+    begun_shows c.args.self.now _ c.begun.result v c.args.time h refl
+    (c.push_reserved.ensures.items ∙ ap (λ (l : List Slot). l ++ c.begun.result ∷ []) c.in_ok-slot.ensures.same.1)
     c.begun.ensures.value c.begun.ensures.reads c.begun.ensures.formed
 
 pub returns-clause-slot : goal.returns-clause-slot
-returns-clause-slot c = λ v h.
-    let count : c.len-place.result ≡ length c.args.self.now.slots.items = search rules in
-    count ∙ slots_count c.args.self.now.slots.items v.slots h.slots
+returns-clause-slot c = λ v h. c.in_ok-slot.ensures.slot ∙ slots_count c.args.self.now.slots.items v.slots h.slots
+
+pub invariant_of-self : goal.invariant_of-self
+invariant_of-self c =
+    let held = c.room_for_slot.new.self in
+    record {
+      clusters =
+          subst (AreOf held.cluster) (sym c.push_reserved.ensures.items)
+          (are_pushed held.cluster held.slots.items c.begun.result held.clusters
+          (none_of held.cluster c.begun.result.formed c.begun.ensures.formed));
+    }

@@ -18,5 +18,11 @@ returns-clause-answer c = λ v h.
     let made : List ℕ → List ℕ → WritePart = λ k u. record { key = k; value = u; deletes = c.args.deletes } in
     let w = made c.args.key.now c.args.value.now in
     let copied = ap (λ k. made k c.args.value.now) (sym c.in_ok-key.ensures) ∙ ap (made c.in_ok-key.key) (sym c.in_ok-value.ensures) in
-    let a = write_answers c.args.self.now v c.args.slot x h (got c.args.self.now.slots.items c.args.slot x c.requires c.index-place.ensures) w None c.in-None.ensures in
-    (write_done v c.args.slot w a.0, a.2, c.in_ok-put_write.ensures.kept v _ h (a.0, a.1, ap (λ (k : WritePart). with_slot v c.args.slot (writes k a.0)) copied), refl)
+    let a =
+    write_answers c.args.self.now v c.args.slot x h (got c.args.self.now.slots.items c.args.slot x c.requires c.index-place.ensures)
+    w None c.in-None.ensures in (
+      write_done v c.args.slot w a.0,
+      a.2,
+      c.in_ok-put_write.ensures.kept v _ h (a.0, a.1, ap (λ (k : WritePart). with_slot v c.args.slot (writes k a.0)) copied),
+      refl,
+    )

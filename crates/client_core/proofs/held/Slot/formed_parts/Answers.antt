@@ -7,7 +7,8 @@ use Rattle.client_core.proofs.held.Slot.formed_parts.Goals as goal
 pub returns-in-Some : goal.returns-in-Some
 returns-in-Some c = λ p h.
     formed_law c.in-Some.formed p c.transaction-transaction.result.now c.signature-signature.result.now
-    (subst (λ (f : Option Formed). ShowsFormed f p) c.in-Some.is h) c.transaction-transaction.ensures.value c.signature-signature.ensures.value
+    (subst (λ (f : Option Formed). ShowsFormed f p) c.in-Some.is h)
+    c.transaction-transaction.ensures.value c.signature-signature.ensures.value
 
 pub returns-in-None : goal.returns-in-None
 returns-in-None c = λ p h. none_law p (subst (λ (f : Option Formed). ShowsFormed f p) c.in-None.is h)

@@ -5,6 +5,7 @@ use Rattle.frame_views.specs.Shown.{voted_of}
 use Rattle.client_recover.specs.declared.votes.CountedVote.{CountedVote}
 use Rattle.client_recover.specs.Certifying.{conflict_by}
 use Rattle.client_recover.specs.Kept.{counted, fast_by}
+use Rattle.client_recover.proofs.SoundLaws.{shown_fits}
 use Rattle.client_recover.proofs.TakeLaws.{counts_vote}
 use Rattle.client_recover.proofs.pursuit.Pursuit.count_vote.Goals as goal
 
@@ -21,3 +22,6 @@ returns-in-Ok-clause-taken c =
     ∙ ap (λ vs. or_else (fast_by old.cluster old.id old.shards vs) rest) votes
     ∙ ap (λ i. or_else (fast_by old.cluster i old.shards (old.votes.items ++ counted v ∷ [])) rest) old.named
     ∙ ap (λ s. or_else (fast_by old.cluster (id old.transaction) s (old.votes.items ++ counted v ∷ [])) rest) old.involves)
+
+pub invariant_of-self-in-Ok-clause-outcome_fits : goal.invariant_of-self-in-Ok-clause-outcome_fits
+invariant_of-self-in-Ok-clause-outcome_fits c = shown_fits c.in-Ok.outcome _ c.in-Ok.ensures c.decided_fits.ensures

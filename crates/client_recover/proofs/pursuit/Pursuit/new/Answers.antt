@@ -1,4 +1,6 @@
-use Rattle.std.proofs.Common.{refl, sym, arith}
+use Rattle.std.proofs.Common.{[], refl, sym, arith}
+use Rattle.std.proofs.lemmas.List.Elements.{All-nil, All-same}
+use Rattle.client_recover.specs.Writable.{IsSigned}
 use Rattle.client_recover.proofs.pursuit.Pursuit.new.Goals as goal
 
 pub returns-clause-stands : goal.returns-clause-stands
@@ -13,4 +15,8 @@ invariant_of-result c =
       named = c.own_id-id.ensures;
       involves = c.own_shards-shards.ensures;
       few = omega (arith, c.new.ensures.len, c.new-2.ensures.count);
+      votes_signed = All-same IsSigned _ [] c.new.ensures.items (All-nil IsSigned);
+      logs_sound = c.new-2.ensures.sound;
+      last_sound = λ log e. absurd cc;
+      outcome_fits = λ x e. absurd cc;
     }

@@ -13,7 +13,8 @@ returns-clause-told g c book =
     let logged = c.args.logged.now in
     let signing = g.S.Signer.fixed c.args.pen.now in
     let before : BookValue = record book { entries = known.table.entries; logged = logged.entries } in
-    let t : Told = told_with (log_book_of book known logged (g.S.Signer.spent c.args.pen.now) (g.S.Signer.left_of c.args.pen.now)) c.args.out.now in
+    let t : Told = told_with
+    (log_book_of book known logged (g.S.Signer.spent c.args.pen.now) (g.S.Signer.left_of c.args.pen.now)) c.args.out.now in
     let w = c.args.self in
     let said : Told = said_told signing t w.said in
     let put : Option (List ℕ) → List LoggedEntry =

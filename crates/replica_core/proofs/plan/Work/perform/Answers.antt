@@ -22,7 +22,8 @@ returns-in-Known-clause-performs g c book s =
     let t : Told = told_with b c.args.out.now in
     let x : BookValue = book_of b new.known (g.S.Signer.spent c.perform.new.pen) (g.S.Signer.left_of c.perform.new.pen) in
     performed_by new x.pen c.perform.new.out _ x
-    (c.perform.ensures.told b ∙ ap (perform_work sg (kept_next old.leading) t) (sym c.in-Known.is)) refl (c.perform.ensures.noted book.noted s)
+    (c.perform.ensures.told b ∙ ap (perform_work sg (kept_next old.leading) t) (sym c.in-Known.is)) refl
+    (c.perform.ensures.noted book.noted s)
 
 pub returns-in-Read-clause-performs : goal.returns-in-Read-clause-performs
 returns-in-Read-clause-performs g c book s =
@@ -31,9 +32,11 @@ returns-in-Read-clause-performs g c book s =
     let new : Parts = record old { known = c.perform-in-Read.new.known } in
     let b : BookValue = book_shown book old (pen_value (g.S.Signer.spent c.args.pen.now) (g.S.Signer.left_of c.args.pen.now)) in
     let t : Told = told_with b c.args.out.now in
-    let x : BookValue = with_read (book_of b new.known (g.S.Signer.spent c.perform-in-Read.new.pen) (g.S.Signer.left_of c.perform-in-Read.new.pen)) c.in-Read.work in
+    let x : BookValue = with_read
+    (book_of b new.known (g.S.Signer.spent c.perform-in-Read.new.pen) (g.S.Signer.left_of c.perform-in-Read.new.pen)) c.in-Read.work in
     performed_by new x.pen c.perform-in-Read.new.out _ x
-    (c.perform-in-Read.ensures.told b ∙ ap (perform_work sg (kept_next old.leading) t) (sym c.in-Read.is)) refl (c.perform-in-Read.ensures.noted book.noted s)
+    (c.perform-in-Read.ensures.told b ∙ ap (perform_work sg (kept_next old.leading) t) (sym c.in-Read.is)) refl
+    (c.perform-in-Read.ensures.noted book.noted s)
 
 pub returns-in-Log-clause-performs : goal.returns-in-Log-clause-performs
 returns-in-Log-clause-performs g c book s =
@@ -42,9 +45,11 @@ returns-in-Log-clause-performs g c book s =
     let new : Parts = record old { known = c.perform-in-Log.new.known; logged = c.perform-in-Log.new.logged } in
     let b : BookValue = book_shown book old (pen_value (g.S.Signer.spent c.args.pen.now) (g.S.Signer.left_of c.args.pen.now)) in
     let t : Told = told_with b c.args.out.now in
-    let x : BookValue = log_book_of b new.known new.logged (g.S.Signer.spent c.perform-in-Log.new.pen) (g.S.Signer.left_of c.perform-in-Log.new.pen) in
+    let x : BookValue = log_book_of b new.known new.logged (g.S.Signer.spent c.perform-in-Log.new.pen)
+    (g.S.Signer.left_of c.perform-in-Log.new.pen) in
     performed_by new x.pen c.perform-in-Log.new.out _ x
-    (c.perform-in-Log.ensures.told b ∙ ap (perform_work sg (kept_next old.leading) t) (sym c.in-Log.is)) refl (c.perform-in-Log.ensures.noted book.noted s)
+    (c.perform-in-Log.ensures.told b ∙ ap (perform_work sg (kept_next old.leading) t) (sym c.in-Log.is)) refl
+    (c.perform-in-Log.ensures.noted book.noted s)
 
 pub returns-in-Lead-clause-performs : goal.returns-in-Lead-clause-performs
 returns-in-Lead-clause-performs g c book s =
@@ -53,6 +58,7 @@ returns-in-Lead-clause-performs g c book s =
     let new : Parts = record old { leading = c.perform-in-Lead.new.leading } in
     let b : BookValue = book_shown book old (pen_value (g.S.Signer.spent c.args.pen.now) (g.S.Signer.left_of c.args.pen.now)) in
     let t : Told = told_with b c.args.out.now in
-    let x : BookValue = lead_book_at b new.leading (g.S.Signer.spent c.perform-in-Lead.new.pen) (g.S.Signer.left_of c.perform-in-Lead.new.pen) in
+    let x : BookValue = lead_book_at b new.leading (g.S.Signer.spent c.perform-in-Lead.new.pen)
+    (g.S.Signer.left_of c.perform-in-Lead.new.pen) in
     performed_by new x.pen c.perform-in-Lead.new.out _ x
     (c.perform-in-Lead.ensures.told b ∙ ap (perform_work sg (kept_next old.leading) t) (sym c.in-Lead.is)) refl s

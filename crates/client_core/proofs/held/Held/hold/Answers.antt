@@ -1,0 +1,17 @@
+use Rattle.std.proofs.Common.{refl, subst, sym}
+use Rattle.client_core.specs.Clusters.{AreOf}
+use Rattle.client_core.proofs.HeldLaws.{are_pushed, held_more}
+use Rattle.client_core.proofs.held.Held.hold.Goals as goal
+
+pub returns-clause-shown : goal.returns-clause-shown
+returns-clause-shown c = λ v after h more.
+    held_more c.args.self.now _ c.args.recovered v after more.0 h more.2 refl c.push_reserved.ensures.items more.1
+
+pub invariant_of-self : goal.invariant_of-self
+invariant_of-self c =
+    let held = c.args.self.now in
+    record {
+      clusters =
+          subst (AreOf held.cluster) (sym c.push_reserved.ensures.items)
+          (are_pushed held.cluster held.slots.items c.args.recovered held.clusters c.requires.cluster);
+    }

@@ -1,0 +1,12 @@
+use Rattle.std.proofs.Common.{ℕ, List, length, sym, ap, ◌∙◌}
+use Rattle.txn_meta.specs.Places.{log_shard}
+use Rattle.client_recover.proofs.FitLaws.{low_shard, invoke_fits}
+use Rattle.client_recover.proofs.pursuit.Pursuit.invokes_fit.Goals as goal
+
+pub returns : goal.returns
+returns c =
+    let u = c.args.self.now in
+    let low = low_shard c.log_shard.result (log_shard u.cluster u.transaction) u.cluster.shards
+    c.log_shard.ensures.value c.log_shard.ensures.in_range c.n.ensures.in_range.few in
+    invoke_fits u.cluster c.n.ensures.in_range u.transaction u.logs u.logs_sound low
+    (sym (ap (λ (i : List ℕ). length i) u.named) ∙ c.id_fits.ensures)

@@ -1,0 +1,122 @@
+//! Pursuits that took frames, which are named by words.
+
+use crate::answers::{Pursued, frame_of};
+use crate::made::fast_commit;
+use crate::told;
+use crate::vectors::{WRITES_A, WRITES_BOTH};
+use basil_types::bytes::Bytes;
+use basil_types::cluster::Cluster;
+use basil_types::party::Decision;
+use basil_types::transaction::TransactionView;
+use client_recover::{FrameFault, Pursuit};
+use frame_values::owned::Certificate;
+use frame_views::frames::{MessageView, check};
+use keyring::plain::PlainKeys;
+use std::alloc::Global;
+use std::test::Fail;
+use txn_meta::form::check_form;
+
+/// Time 30, client 1, a read of a as genesis has it: committed, a rival of a writer of a at time 10.
+pub(crate) const READS_A: &[u8] = &[
+    1, 0, 0, 0, 0, 0, 0, 0, 30, 1, 1, 1, 0x61, 0, 0, 0, 0, 0, 0, 0, 0, 0, 0, 0, 0, 0, 0, 0, 0, 0,
+    0, 0, 0, 0, 0, 0, 0, 0, 0, 0, 0, 0, 0, 0, 0, 0, 0, 0, 0, 0, 0, 0, 0, 0, 0, 0,
+];
+
+/// A pursuit for which no frame was taken; fails where the bytes are no transaction of good form.
+pub(crate) fn pursuit_of(
+    alloc: Global,
+    transaction: &[u8],
+    cluster: &Cluster,
+) -> Result<Pursuit, Fail> {
+    let signature = Bytes::copy_of(alloc, b"signature")?;
+    match TransactionView::read(transaction, 0) {
+        Ok(t) => {
+            let owned = t.try_owned(alloc)?;
+            match check_form(owned.view()) {
+                Ok(()) => Ok(Pursuit::new(alloc, owned, signature, *cluster)),
+                Err(_) => Err(Fail::new("no good form")),
+            }
+        }
+        Err(_) => Err(Fail::new("no transaction")),
+    }
+}
+
+/// What is pursued, with f = 1: a writer of a in a cluster of one shard, and one of a and b in a cluster of two, where a is
+/// of shard 1 and b of shard 0.
+fn pursued<'a>(shards: u8, rival: &'a [u8]) -> Pursued<'a> {
+    if shards == 1 {
+        Pursued {
+            transaction: WRITES_A,
+            rival,
+            tallies: &[(0, 6)],
+        }
+    } else {
+        Pursued {
+            transaction: WRITES_BOTH,
+            rival,
+            tallies: &[(0, 6), (1, 6)],
+        }
+    }
+}
+
+/// Takes a frame by its kind; fails where it is no vote, log reply or writeback of the cluster.
+pub(crate) fn take(pursuit: &mut Pursuit, frame: &[u8]) -> Result<Result<(), FrameFault>, Fail> {
+    let cluster = *pursuit.cluster();
+    let keys = PlainKeys::new(&cluster);
+    match check(frame, &cluster) {
+        Ok(m) => match m {
+            MessageView::Vote(_) => Ok(pursuit.add_vote(&keys, &m)),
+            MessageView::LogReply(_) => Ok(pursuit.add_log(&keys, &m)),
+            MessageView::Writeback(_) => Ok(pursuit.add_certificate(&keys, &m)),
+            _ => Err(Fail::new("another kind")),
+        },
+        Err(_) => Err(Fail::new("no frame")),
+    }
+}
+
+/// Takes the frame of this name, or takes the last add back at `u`; `!` stands before the name of a frame that is refused.
+/// Fails where it is otherwise.
+fn follow(
+    alloc: Global,
+    pursuit: &mut Pursuit,
+    pursued: &Pursued<'_>,
+    word: &str,
+) -> Result<(), Fail> {
+    if word == "u" {
+        pursuit.undo();
+        return Ok(());
+    }
+    let (taken, name) = match word.strip_prefix('!') {
+        Some(name) => (false, name),
+        None => (true, word),
+    };
+    let frame = frame_of(alloc, pursued, name)?;
+    if take(pursuit, &frame)?.is_ok() == taken {
+        Ok(())
+    } else {
+        Err(Fail::new("taken or refused otherwise"))
+    }
+}
+
+/// A pursuit that took the frames of these names, in order, with all that `follow` reads among them.
+pub(crate) fn after(alloc: Global, shards: u8, words: &str) -> Result<Pursuit, Fail> {
+    let cluster = Cluster::new(1, shards, 2, 100)?;
+    let rival = fast_commit(alloc, READS_A, &[(shards.saturating_sub(1), 6)])?;
+    let pursued = pursued(shards, &rival);
+    let mut pursuit = pursuit_of(alloc, pursued.transaction, &cluster)?;
+    for word in words.split(' ') {
+        follow(alloc, &mut pursuit, &pursued, word)?;
+    }
+    Ok(pursuit)
+}
+
+/// An outcome as a text, empty where there is none.
+pub(crate) fn outcome_text(
+    alloc: Global,
+    outcome: Option<(Decision, &Certificate)>,
+) -> Result<String, Fail> {
+    match outcome {
+        Some((_, certificate)) => Ok(told::certificate(alloc, certificate)?),
+        None => Ok(String::new(alloc)),
+    }
+}

@@ -1,0 +1,65 @@
+use Rattle.std.proofs.Common.{◌≡◌, Result, sym, subst}
+use Rattle.std.specs.Prelude.{IfOk}
+use Rattle.frame_views.specs.Shown.{invoke_of}
+use Rattle.node_steps.specs.Pens.{pen_value}
+use Rattle.txn_table.specs.Tables.{entry_with}
+use Rattle.replica_core.specs.declared.plan.Work.{Work}
+use Rattle.replica_core.specs.declared.refusal.Refusal.{Refusal}
+use Rattle.replica_core.specs.FirstStage.{unless_ended}
+use Rattle.replica_core.specs.Invokes.{invoke_logged}
+use Rattle.replica_core.specs.Known.{logged_with}
+use Rattle.replica_core.specs.Leads.{kept_next}
+use Rattle.replica_core.specs.LogWorks.{perform_log}
+use Rattle.replica_core.specs.Nodes.{book_shown}
+use Rattle.replica_core.specs.Seats.{self_at}
+use Rattle.replica_core.specs.Telling.{IsPlanned}
+use Rattle.replica_core.specs.Works.{CanPerform, perform_work}
+use Rattle.replica_core.proofs.KindPlans.{known_planned, log_planned, known_ready, log_ready}
+use Rattle.replica_core.proofs.Planning.{if_ok_at}
+use Rattle.replica_core.proofs.kinds.plan_invocation.Goals as goal
+
+pub returns-in-Some-clause-answer : goal.returns-in-Some-clause-answer
+returns-in-Some-clause-answer g c accepts book s =
+    let sg = g.S.Signer.fixed c.args.pen.now in
+    let pen = pen_value (g.S.Signer.spent c.args.pen.now) (g.S.Signer.left_of c.args.pen.now) in
+    let parts = c.args.parts.now in
+    let b = book_shown book parts pen in
+    let m = invoke_of c.args.m.now in
+    let me = self_at c.args.seat.now accepts sg in
+    let x = invoke_logged me c.args.from b m (entry_with b.entries m.id) (logged_with b.logged m.id) in
+    let kept = kept_next parts.leading in
+    subst (λ (r : Result Work Refusal). IsPlanned (perform_work sg kept) b r (unless_ended c.args.from b m.id x)) (sym c.known_work.ensures)
+    (known_planned sg kept b c.in-Some.planned (unless_ended c.args.from b m.id x)
+    (c.plan_ended.ensures.ended c.in-Some.planned c.in-Some.is sg b pen x))
+
+pub returns-in-None-clause-answer : goal.returns-in-None-clause-answer
+returns-in-None-clause-answer g c accepts book s =
+    let sg = g.S.Signer.fixed c.args.pen.now in
+    let pen = pen_value (g.S.Signer.spent c.args.pen.now) (g.S.Signer.left_of c.args.pen.now) in
+    let parts = c.args.parts.now in
+    let b = book_shown book parts pen in
+    let m = invoke_of c.args.m.now in
+    let me = self_at c.args.seat.now accepts sg in
+    let x = invoke_logged me c.args.from b m (entry_with b.entries m.id) (logged_with b.logged m.id) in
+    let kept = kept_next parts.leading in
+    let goes : unless_ended c.args.from b m.id x ≡ x = c.plan_ended.ensures.goes_on c.in-None.is b pen x in
+    subst (λ (r : Result Work Refusal). IsPlanned (perform_work sg kept) b r (unless_ended c.args.from b m.id x)) (sym c.log_work.ensures)
+    (log_planned sg kept b c.plan_invoke-planned.result (unless_ended c.args.from b m.id x)
+    (subst (IsPlanned (perform_log sg) b c.plan_invoke-planned.result) (sym goes) (c.plan_invoke-planned.ensures.answer accepts b)))
+
+pub returns-in-Some-clause-ready : goal.returns-in-Some-clause-ready
+returns-in-Some-clause-ready g c =
+    let size = (g.S.Signer.fixed c.args.pen.now).size in
+    let left = g.S.Signer.left_of c.args.pen.now in
+    let parts = c.args.parts.now in
+    subst (λ (r : Result Work Refusal). IfOk r (CanPerform size left parts)) (sym c.known_work.ensures)
+    (known_ready size left parts c.in-Some.planned
+    (if_ok_at size left parts.known c.in-Some.planned (c.plan_ended.ensures.ready c.in-Some.planned c.in-Some.is)))
+
+pub returns-in-None-clause-ready : goal.returns-in-None-clause-ready
+returns-in-None-clause-ready g c =
+    let size = (g.S.Signer.fixed c.args.pen.now).size in
+    let left = g.S.Signer.left_of c.args.pen.now in
+    let parts = record (c.args.parts.now) { logged = c.plan_invoke-planned.new.logged } in
+    subst (λ (r : Result Work Refusal). IfOk r (CanPerform size left parts)) (sym c.log_work.ensures)
+    (log_ready size left parts c.plan_invoke-planned.result c.plan_invoke-planned.ensures.ready)

@@ -1,0 +1,480 @@
+//! Frames by phrases, with plain signatures.
+//!
+//! A phrase begins with the sender, `c3` for client 3 and `r3` for replica 3 of the replica's own shard, and a frame's name.
+//! `c3 read a 40 3` is a read of key a at time 40 by client 3; `c3 st1 D` and `c3 recover D` carry the transaction D.
+//! `c3 st2 D commit 0:0123 1:1234` carries the votes of four replicas of each of two shards. Writebacks are
+//! `c3 writeback D fast 0:012345`, `.. abort 0:0123`, `.. logged commit 1 0:01234`, which was decided in view 1, and
+//! `.. conflict 0:3 E fast 0:012345`, with the vote of replica 3 of shard 0 and the fast commit of E. `c3 invoke D 0:1 1:2a` carries
+//! a log reply of replica 0 to commit with view 1 current, and one of replica 1 to abort with view 2 current.
+//! `r2 elect D abort 1` is replica 2's word for view 1, and `r5 decide D commit 1 0c 1c 3a` replica 5's proposal in view 1 with
+//! the words of three replicas. A word `x` behind the rest spoils the frame's own signature, an x inside of a word that which
+//! the word names; `@1` says shard 1 in the place of the replica's own.
+
+use crate::scenes::casts::{Role, byte_of, initial, number_of, put_text, role_named, word_at};
+use basil_types::bytes::id_of;
+use basil_types::party::{Decision, Party};
+use basil_types::words::Words;
+use keyring::plain::PlainPen;
+use keyring::signer::Signer;
+use std::alloc::AllocError;
+use std::test::Fail;
+
+/// More words than a phrase has.
+const WORDS: usize = 20;
+
+/// A phrase, the transactions that it may name, and the replica's shard.
+#[derive(Clone, Copy)]
+pub(crate) struct Line<'a> {
+    pub(crate) phrase: &'a str,
+    pub(crate) cast: &'a [Role],
+    pub(crate) shard: u8,
+}
+
+impl<'a> Line<'a> {
+    fn word(&self, place: usize) -> &'a str {
+        word_at(self.phrase, place)
+    }
+
+    /// The transaction that the word at a place names.
+    fn role(&self, place: usize) -> Result<&'a Role, Fail> {
+        role_named(self.cast, self.word(place))
+    }
+
+    fn decision(&self, place: usize) -> Decision {
+        decision_in(self.word(place))
+    }
+
+    /// Who sends it.
+    pub(crate) fn sender(&self) -> Party {
+        let word = self.word(0);
+        if initial(word) == b'c' {
+            Party::Client {
+                number: byte_of(word),
+            }
+        } else {
+            Party::Replica {
+                shard: self.shard,
+                index: byte_of(word),
+            }
+        }
+    }
+
+    /// Whether the frame's own signature is spoiled.
+    fn is_spoiled(&self) -> bool {
+        for word in self.phrase.split(' ') {
+            if word == "x" {
+                return true;
+            }
+        }
+        false
+    }
+
+    /// The shard that the frame names.
+    fn named_shard(&self) -> u8 {
+        for word in self.phrase.split(' ') {
+            if initial(word) == b'@' {
+                return byte_of(word);
+            }
+        }
+        self.shard
+    }
+}
+
+/// Abort where the word has an a, and else commit.
+fn decision_in(word: &str) -> Decision {
+    if word.contains('a') {
+        Decision::Abort
+    } else {
+        Decision::Commit
+    }
+}
+
+fn number_for(decision: Decision) -> u8 {
+    match decision {
+        Decision::Commit => 0,
+        Decision::Abort => 1,
+    }
+}
+
+/// What stands before and behind the colon of a word.
+fn halves(word: &str) -> (&str, &str) {
+    word.split_once(':').unwrap_or((word, ""))
+}
+
+/// A plain signature of words, behind its length.
+fn put_signature(
+    out: &mut Vec<u8>,
+    party: Party,
+    words: &Words,
+    spoiled: bool,
+) -> Result<(), AllocError> {
+    let mut pen = PlainPen::new(party);
+    let mut signature = [0u8; 32];
+    let _ = pen.sign_into(words.bytes(), &mut signature);
+    signature[31] ^= u8::from(spoiled);
+    out.extend_from_slice(&[0, 32])?;
+    out.extend_from_slice(&signature)
+}
+
+/// The transaction of a phrase.
+fn put_transaction(out: &mut Vec<u8>, line: &Line<'_>) -> Result<(), Fail> {
+    let role = line.role(2)?;
+    out.extend_from_slice(&role.bytes)?;
+    Ok(())
+}
+
+/// The transaction of a phrase, with its client's signature.
+fn put_signed(out: &mut Vec<u8>, line: &Line<'_>) -> Result<(), Fail> {
+    let role = line.role(2)?;
+    out.extend_from_slice(&role.bytes)?;
+    let words = Words::transaction(&id_of(&role.bytes));
+    let client = Party::Client {
+        number: role.client,
+    };
+    put_signature(out, client, &words, line.is_spoiled())?;
+    Ok(())
+}
+
+fn count_digits(text: &str) -> u8 {
+    let mut count = 0u8;
+    for byte in text.as_bytes() {
+        if byte.is_ascii_digit() {
+            count = count.saturating_add(1);
+        }
+    }
+    count
+}
+
+/// The shard of a word like `0:0123`, and votes of these replicas behind their number. An x spoils that of the next.
+fn put_votes(
+    out: &mut Vec<u8>,
+    id: &[u8; 32],
+    decision: Decision,
+    word: &str,
+) -> Result<(), AllocError> {
+    let (shard, replicas) = halves(word);
+    let shard = byte_of(shard);
+    out.extend_from_slice(&[shard, count_digits(replicas)])?;
+    let mut spoiled = false;
+    for byte in replicas.as_bytes() {
+        if *byte == b'x' {
+            spoiled = true;
+        } else {
+            let index = byte.saturating_sub(b'0');
+            out.push(index)?;
+            let words = Words::vote(shard, index, id, decision);
+            put_signature(out, Party::Replica { shard, index }, &words, spoiled)?;
+            spoiled = false;
+        }
+    }
+    Ok(())
+}
+
+/// How many words from a place on have a colon.
+fn count_pairs(line: &Line<'_>, from: usize) -> u8 {
+    let mut count = 0u8;
+    for place in from..WORDS {
+        if line.word(place).contains(':') {
+            count = count.saturating_add(1);
+        }
+    }
+    count
+}
+
+/// The tallies of the words from a place on.
+fn put_tallies(
+    out: &mut Vec<u8>,
+    line: &Line<'_>,
+    id: &[u8; 32],
+    decision: Decision,
+    from: usize,
+) -> Result<(), AllocError> {
+    out.push(count_pairs(line, from))?;
+    for place in from..WORDS {
+        let word = line.word(place);
+        if word.contains(':') {
+            put_votes(out, id, decision, word)?;
+        }
+    }
+    Ok(())
+}
+
+fn put_read(out: &mut Vec<u8>, line: &Line<'_>) -> Result<(), AllocError> {
+    out.push(1)?;
+    put_text(out, line.word(2))?;
+    out.extend_from_slice(&number_of(line.word(3)).to_be_bytes())?;
+    out.push(byte_of(line.word(4)))?;
+    Ok(())
+}
+
+fn put_second(out: &mut Vec<u8>, line: &Line<'_>) -> Result<(), Fail> {
+    out.push(5)?;
+    put_signed(out, line)?;
+    let decision = line.decision(3);
+    out.push(number_for(decision))?;
+    let role = line.role(2)?;
+    put_tallies(out, line, &id_of(&role.bytes), decision, 4)?;
+    Ok(())
+}
+
+/// A fast commit with the tallies of the words from a place on.
+fn put_fast(
+    out: &mut Vec<u8>,
+    line: &Line<'_>,
+    id: &[u8; 32],
+    from: usize,
+) -> Result<(), AllocError> {
+    out.push(1)?;
+    out.extend_from_slice(id)?;
+    put_tallies(out, line, id, Decision::Commit, from)
+}
+
+/// The replicas of a word, each with its log reply, in the view in which it was decided.
+fn put_logs(
+    out: &mut Vec<u8>,
+    id: &[u8; 32],
+    decision: Decision,
+    view: u64,
+    word: &str,
+) -> Result<(), AllocError> {
+    let (shard, replicas) = halves(word);
+    let shard = byte_of(shard);
+    out.push(count_digits(replicas))?;
+    for byte in replicas.as_bytes() {
+        let index = byte.saturating_sub(b'0');
+        out.push(index)?;
+        out.extend_from_slice(&view.to_be_bytes())?;
+        let words = Words::log_reply(shard, index, id, decision, view, view);
+        put_signature(out, Party::Replica { shard, index }, &words, false)?;
+    }
+    Ok(())
+}
+
+fn put_logged(out: &mut Vec<u8>, line: &Line<'_>, id: &[u8; 32]) -> Result<(), AllocError> {
+    let decision = line.decision(4);
+    let view = number_of(line.word(5));
+    let word = line.word(6);
+    out.push(2)?;
+    out.extend_from_slice(id)?;
+    out.extend_from_slice(&[byte_of(halves(word).0), number_for(decision)])?;
+    out.extend_from_slice(&view.to_be_bytes())?;
+    put_logs(out, id, decision, view, word)
+}
+
+fn put_fast_abort(out: &mut Vec<u8>, line: &Line<'_>, id: &[u8; 32]) -> Result<(), AllocError> {
+    out.push(3)?;
+    out.extend_from_slice(id)?;
+    put_votes(out, id, Decision::Abort, line.word(4))
+}
+
+fn put_conflict(out: &mut Vec<u8>, line: &Line<'_>, id: &[u8; 32]) -> Result<(), Fail> {
+    let (shard, index) = halves(line.word(4));
+    let shard = byte_of(shard);
+    let index = byte_of(index);
+    out.push(4)?;
+    out.extend_from_slice(id)?;
+    out.extend_from_slice(&[shard, index])?;
+    let words = Words::vote(shard, index, id, Decision::Abort);
+    put_signature(out, Party::Replica { shard, index }, &words, false)?;
+    let rival = line.role(5)?;
+    out.extend_from_slice(&rival.bytes)?;
+    put_fast(out, line, &id_of(&rival.bytes), 6)?;
+    Ok(())
+}
+
+fn put_writeback(out: &mut Vec<u8>, line: &Line<'_>) -> Result<(), Fail> {
+    out.push(7)?;
+    put_transaction(out, line)?;
+    let id = id_of(&line.role(2)?.bytes);
+    match line.word(3).as_bytes() {
+        b"fast" => put_fast(out, line, &id, 4)?,
+        b"logged" => put_logged(out, line, &id)?,
+        b"abort" => put_fast_abort(out, line, &id)?,
+        b"conflict" => put_conflict(out, line, &id)?,
+        _ => return Err(Fail::new("no certificate has this name")),
+    }
+    Ok(())
+}
+
+/// The log reply that a word like `0:1a` tells, which was decided in view 0.
+fn put_report(out: &mut Vec<u8>, id: &[u8; 32], shard: u8, word: &str) -> Result<(), AllocError> {
+    let (replica, view) = halves(word);
+    let index = byte_of(replica);
+    let current = number_of(view);
+    let decision = decision_in(view);
+    out.extend_from_slice(&[index, number_for(decision)])?;
+    out.extend_from_slice(&[0u8; 8])?;
+    out.extend_from_slice(&current.to_be_bytes())?;
+    let words = Words::log_reply(shard, index, id, decision, 0, current);
+    put_signature(
+        out,
+        Party::Replica { shard, index },
+        &words,
+        view.contains('x'),
+    )
+}
+
+fn put_reports(out: &mut Vec<u8>, line: &Line<'_>, id: &[u8; 32]) -> Result<(), AllocError> {
+    let shard = line.named_shard();
+    out.extend_from_slice(&[shard, count_pairs(line, 3)])?;
+    for place in 3..WORDS {
+        let word = line.word(place);
+        if word.contains(':') {
+            put_report(out, id, shard, word)?;
+        }
+    }
+    Ok(())
+}
+
+fn put_invoke(out: &mut Vec<u8>, line: &Line<'_>) -> Result<(), Fail> {
+    let id = id_of(&line.role(2)?.bytes);
+    out.push(9)?;
+    out.extend_from_slice(&id)?;
+    put_reports(out, line, &id)?;
+    Ok(())
+}
+
+/// The shard, the replica that sends, a decision and a view, behind the transaction.
+fn put_view(out: &mut Vec<u8>, line: &Line<'_>) -> Result<(), Fail> {
+    put_transaction(out, line)?;
+    out.extend_from_slice(&[line.named_shard(), byte_of(line.word(0))])?;
+    out.push(number_for(line.decision(3)))?;
+    out.extend_from_slice(&number_of(line.word(4)).to_be_bytes())?;
+    Ok(())
+}
+
+fn put_elect(out: &mut Vec<u8>, line: &Line<'_>) -> Result<(), Fail> {
+    out.push(10)?;
+    put_view(out, line)?;
+    let id = id_of(&line.role(2)?.bytes);
+    let (shard, index) = (line.named_shard(), byte_of(line.word(0)));
+    let words = Words::election(shard, index, &id, line.decision(3), number_of(line.word(4)));
+    put_signature(
+        out,
+        Party::Replica { shard, index },
+        &words,
+        line.is_spoiled(),
+    )?;
+    Ok(())
+}
+
+/// The election word that a word like `3a` tells.
+fn put_word(
+    out: &mut Vec<u8>,
+    id: &[u8; 32],
+    shard: u8,
+    view: u64,
+    word: &str,
+) -> Result<(), AllocError> {
+    let index = byte_of(word);
+    let decision = decision_in(word);
+    out.extend_from_slice(&[index, number_for(decision)])?;
+    let words = Words::election(shard, index, id, decision, view);
+    put_signature(
+        out,
+        Party::Replica { shard, index },
+        &words,
+        word.contains('x'),
+    )
+}
+
+fn count_words(line: &Line<'_>) -> u8 {
+    let mut count = 0u8;
+    for place in 5..WORDS {
+        if initial(line.word(place)).is_ascii_digit() {
+            count = count.saturating_add(1);
+        }
+    }
+    count
+}
+
+fn put_words(out: &mut Vec<u8>, line: &Line<'_>, id: &[u8; 32]) -> Result<(), AllocError> {
+    out.push(count_words(line))?;
+    for place in 5..WORDS {
+        let word = line.word(place);
+        if initial(word).is_ascii_digit() {
+            put_word(out, id, line.named_shard(), number_of(line.word(4)), word)?;
+        }
+    }
+    Ok(())
+}
+
+fn put_decide(out: &mut Vec<u8>, line: &Line<'_>) -> Result<(), Fail> {
+    out.push(11)?;
+    put_view(out, line)?;
+    let id = id_of(&line.role(2)?.bytes);
+    put_words(out, line, &id)?;
+    let (shard, index) = (line.named_shard(), byte_of(line.word(0)));
+    let words = Words::proposal(shard, index, &id, line.decision(3), number_of(line.word(4)));
+    put_signature(
+        out,
+        Party::Replica { shard, index },
+        &words,
+        line.is_spoiled(),
+    )?;
+    Ok(())
+}
+
+/// `r1 vote A commit`: a vote of replica 1 that nobody signed.
+fn put_vote(out: &mut Vec<u8>, line: &Line<'_>) -> Result<(), Fail> {
+    out.extend_from_slice(&[4, line.shard, byte_of(line.word(0))])?;
+    out.extend_from_slice(&id_of(&line.role(2)?.bytes))?;
+    out.extend_from_slice(&[number_for(line.decision(3)), 0, 0, 1, 7])?;
+    Ok(())
+}
+
+/// `r1 log A commit 0 0`: a log reply of replica 1 that nobody signed.
+fn put_log(out: &mut Vec<u8>, line: &Line<'_>) -> Result<(), Fail> {
+    out.extend_from_slice(&[6, line.shard, byte_of(line.word(0))])?;
+    out.extend_from_slice(&id_of(&line.role(2)?.bytes))?;
+    out.push(number_for(line.decision(3)))?;
+    out.extend_from_slice(&number_of(line.word(4)).to_be_bytes())?;
+    out.extend_from_slice(&number_of(line.word(5)).to_be_bytes())?;
+    out.extend_from_slice(&[0, 1, 7])?;
+    Ok(())
+}
+
+/// `r1 reply a 40 3`: a read reply of replica 1 with nothing found, that nobody signed.
+fn put_reply(out: &mut Vec<u8>, line: &Line<'_>) -> Result<(), AllocError> {
+    out.extend_from_slice(&[2, line.shard, byte_of(line.word(0))])?;
+    put_text(out, line.word(2))?;
+    out.extend_from_slice(&number_of(line.word(3)).to_be_bytes())?;
+    out.extend_from_slice(&[byte_of(line.word(4)), 0, 0, 0, 1, 7])
+}
+
+/// `c1 bytes 12 0`: these bytes.
+fn put_bytes(out: &mut Vec<u8>, line: &Line<'_>) -> Result<(), AllocError> {
+    for place in 2..WORDS {
+        let word = line.word(place);
+        if !word.is_empty() {
+            out.push(byte_of(word))?;
+        }
+    }
+    Ok(())
+}
+
+/// The frame of a phrase.
+pub(crate) fn put_frame(out: &mut Vec<u8>, line: &Line<'_>) -> Result<(), Fail> {
+    match line.word(1).as_bytes() {
+        b"read" => put_read(out, line)?,
+        b"st1" => {
+            out.push(3)?;
+            put_signed(out, line)?;
+        }
+        b"recover" => {
+            out.push(8)?;
+            put_signed(out, line)?;
+        }
+        b"st2" => put_second(out, line)?,
+        b"writeback" => put_writeback(out, line)?,
+        b"invoke" => put_invoke(out, line)?,
+        b"elect" => put_elect(out, line)?,
+        b"decide" => put_decide(out, line)?,
+        b"reply" => put_reply(out, line)?,
+        b"vote" => put_vote(out, line)?,
+        b"log" => put_log(out, line)?,
+        b"bytes" => put_bytes(out, line)?,
+        _ => return Err(Fail::new("no frame has this name")),
+    }
+    Ok(())
+}

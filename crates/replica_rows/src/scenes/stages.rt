@@ -1,0 +1,267 @@
+//! Scenes: what comes to one replica, and what it answers.
+
+use crate::scenes::casts::{Role, cast_of, find, word_at};
+use crate::scenes::phrases::{Line, put_frame};
+use crate::scenes::telling::{Reader, name_of, tell};
+use basil_types::bytes::id_of;
+use basil_types::cluster::Cluster;
+use basil_types::outbox::{Envelope, Outbox};
+use basil_types::party::Party;
+use decision_log::LogCell;
+use keyring::plain::{PlainKeys, seed_of};
+use keyring_lms::{LmsKeys, LmsPen};
+use lms_sign::{LmsKey, LmsSet, ident_of_seed};
+use node_steps::pending::outbox;
+use replica_core::{Refusal, Replica};
+use std::alloc::{AllocError, Global};
+use std::process::Abort;
+use std::test::Fail;
+
+/// The replica's clock, in a cluster with f = 1 and a delta of 100.
+const NOW: u64 = 50;
+
+/// A scene: the shards of the cluster, the replica's shard and index, the first of its key's 32 leaves, the transactions,
+/// and what comes, each with what is answered. The others sign with plain keys.
+#[derive(Clone, Copy)]
+pub(crate) struct Scene {
+    pub(crate) shards: u8,
+    pub(crate) shard: u8,
+    pub(crate) index: u8,
+    pub(crate) leaf: u32,
+    pub(crate) cast: &'static [&'static str],
+    pub(crate) steps: &'static [(&'static str, &'static str)],
+}
+
+/// How a frame is handed to a replica.
+#[derive(Clone, Copy)]
+pub(crate) enum Way {
+    /// In one step.
+    Whole,
+    /// Planned and committed.
+    Halves,
+    /// Planned and given up, and then in one step.
+    Again,
+}
+
+/// A replica with what its frames are read by, all that it sent, and the bytes of all its frames.
+#[derive(Drop)]
+struct Stage {
+    cluster: Cluster,
+    shard: u8,
+    cast: Vec<Role>,
+    key: LmsKeys,
+    replica: Replica<PlainKeys, LmsPen>,
+    out: Outbox,
+    sent: Vec<u8>,
+}
+
+/// The replica of a scene, and a keyring that accepts what its pen signs; fails where the cluster has none of this shard
+/// and index.
+fn replica_of(
+    alloc: Global,
+    cluster: Cluster,
+    scene: &Scene,
+) -> Result<(Replica<PlainKeys, LmsPen>, LmsKeys), Fail> {
+    let (shard, index) = (scene.shard, scene.index);
+    if shard >= cluster.shards || index >= cluster.n() || scene.leaf > 32 {
+        return Err(Fail::new("no such replica"));
+    }
+    let party = Party::Replica { shard, index };
+    let seed = seed_of(party);
+    let key = LmsKey::make(
+        alloc,
+        &seed,
+        &ident_of_seed(&seed),
+        LmsSet::W4H5,
+        scene.leaf,
+    )?;
+    let own = LmsKeys::from_publics(alloc, &[(party, key.public())])?;
+    let keys = PlainKeys::new(&cluster);
+    let pen = LmsPen::new(party, key);
+    let replica = Replica::new(alloc, cluster, shard, index, keys, pen);
+    Ok((replica, own))
+}
+
+fn stage_of(alloc: Global, scene: &Scene) -> Result<Stage, Fail> {
+    let cluster = Cluster::new(1, scene.shards, 2, 100)?;
+    let cast = cast_of(alloc, scene.cast)?;
+    let (replica, key) = replica_of(alloc, cluster, scene)?;
+    Ok(Stage {
+        cluster,
+        shard: scene.shard,
+        cast,
+        key,
+        replica,
+        out: outbox(alloc),
+        sent: Vec::new(alloc),
+    })
+}
+
+/// What must stay where a frame is refused: how many transactions are known, how much was sent and signed, and what is
+/// logged of the frame's transaction.
+#[derive(Clone, Copy, PartialEq, Eq)]
+struct Mark {
+    known: u32,
+    sent: usize,
+    signed: usize,
+    cell: Option<LogCell>,
+}
+
+/// The bytes of all frames.
+fn bytes_of(messages: &[Envelope]) -> u64 {
+    let mut bytes = 0u64;
+    for envelope in messages {
+        bytes = bytes.saturating_add(envelope.frame.as_slice().len() as u64);
+    }
+    bytes
+}
+
+impl Stage {
+    fn line<'a>(&'a self, phrase: &'a str) -> Line<'a> {
+        Line {
+            phrase,
+            cast: &self.cast,
+            shard: self.shard,
+        }
+    }
+
+    /// What is logged of the transaction that a phrase names.
+    fn cell(&self, phrase: &str) -> Option<LogCell> {
+        let role = find(&self.cast, word_at(phrase, 2))?;
+        self.replica.cell(&id_of(&role.bytes))
+    }
+
+    fn mark(&self, phrase: &str) -> Mark {
+        Mark {
+            known: self.replica.table().len(),
+            sent: self.out.messages.as_slice().len(),
+            signed: self.out.signed.as_slice().len(),
+            cell: self.cell(phrase),
+        }
+    }
+
+    /// Hands a frame in two halves; fails where the plan tells other messages or bytes than are sent.
+    fn hand_halves(&mut self, from: Party, frame: &[u8]) -> Result<Result<(), Refusal>, Fail> {
+        match self.replica.plan(NOW, from, frame) {
+            Ok(plan) => {
+                let messages = plan.messages();
+                let bytes = plan.bytes();
+                self.out = self.replica.commit(plan);
+                let sent = self.out.messages.as_slice();
+                if messages == sent.len() as u64 && bytes == bytes_of(sent) {
+                    Ok(Ok(()))
+                } else {
+                    Err(Fail::new("the plan told something else"))
+                }
+            }
+            Err(refused) => Ok(Err(refused)),
+        }
+    }
+
+    /// Plans and gives up.
+    fn give_up(&mut self, from: Party, frame: &[u8]) {
+        match self.replica.plan(NOW, from, frame) {
+            Ok(plan) => self.replica.give_up(plan),
+            Err(_) => {}
+        }
+    }
+
+    fn hand(&mut self, way: Way, from: Party, frame: &[u8]) -> Result<Result<(), Refusal>, Fail> {
+        match way {
+            Way::Whole => Ok(self.replica.step(NOW, from, frame, &mut self.out)),
+            Way::Halves => self.hand_halves(from, frame),
+            Way::Again => {
+                self.give_up(from, frame);
+                Ok(self.replica.step(NOW, from, frame, &mut self.out))
+            }
+        }
+    }
+
+    /// Tells the messages from a place on.
+    fn tell(&mut self, text: &mut String, from: usize) -> Result<(), AllocError> {
+        let reader = Reader {
+            cluster: &self.cluster,
+            cast: &self.cast,
+            key: &self.key,
+        };
+        for envelope in self.out.messages.as_slice().iter().skip(from) {
+            self.sent.extend_from_slice(envelope.frame.as_slice())?;
+        }
+        tell(text, &reader, self.out.messages.as_slice(), from)
+    }
+
+    /// Hands the frame of a phrase to the replica, and tells what it answers; fails where a refused frame changed anything.
+    fn hand_phrase(
+        &mut self,
+        text: &mut String,
+        frame: &mut Vec<u8>,
+        way: Way,
+        phrase: &str,
+    ) -> Result<(), Fail> {
+        put_frame(frame, &self.line(phrase))?;
+        let from = self.line(phrase).sender();
+        let mark = self.mark(phrase);
+        match self.hand(way, from, frame.as_slice())? {
+            Ok(()) => {
+                let place = match way {
+                    Way::Halves => 0,
+                    Way::Whole | Way::Again => mark.sent,
+                };
+                self.tell(text, place)?;
+                Ok(())
+            }
+            Err(refused) => {
+                write!(text, "refused {refused:?}")?;
+                if self.mark(phrase) == mark {
+                    Ok(())
+                } else {
+                    Err(Fail::new("a refused frame changed something"))
+                }
+            }
+        }
+    }
+
+    fn tell_cell(&self, text: &mut String, phrase: &str) -> Result<(), AllocError> {
+        match self.cell(phrase) {
+            Some(cell) => {
+                let decision = name_of(cell.decision);
+                write!(text, "{decision} {} {}", cell.decided, cell.current)
+            }
+            None => text.push_str("none"),
+        }
+    }
+
+    /// The answer to a phrase. `the cell A` asks what is logged of A, `the table` how many transactions are known.
+    fn answer(&mut self, alloc: Global, way: Way, phrase: &str) -> Result<String, Fail> {
+        let mut text = String::new(alloc);
+        let mut frame = Vec::new(alloc);
+        match word_at(phrase, 1).as_bytes() {
+            b"cell" => self.tell_cell(&mut text, phrase)?,
+            b"table" => write!(text, "{}", self.replica.table().len())?,
+            _ => self.hand_phrase(&mut text, &mut frame, way, phrase)?,
+        }
+        Ok(text)
+    }
+}
+
+/// Plays a scene, and gives the bytes of all frames that the replica sent.
+pub(crate) fn played(
+    rt: &impl Abort,
+    alloc: Global,
+    scene: &Scene,
+    way: Way,
+) -> Result<Vec<u8>, Fail> {
+    let mut stage = stage_of(alloc, scene)?;
+    for (phrase, wanted) in scene.steps {
+        let found = stage.answer(alloc, way, phrase)?;
+        assert!(rt; found.as_str() == *wanted, "{phrase}: {found}");
+    }
+    let Stage { sent, .. } = stage;
+    Ok(sent)
+}
+
+/// Plays a scene whose frames are handed over in one step.
+pub(crate) fn plays(rt: &impl Abort, alloc: Global, scene: &Scene) -> Result<(), Fail> {
+    drop(played(rt, alloc, scene, Way::Whole)?);
+    Ok(())
+}
