@@ -15,8 +15,8 @@ use Rattle.schedule_text.specs.declared.complaint.Complaint.TheVariants.{OutOfSi
 use Rattle.schedule_text.specs.declared.line.Line.{Line}
 use Rattle.schedule_text.specs.declared.line.LineFault.{LineFault}
 use Rattle.schedule_text.specs.declared.line.LineFault.TheVariants.{BadLine}
-use Rattle.basil_cli.specs.Lines.{lines_of, but_empty_last}
-use Rattle.basil_cli.proofs.Cutting.{pieces}
+use Rattle.schedule_text.specs.TextLines.{lines_of, but_empty_last}
+use Rattle.schedule_text.proofs.LineCuts.{pieces}
 use Rattle.basil_cli.specs.Outcome.{longest_input, is_too_long}
 use Rattle.basil_cli.specs.Reading.{IsRead, IsReadThrough, beginning, is_settled, passed, reached}
 use Rattle.basil_cli.specs.Replay.{Ended, Refusal, ReplayState, ended_lines, ended_of, ended_with, first_replay, first_said, go_on, later_reason, opened, run_lines, step, step_said}

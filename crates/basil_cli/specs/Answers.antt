@@ -2,7 +2,7 @@
 use Rattle.std.specs.Prelude.{◌≡◌, ◌⊎◌, ℕ, Bool, true, false, List, Option, Result, Ok, Err, ⊤}
 use Rattle.basil_types.specs.Causes.{Rose, TookAll, TookPrefix}
 use Rattle.cluster_world.specs.Safe.{IsSafe}
-use Rattle.basil_cli.specs.Outcome.{Outcome, Usage, BadLine, Written, Refused, TooLong, text_of, read_fault_text}
+use Rattle.basil_cli.specs.Outcome.{Outcome, Usage, BadLine, Written, Refused, Stray, TooLong, text_of, read_fault_text}
 use Rattle.basil_cli.specs.Replay as replay
 use Rattle.basil_cli.specs.Replay.{Ended}
 use Rattle.basil_cli.specs.declared.status.Status.{Status}
@@ -24,6 +24,7 @@ status_of Usage = ends.BadWords
 status_of (BadLine line reason) = ends.BadInput line reason
 status_of (Written text) = ends.Done
 status_of (Refused reason) = ends.Refused reason
+status_of (Stray line) = ends.Refused 0
 status_of TooLong = ends.TooLong
 
 -- the source's count rose, and some of the text of its fault was written

@@ -25,7 +25,7 @@ use Rattle.schedule_text.specs.declared.line.Line.TheVariants.{Header}
 use Rattle.schedule_text.specs.declared.line.LineFault.{LineFault}
 use Rattle.txn_meta.specs.Form.{form_fault}
 use Rattle.txn_meta.specs.declared.form.FormFault.{FormFault}
-use Rattle.basil_cli.specs.Lines.{lines_of}
+use Rattle.schedule_text.specs.TextLines.{lines_of}
 use Rattle.basil_cli.specs.Outcome.{Outcome, BadLine, Written, Refused}
 use Rattle.basil_cli.specs.declared.check.Ring.{Ring}
 use Rattle.basil_cli.specs.declared.check.Ring.TheVariants as ring

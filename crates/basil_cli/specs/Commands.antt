@@ -8,7 +8,7 @@ use Rattle.schedule_text.specs.Fields.{hex, number}
 use Rattle.schedule_text.specs.Words.{Word}
 use Rattle.schedule_text.specs.declared.complaint.Complaint.{Complaint}
 use Rattle.basil_cli.specs.declared.command.Command.{Command}
-use Rattle.basil_cli.specs.declared.command.Command.TheVariants.{Replay, Keys, Sign, Verify, Check}
+use Rattle.basil_cli.specs.declared.command.Command.TheVariants.{Replay, Keys, Sign, Verify, Check, Audit}
 use Rattle.basil_cli.specs.declared.command.KeyMaterial.{KeyMaterial}
 
 -- what a word says, whatever is wrong with another
@@ -84,6 +84,11 @@ abbrev pub check_of : List Word → Option Command
 check_of [] = Some Check
 check_of (word ∷ words) = None
 
+-- `audit`
+abbrev pub audit_of : List Word → Option Command
+audit_of [] = Some Audit
+audit_of (word ∷ words) = None
+
 abbrev pub command_of : List Word → Option Command
 command_of [] = None
 command_of (name ∷ words) =
@@ -92,6 +97,7 @@ command_of (name ∷ words) =
     else if bytes_eq name (codes "sign") then sign_of words
     else if bytes_eq name (codes "verify") then verify_of words
     else if bytes_eq name (codes "check") then check_of words
+    else if bytes_eq name (codes "audit") then audit_of words
     else None
 
 -- whether a command has an input
@@ -101,6 +107,7 @@ reads (Keys m) = false
 reads (Sign m leaf) = true
 reads (Verify public signature) = true
 reads Check = true
+reads Audit = true
 
 -- whether words are a command that has an input
 abbrev pub words_read : Option Command → Bool
@@ -114,3 +121,4 @@ HasLeaf (Keys m) = ⊤
 HasLeaf (Sign m leaf) = leaf < leaves_of m.set
 HasLeaf (Verify public signature) = ⊤
 HasLeaf Check = ⊤
+HasLeaf Audit = ⊤

@@ -1,4 +1,3 @@
-pub mod Lines
 pub mod Replay
 pub mod Report
 pub mod Commands

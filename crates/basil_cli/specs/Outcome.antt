@@ -10,6 +10,8 @@ pub data Outcome : Type 0 where
   Written : (text : List ℕ) → Outcome
   -- the definition that the command tests is false of the input
   Refused : (reason : ℕ) → Outcome
+  -- the same, told in a line of its own
+  Stray : (line : List ℕ) → Outcome
   -- the input has more than 16,777,216 bytes
   TooLong : Outcome
 
@@ -19,6 +21,7 @@ text_of Usage = codes "usage" ++ 10 ∷ []
 text_of (BadLine line reason) = codes "line " ++ decimal line ++ codes " reason " ++ decimal reason ++ 10 ∷ []
 text_of (Written text) = text
 text_of (Refused reason) = codes "refused " ++ decimal reason ++ 10 ∷ []
+text_of (Stray line) = line
 text_of TooLong = codes "too long 16777216" ++ 10 ∷ []
 
 abbrev pub read_fault_text : List ℕ

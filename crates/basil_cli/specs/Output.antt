@@ -1,17 +1,25 @@
 -- What the words and the bytes of the source lead to.
-use Rattle.std.specs.Prelude.{ℕ, List, Option, Some, None, Result, Ok, Err}
+use Rattle.std.specs.Prelude.{ℕ, List, [], ◌∷◌, ◌++◌, codes, Option, Some, None, Result, Ok, Err}
+use Rattle.audit_text.specs.Findings.{finding_of}
+use Rattle.audit_text.specs.declared.finding.Finding.{Finding}
+use Rattle.audit_text.specs.declared.finding.Finding.TheVariants as finding
 use Rattle.basil_cli.specs.Checking.{checked}
 use Rattle.basil_cli.specs.Commands.{command_of}
-use Rattle.basil_cli.specs.Outcome.{Outcome, Usage, BadLine, Written, unless_too_long}
+use Rattle.basil_cli.specs.Outcome.{Outcome, Usage, BadLine, Written, Stray, unless_too_long}
 use Rattle.basil_cli.specs.Replay.{Ended, Refusal, ended_of}
 use Rattle.basil_cli.specs.Report.{report}
 use Rattle.basil_cli.specs.Signatures.{keys_made, signed, verified}
 use Rattle.basil_cli.specs.declared.command.Command.{Command}
-use Rattle.basil_cli.specs.declared.command.Command.TheVariants.{Replay, Keys, Sign, Verify, Check}
+use Rattle.basil_cli.specs.declared.command.Command.TheVariants.{Replay, Keys, Sign, Verify, Check, Audit}
 
 abbrev pub replayed : Result Ended Refusal → Outcome
 replayed (Ok ended) = Written (report ended)
 replayed (Err refusal) = BadLine refusal.line refusal.reason
+
+abbrev pub audited : Finding → Outcome
+audited (finding.BadLine line reason) = BadLine line reason
+audited finding.Serial = Written (codes "serial" ++ 10 ∷ [])
+audited (finding.Stray line) = Stray line
 
 abbrev pub output_of : Command → List ℕ → Outcome
 output_of Replay bytes = replayed (ended_of bytes)
@@ -19,6 +27,7 @@ output_of (Keys material) bytes = keys_made material
 output_of (Sign material leaf) bytes = unless_too_long bytes (signed material leaf bytes)
 output_of (Verify public signature) bytes = unless_too_long bytes (verified public signature bytes)
 output_of Check bytes = unless_too_long bytes (checked bytes)
+output_of Audit bytes = unless_too_long bytes (audited (finding_of bytes))
 
 abbrev pub outcome_with : Option Command → List ℕ → Outcome
 outcome_with None bytes = Usage

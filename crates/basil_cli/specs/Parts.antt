@@ -7,7 +7,7 @@ use Rattle.cluster_world.specs.World.{WorldValue, IsSmall}
 use Rattle.frame_views.specs.Shown.{writeback_of}
 use Rattle.frame_views.specs.Values.{WritebackValue}
 use Rattle.frame_views.specs.declared.frames.views.WritebackView.{WritebackView}
-use Rattle.basil_cli.specs.Outcome.{Outcome, BadLine, Written, Refused, TooLong, longest_input}
+use Rattle.basil_cli.specs.Outcome.{Outcome, BadLine, Written, Refused, Stray, TooLong, longest_input}
 use Rattle.basil_cli.specs.Replay.{ReplayState, Refusal, First, Skips, Opens, Fails, called}
 use Rattle.basil_cli.specs.declared.header.Opening.{Opening}
 use Rattle.basil_cli.specs.declared.header.Opening.TheVariants as opening
@@ -57,6 +57,7 @@ abbrev pub outcome_is : Ending → Outcome
 outcome_is (ending.BadLine line reason) = BadLine line reason
 outcome_is (ending.Written text) = Written text
 outcome_is (ending.Refused reason) = Refused reason
+outcome_is (ending.Stray line) = Stray line
 outcome_is ending.TooLong = TooLong
 
 -- a header that opens a replay has one shard of one replica
@@ -69,6 +70,11 @@ IsSmallOpening (opening.Fails reason) = ⊤
 abbrev pub IsWhole : Whole → List ℕ → Type 0
 IsWhole (whole.Bytes all) bytes = (all ≡ bytes) × (length bytes ≤ longest_input)
 IsWhole whole.TooLong bytes = longest_input < length bytes
+
+-- an input that was read whole isn't longer than that
+abbrev pub IsShort : Whole → Type 0
+IsShort (whole.Bytes all) = length all ≤ longest_input
+IsShort whole.TooLong = ⊤
 
 -- a writeback that was read, or the reason why the line is refused
 abbrev pub Framed : Result WritebackView ℕ → Result WritebackValue ℕ → Type 0

@@ -4,7 +4,7 @@ use Rattle.std.specs.Prelude.{Option, Some, None, is_none, ⊤, if◌then◌else
 use Rattle.schedule_text.specs.Limits.{longest_line, most_lines}
 use Rattle.basil_cli.specs.Outcome.{is_too_long}
 use Rattle.basil_cli.specs.declared.command.Command.{Command}
-use Rattle.basil_cli.specs.declared.command.Command.TheVariants.{Replay, Keys, Sign, Verify, Check}
+use Rattle.basil_cli.specs.declared.command.Command.TheVariants.{Replay, Keys, Sign, Verify, Check, Audit}
 use Rattle.basil_cli.specs.declared.place.Place.{Place}
 
 -- no byte is read yet
@@ -35,6 +35,7 @@ is_enough (Keys m) = is_too_long
 is_enough (Sign m leaf) = is_too_long
 is_enough (Verify public signature) = is_too_long
 is_enough Check = is_too_long
+is_enough Audit = is_too_long
 
 -- of the bytes these were read: all, or enough of them
 pub record IsRead (enough : List ℕ → Bool) (bytes read : List ℕ) (left : Option (List ℕ)) : Type 0 where

@@ -6,7 +6,7 @@ use Rattle.cluster_world.specs.Run.{EventValue, Begins, Writes, Prepares, Delive
 use Rattle.cluster_world.specs.Shown.{waiting}
 use Rattle.cluster_world.specs.State.{State, start}
 use Rattle.cluster_world.specs.declared.event.CallFault.{CallFault}
-use Rattle.basil_cli.specs.Lines.{lines_of}
+use Rattle.schedule_text.specs.TextLines.{lines_of}
 use Rattle.schedule_text.specs.Limits.{longest_line}
 use Rattle.schedule_text.specs.Reading.{line_at, is_header, is_skipped}
 use Rattle.schedule_text.specs.declared.line.KeysKind.{KeysKind}

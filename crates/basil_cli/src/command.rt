@@ -4,7 +4,7 @@ ghost use Rattle.std.specs.Prelude.{◌≡◌, ◌<◌, ◌≤◌, IfOk, IfSome,
 ghost use Rattle.schedule_text.specs.Fields.{hex};
 ghost use Rattle.lms_sign.specs.Sets.{leaves_of};
 ghost use Rattle.basil_cli.specs.Commands as commands;
-ghost use Rattle.basil_cli.specs.Commands.{said, hex_of, material_of, leaf_of, command_of, replay_of, keys_of, sign_of, verify_of, check_of, HasLeaf};
+ghost use Rattle.basil_cli.specs.Commands.{said, hex_of, material_of, leaf_of, command_of, replay_of, keys_of, sign_of, verify_of, check_of, audit_of, HasLeaf};
 
 use basil_types::bytes::Bytes;
 use basil_types::memory::NoMemory;
@@ -34,6 +34,8 @@ pub(crate) enum Command {
     Verify { public: Bytes, signature: Bytes },
     /// Whether the certificate of a writeback proves its decision.
     Check,
+    /// Whether each read of listed transactions is what the serial order gives it.
+    Audit,
 }
 
 /// The parameter set that a word names.
@@ -187,6 +189,16 @@ fn read_check(words: &[String]) -> Option<Command>
     }
 }
 
+/// `audit`
+fn read_audit(words: &[String]) -> Option<Command>
+    ensures { result ≡ audit_of (map string_bytes words.now) }
+{
+    match words {
+        [] => Some(Command::Audit),
+        _ => None,
+    }
+}
+
 /// The command that the words spell; none where they are no command.
 pub(crate) fn read_command(alloc: Global, words: &[String]) -> Result<Option<Command>, NoMemory>
     ensures value { IfOk result (λ command. command ≡ command_of (map string_bytes words.now)) }
@@ -201,6 +213,7 @@ pub(crate) fn read_command(alloc: Global, words: &[String]) -> Result<Option<Com
         "sign" => read_sign(alloc, words),
         "verify" => read_verify(alloc, words),
         "check" => Ok(read_check(words)),
+        "audit" => Ok(read_audit(words)),
         _ => Ok(None),
     }
 }

@@ -1,7 +1,7 @@
 //! What a command leads to, and what the bytes of a schedule do.
 
 ghost use Rattle.std.specs.Prelude.{◌≡◌, ◌+◌, ◌^◌, ◌<◌, length, IfOk};
-ghost use Rattle.basil_cli.specs.Lines.{lines_of};
+ghost use Rattle.schedule_text.specs.TextLines.{lines_of};
 ghost use Rattle.basil_cli.specs.Output.{replayed};
 ghost use Rattle.basil_cli.specs.Answers.{IsSafeEnd};
 ghost use Rattle.basil_cli.specs.Parts.{outcome_is};
@@ -9,13 +9,13 @@ ghost use Rattle.basil_cli.specs.Replay.{ended_of, ended_lines, ended_with, run_
 ghost use Rattle.cluster_world.specs.World.{IsSmall};
 
 use crate::header::{Opening, read_opening};
-use crate::input::next_line;
 use crate::replay::{Failure, run_bytes};
 use crate::report::report;
 use basil_types::bytes::Bytes;
 use basil_types::cluster::Cluster;
 use basil_types::memory::NoMemory;
 use cluster_world::world::World;
+use schedule_text::lines::next_line;
 use std::alloc::Global;
 
 /// What a command leads to.
@@ -27,6 +27,8 @@ pub(crate) enum Ending {
     Written(Bytes),
     /// What the command tests is false of its input.
     Refused { reason: u8 },
+    /// The same, told in this line.
+    Stray(Bytes),
     /// The input has more bytes than are read whole.
     TooLong,
 }

@@ -1,10 +1,9 @@
-//! The bytes of the source, and their lines.
+//! The bytes of the source.
 
-ghost use Rattle.std.specs.Prelude.{◌≡◌, ◌≤◌, ◌<◌, ◌∷◌, [], IfOk, IfSome, MatchOption, IsErrOf, length, position, ◌==◌};
+ghost use Rattle.std.specs.Prelude.{◌≡◌, ◌<◌, IfOk, IfSome, IsErrOf};
 ghost use Rattle.basil_types.specs.Causes.{Rose};
-ghost use Rattle.basil_cli.specs.Lines.{lines_of};
 ghost use Rattle.basil_cli.specs.Outcome.{is_too_long};
-ghost use Rattle.basil_cli.specs.Parts.{IsWhole};
+ghost use Rattle.basil_cli.specs.Parts.{IsWhole, IsShort};
 ghost use Rattle.basil_cli.specs.Reading.{IsRead, IsReadThrough, StopsSoon, is_settled};
 ghost use Rattle.basil_cli.specs.Replay.{ended_of};
 
@@ -82,6 +81,7 @@ pub(crate) enum Whole {
 /// Reads a source to its end, unless it gives more than 16,777,216 bytes.
 pub(crate) fn read_whole<S: Source>(alloc: Global, source: &mut S) -> Result<Whole, InputFail>
     ensures bytes { IfOk result (λ whole. IfSome (S.left source.old) (λ bytes. IsWhole whole bytes)) }
+    ensures short { IfOk result IsShort }
     ensures through { IfOk result (λ _. IfSome (S.left source.old) (λ bytes.
         IsReadThrough is_too_long bytes (S.left source.new))) }
     ensures soon { IfSome (S.left source.old) (λ bytes. StopsSoon is_too_long bytes (S.left source.new)) }
@@ -105,39 +105,4 @@ pub(crate) fn read_whole<S: Source>(alloc: Global, source: &mut S) -> Result<Who
         }
     }
     Err(InputFail::NoMemory)
-}
-
-/// Where the first line ends.
-fn newline(bytes: &[u8]) -> Option<usize>
-    ensures first { result ≡ position (λ b. b == 10) bytes.now }
-    ensures within { IfSome result (λ at. at < length bytes.now) }
-{
-    bytes.iter().position(|b| *b == b'\n')
-}
-
-/// The first line, and what follows its newline.
-pub(crate) fn next_line(bytes: &[u8]) -> (&[u8], &[u8])
-    requires { 0 < length bytes.now }
-    ensures lines { lines_of bytes.now ≡ result.0.now ∷ lines_of result.1.now }
-    ensures shorter { length result.1.now < length bytes.now }
-{
-    match newline(bytes) {
-        Some(at) => {
-            let (line, _) = bytes.split_at(at);
-            let (_, rest) = bytes.split_at(at + 1);
-            (line, rest)
-        }
-        None => (bytes, &[]),
-    }
-}
-
-/// The first line, and what follows its newline, where there is a line.
-pub(crate) fn first_line(bytes: &[u8]) -> Option<(&[u8], &[u8])>
-    ensures { MatchOption result (lines_of bytes.now ≡ []) (λ t. lines_of bytes.now ≡ t.0.now ∷ lines_of t.1.now) }
-{
-    if bytes.is_empty() {
-        None
-    } else {
-        Some(next_line(bytes))
-    }
 }

@@ -1,6 +1,7 @@
 //! The program without its edge: words in, bytes out.
 #![tactic(auto)]
 
+mod audit;
 mod check;
 mod command;
 mod ending;

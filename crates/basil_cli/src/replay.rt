@@ -4,18 +4,18 @@ ghost use Rattle.std.specs.Prelude.{◌≡◌, ◌+◌, ◌^◌, ◌≤◌, ◌<
 ghost use Rattle.cluster_world.specs.Run.{Delivers, happens, kept};
 ghost use Rattle.cluster_world.specs.Shown.{event_value, MayCome};
 ghost use Rattle.schedule_text.specs.Fitting.{Fits};
-ghost use Rattle.basil_cli.specs.Lines.{lines_of};
+ghost use Rattle.schedule_text.specs.TextLines.{lines_of};
 ghost use Rattle.basil_cli.specs.Parts.{replay_of, Did, Called, Rounded, Ran};
 ghost use Rattle.basil_cli.specs.Replay;
 ghost use Rattle.basil_cli.specs.Replay.{line_step, step, run_lines, round_of, place_of};
 
-use crate::input::next_line;
 use basil_types::bytes::Bytes;
 use basil_types::memory::NoMemory;
 use cluster_world::event::{Event, Waiting, WorldFault};
 use cluster_world::world::World;
 use schedule_text::laws::grammar_is_read;
 use schedule_text::line::{Line, LineFault};
+use schedule_text::lines::next_line;
 use schedule_text::reading::{LONGEST_LINE, is_header, read_line};
 use std::alloc::{AllocError, AllocFailed, Global};
 

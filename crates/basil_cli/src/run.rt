@@ -12,6 +12,7 @@ ghost use Rattle.basil_cli.specs.Parts.{outcome_is};
 ghost use Rattle.basil_cli.specs.Reading.{IsReadFor, IsReadThrough, StopsSoon, StopsSoonFor, is_enough, is_settled};
 ghost use Rattle.basil_cli.specs.Replay.{ended_of};
 
+use crate::audit::audit;
 use crate::check::check;
 use crate::command::{Command, read_command};
 use crate::ending::{Ending, ending_of};
@@ -48,6 +49,7 @@ fn text_of_ending(alloc: Global, ending: &Ending) -> Result<Vec<u8>, NoMemory>
     match ending {
         Ending::BadLine { line, reason } => bad_line_text(alloc, *line, *reason),
         Ending::Written(text) => Ok(Vec::from_slice(alloc, text.as_slice())?),
+        Ending::Stray(line) => Ok(Vec::from_slice(alloc, line.as_slice())?),
         Ending::Refused { reason } => refused_text(alloc, *reason),
         Ending::TooLong => Ok(Vec::from_slice(alloc, b"too long 16777216\n")?),
     }
@@ -64,6 +66,7 @@ fn status_of_ending(ending: &Ending) -> Status
         },
         Ending::Written(_) => Status::Done,
         Ending::Refused { reason } => Status::Refused { reason: *reason },
+        Ending::Stray(_) => Status::Refused { reason: 0 },
         Ending::TooLong => Status::TooLong,
     }
 }
@@ -159,6 +162,10 @@ fn ending_for<S: Source>(
             Whole::Bytes(bytes) => Ok(check(alloc, bytes.as_slice())?),
             Whole::TooLong => Ok(Ending::TooLong),
         },
+        Command::Audit => match read_whole(alloc, source)? {
+            Whole::Bytes(bytes) => Ok(audit(alloc, bytes.as_slice())?),
+            Whole::TooLong => Ok(Ending::TooLong),
+        },
     }
 }
 
@@ -215,6 +222,8 @@ fn run_command<S: Source, K: Sink>(
 /// - `verify PUBLIC SIGNATURE` reads a message and writes `accepted` where the signature is valid, else `refused R`.
 /// - `check` reads a header and a writeback's frame in hex and writes `commit` or `abort` where the certificate proves it, else
 ///   `refused R`.
+/// - `audit` reads transactions with their reads and writes and writes `serial` where each read is of the version that the
+///   serial order gives it, else the first that isn't, as `stray NAME KEY FOUND EXPECTED`.
 pub fn run<S: Source, K: Sink, L: Links, C: Clock>(
     alloc: Global,
     words: &[String],

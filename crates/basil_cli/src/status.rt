@@ -16,7 +16,8 @@ pub enum Status {
     ReadFault,
     /// 5: the sink failed; a prefix of a text was written.
     WriteFault,
-    /// 8: what the command tests is false of its input, and why; `refused R` was written.
+    /// 8: what the command tests is false of its input, and why; `refused R` was written, or for `audit`, with the reason
+    /// 0, a line `stray`.
     Refused { reason: u8 },
     /// 9: memory is wanting; nothing was written.
     NoMemory,

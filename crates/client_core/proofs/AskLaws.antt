@@ -1,5 +1,5 @@
 -- The plan of a call or of the answer to a frame is the plan of what was asked.
-use Rattle.std.proofs.Common.{◌≡◌, ap}
+use Rattle.std.proofs.Common.{ap}
 use Rattle.std.specs.Prelude.{IfOk, Result, Ok, Err}
 use Rattle.certificates.specs.declared.fault.FrameFault.{FrameFault}
 use Rattle.keyring.specs.Signing.{Signing}

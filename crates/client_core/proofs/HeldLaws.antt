@@ -1,6 +1,7 @@
 -- Changes of one slot.
-use Rattle.std.proofs.Common.{◌≡◌, ◌∙◌, ℕ, zero, suc, ◌<◌, List, [], ◌∷◌, ◌++◌, length, map, refl, sym, ap, subst, arith}
+use Rattle.std.proofs.Common.{◌≡◌, ◌∙◌, ℕ, zero, suc, ◌<◌, ◌≤◌, List, [], ◌∷◌, ◌++◌, length, length-append, map, refl, sym, ap, subst, arith}
 use Rattle.std.specs.Prelude.{Option, Some, None, option_map, slice_get, slice_set, slice_index_or}
+use Rattle.std.proofs.lemmas.List.{length-set}
 use Rattle.std.proofs.lemmas.Option.{same_Some}
 use Rattle.basil_types.specs.declared.transaction.parts.WritePart.{WritePart}
 use Rattle.basil_types.specs.Setting.{Setting}
@@ -18,7 +19,7 @@ use Rattle.client_core.specs.Clients.{AskedRead, SlotValue, ClientSelf, ClientVa
 use Rattle.client_core.specs.Kept.{KeptRead, kept_read, shown_read}
 use Rattle.client_core.specs.Clusters.{AreOf, IsOf}
 use Rattle.client_core.specs.Showing.{KeepsReads, SameHeld, ShowsFormed, ShowsSlot, ShowsSlots, ShowsHeld, slot_value}
-use Rattle.client_core.specs.Slots.{put_read, with_pursuit}
+use Rattle.client_core.specs.Slots.{most_slots, put_read, with_pursuit}
 use Rattle.client_core.specs.Forming.{started}
 use Rattle.client_core.specs.Works.{Changes, starts, with_new}
 use Rattle.client_recover.specs.Taken.{PursuitValue}
@@ -132,6 +133,16 @@ none_of c o none f e = let z : None ≡ Some f = sym none ∙ e in absurd cc
 
 pub some_of : (c : Setting) (f : Formed) → f.pursuit.cluster ≡ c → IsOf c (Some f)
 some_of c f is g e = subst (λ (x : Formed). x.pursuit.cluster ≡ c) (same_Some f g e) is
+
+-- ---- how many
+
+pub most_set : (slots : List Slot) (i : ℕ) (slot : Slot) → length slots ≤ most_slots → length (slice_set slots i slot) ≤ most_slots
+most_set slots i slot h = subst (λ n. n ≤ most_slots) (sym (length-set slots i slot)) h
+
+pub most_pushed : (slots new : List Slot) (slot : Slot) → length slots < most_slots → new ≡ slots ++ slot ∷ [] → length new ≤ most_slots
+most_pushed slots new slot h is =
+    let count = ap length is ∙ length-append slots (slot ∷ []) in
+    omega (arith, count, h)
 
 -- ---- all slots
 

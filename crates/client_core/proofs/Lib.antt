@@ -17,3 +17,4 @@ mod FoundLaws
 mod ReplyingLaws
 mod TakingLaws
 mod AskLaws
+mod ShownLaws

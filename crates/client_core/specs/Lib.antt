@@ -23,3 +23,4 @@ pub mod Asks
 pub mod Replying
 pub mod Taking
 pub mod Receiving
+pub mod Laws

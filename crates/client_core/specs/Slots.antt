@@ -115,6 +115,10 @@ outcome_in c s = option_and_then (outcome c) s.pursuit
 
 -- ---- slots
 
+-- the most that a client holds
+abbrev pub most_slots : ℕ
+most_slots = 4294967295
+
 abbrev pub is_named : List ℕ → SlotValue → Bool
 is_named named s = option_map_or (λ (p : PursuitValue). bytes_eq named (id p.transaction)) s.pursuit false
 

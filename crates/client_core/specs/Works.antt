@@ -26,7 +26,7 @@ use Rattle.client_core.specs.Clusters.{IsOf}
 use Rattle.client_core.specs.Kept.{kept_read, shown_read}
 use Rattle.client_core.specs.Replying.{Replies, HasReplyRoomAt}
 use Rattle.client_core.specs.Showing.{ShowsHeld, ShowsSlot}
-use Rattle.client_core.specs.Slots.{put_read, put_write, with_slot, with_pursuit}
+use Rattle.client_core.specs.Slots.{most_slots, put_read, put_write, with_slot, with_pursuit}
 use Rattle.client_core.specs.Taking.{TakesIn}
 use Rattle.client_recover.specs.Taken.{PursuitValue}
 
@@ -142,7 +142,7 @@ abbrev pub HasReadRoom : Slot → Type 0
 HasReadRoom s = vec_len s.reads < vec_capacity s.reads
 
 abbrev pub HasSlotRoom : Held → Type 0
-HasSlotRoom held = vec_len held.slots < vec_capacity held.slots
+HasSlotRoom held = (vec_len held.slots < vec_capacity held.slots) × (length held.slots.items < most_slots)
 
 abbrev pub CanWork : (size left : ℕ) → Held → Outbox → Work → Type 0
 CanWork size left held out Nothing = ⊤

@@ -5,13 +5,13 @@ ghost use Rattle.basil_types.specs.declared.party.Party.TheVariants as parties;
 ghost use Rattle.client_core.specs.Answers.{on_frame};
 ghost use Rattle.client_core.specs.Calls.{call_begin, call_prepare, call_read, call_write};
 ghost use Rattle.client_core.specs.Clients.{ClientDone, ClientValue, SlotValue, empty_client};
-ghost use Rattle.client_core.specs.Done.{Calls, SameOutbox, Sends, Shows};
+ghost use Rattle.client_core.specs.Done.{Calls, CanCommit, IsShown, KeepsSlots, SameOutbox, Sends, Shows};
 ghost use Rattle.client_core.specs.Forming.{shown_signed};
 ghost use Rattle.client_core.specs.Keeping.{told_state};
 ghost use Rattle.client_core.specs.Receiving.{AnswersFrame};
 ghost use Rattle.client_core.specs.Seats.{self_at};
 ghost use Rattle.client_core.specs.Slots as slots;
-ghost use Rattle.client_core.specs.Works.{CanPerform, WillDo};
+ghost use Rattle.client_core.specs.Works.{WillDo};
 ghost use Rattle.node_steps.specs.Pens.{pen_value};
 
 use crate::append::append;
@@ -33,7 +33,8 @@ use keyring::verifier::Verifier;
 use node_steps::pending::make_room;
 use std::alloc::Global;
 
-/// A client with the keyring by which it tests signatures and the pen by which it signs.
+/// A client with the keyring by which it tests signatures and the pen by which it signs. Some value is always shown: what it
+/// holds, with the replies and the frames that it took.
 #[derive(Drop)]
 pub struct Client<V: Verifier, S: Signer> {
     pub(crate) seat: Seat,
@@ -41,6 +42,7 @@ pub struct Client<V: Verifier, S: Signer> {
     pub(crate) pen: S,
     pub(crate) held: Held,
     ghost same: { held.cluster ≡ seat.cluster },
+    ghost shown: { ∥ IsShown held (pen_value (S.spent pen) (S.left_of pen)) ∥₁ },
 }
 
 impl<V: Verifier, S: Signer> Client<V, S> {
@@ -79,6 +81,11 @@ impl<V: Verifier, S: Signer> Client<V, S> {
         ensures as_before { (v : ClientValue) →
             Shows self.old.held (pen_value (S.spent self.old.pen) (S.left_of self.old.pen)) v →
             OnErr result (Shows self.new.held (pen_value (S.spent self.new.pen) (S.left_of self.new.pen)) v) }
+        ensures keys { self.new.keys ≡ self.old.keys }
+        ensures pen { self.new.pen ≡ self.old.pen }
+        ensures seat { self.new.seat ≡ self.old.seat }
+        ensures held { IfOk result (λ slot. slot < length self.new.held.slots.items) }
+        ensures slots { KeepsSlots self.old.held self.new.held }
     {
         match self.held.begin(self.seat.alloc, time) {
             Ok(slot) => Ok(slot),
@@ -88,7 +95,8 @@ impl<V: Verifier, S: Signer> Client<V, S> {
 
     /// Does what was planned, with what it sends appended to an outbox; or memory is wanting, and the plan is let go.
     pub(crate) fn finish(&mut self, plan: ClientPlan, out: &mut Outbox) -> Result<(), NoMemory>
-        requires { CanPerform (S.fixed self.old.pen).size (S.left_of self.old.pen) self.old.held plan }
+        requires { CanCommit (S.fixed self.old.pen) (pen_value (S.spent self.old.pen) (S.left_of self.old.pen))
+            self.old.held plan }
         ensures done { (v : ClientValue) (d : ClientDone) →
             Shows self.old.held (pen_value (S.spent self.old.pen) (S.left_of self.old.pen)) v →
             WillDo (S.fixed self.old.pen) self.old.held v plan d → OnOk result (
@@ -97,6 +105,10 @@ impl<V: Verifier, S: Signer> Client<V, S> {
         ensures as_before { OnErr result (self.new.held ≡ self.old.held) }
         ensures same_pen { OnErr result (self.new.pen ≡ self.old.pen) }
         ensures same_outbox { OnErr result (SameOutbox out.old out.new) }
+        ensures keys { self.new.keys ≡ self.old.keys }
+        ensures seat { self.new.seat ≡ self.old.seat }
+        ensures fixed { S.fixed self.new.pen ≡ S.fixed self.old.pen }
+        ensures slots { KeepsSlots self.old.held self.new.held }
     {
         make_room(out, plan.messages as usize, plan.work.words())?;
         let more = self.commit(plan);
@@ -117,6 +129,10 @@ impl<V: Verifier, S: Signer> Client<V, S> {
             Shows self.old.held (pen_value (S.spent self.old.pen) (S.left_of self.old.pen)) v →
             OnErr result (Shows self.new.held (pen_value (S.spent self.new.pen) (S.left_of self.new.pen)) v) }
         ensures same_outbox { OnErr result (SameOutbox out.old out.new) }
+        ensures keys { self.new.keys ≡ self.old.keys }
+        ensures seat { self.new.seat ≡ self.old.seat }
+        ensures fixed { S.fixed self.new.pen ≡ S.fixed self.old.pen }
+        ensures slots { KeepsSlots self.old.held self.new.held }
     {
         match plan_read(&mut self.held, &self.seat, slot as usize, key) {
             Ok(plan) => match self.finish(plan, out) {
@@ -139,6 +155,10 @@ impl<V: Verifier, S: Signer> Client<V, S> {
             Shows self.old.held (pen_value (S.spent self.old.pen) (S.left_of self.old.pen)) v →
             OnErr result (Shows self.new.held (pen_value (S.spent self.new.pen) (S.left_of self.new.pen)) v) }
         ensures same_outbox { OnErr result (SameOutbox out.old out.new) }
+        ensures keys { self.new.keys ≡ self.old.keys }
+        ensures seat { self.new.seat ≡ self.old.seat }
+        ensures fixed { S.fixed self.new.pen ≡ S.fixed self.old.pen }
+        ensures slots { KeepsSlots self.old.held self.new.held }
     {
         match plan_prepare(&self.held, &self.seat, &self.pen, slot as usize) {
             Ok(plan) => match self.finish(plan, out) {
@@ -160,6 +180,10 @@ impl<V: Verifier, S: Signer> Client<V, S> {
             Shows self.old.held (pen_value (S.spent self.old.pen) (S.left_of self.old.pen)) v →
             OnErr result (Shows self.new.held (pen_value (S.spent self.new.pen) (S.left_of self.new.pen)) v) }
         ensures same_outbox { OnErr result (SameOutbox out.old out.new) }
+        ensures keys { self.new.keys ≡ self.old.keys }
+        ensures seat { self.new.seat ≡ self.old.seat }
+        ensures fixed { S.fixed self.new.pen ≡ S.fixed self.old.pen }
+        ensures slots { KeepsSlots self.old.held self.new.held }
     {
         match plan_frame(&mut self.held, &self.seat, &self.keys, frame) {
             Ok(plan) => match self.finish(plan, out) {
@@ -180,6 +204,10 @@ impl<V: Verifier, S: Signer> Client<V, S> {
         ensures as_before { (v : ClientValue) →
             Shows self.old.held (pen_value (S.spent self.old.pen) (S.left_of self.old.pen)) v →
             OnErr result (Shows self.new.held (pen_value (S.spent self.new.pen) (S.left_of self.new.pen)) v) }
+        ensures keys { self.new.keys ≡ self.old.keys }
+        ensures pen { self.new.pen ≡ self.old.pen }
+        ensures seat { self.new.seat ≡ self.old.seat }
+        ensures slots { KeepsSlots self.old.held self.new.held }
     {
         match self
             .held
@@ -200,6 +228,10 @@ impl<V: Verifier, S: Signer> Client<V, S> {
         ensures as_before { (v : ClientValue) →
             Shows self.old.held (pen_value (S.spent self.old.pen) (S.left_of self.old.pen)) v →
             OnErr result (Shows self.new.held (pen_value (S.spent self.new.pen) (S.left_of self.new.pen)) v) }
+        ensures keys { self.new.keys ≡ self.old.keys }
+        ensures pen { self.new.pen ≡ self.old.pen }
+        ensures seat { self.new.seat ≡ self.old.seat }
+        ensures slots { KeepsSlots self.old.held self.new.held }
     {
         match self
             .held

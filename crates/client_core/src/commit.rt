@@ -52,3 +52,17 @@ pub(crate) fn perform<S: Signer>(
         Work::Take { slot, starts } => held.take(slot, starts),
     }
 }
+
+/// Lets go what a planned work holds back. Takes no memory.
+pub(crate) fn let_go(held: &mut Held, work: Work)
+    ensures shown { (v : ClientValue) → ShowsHeld held.old v → ShowsHeld held.new v }
+    ensures cluster { held.new.cluster ≡ held.old.cluster }
+{
+    let Work::Take { slot, .. } = work else {
+        return;
+    };
+    if slot >= held.slots.len() {
+        return;
+    }
+    held.let_go(slot);
+}

@@ -1,9 +1,10 @@
 //! The transactions that a client holds.
 
-ghost use Rattle.std.specs.Prelude.{◌≡◌, Option, option_map};
+ghost use Rattle.std.specs.Prelude.{◌≡◌, ◌≤◌, Option, length, option_map};
 ghost use Rattle.client_core.specs.Clusters.{AreOf};
 ghost use Rattle.client_core.specs.Keeping.{told_state};
 ghost use Rattle.client_core.specs.Slots as slots;
+ghost use Rattle.client_core.specs.Slots.{most_slots};
 
 use crate::asking::Asking;
 use crate::fault::CallFault;
@@ -43,6 +44,7 @@ pub struct Held {
     pub last: u64,
     pub slots: Vec<Slot>,
     ghost clusters: { AreOf cluster slots.items },
+    ghost most: { length slots.items ≤ most_slots },
 }
 
 /// The most slots that a client holds.
@@ -157,7 +159,7 @@ fn own(write: Option<&WritePart>) -> ReadState<'_>
 }
 
 impl Held {
-    ghost use Rattle.std.specs.Prelude.{◌≤◌, IfOk, OnErr, OnOk, length};
+    ghost use Rattle.std.specs.Prelude.{IfOk, OnErr, OnOk};
     ghost use Rattle.client_core.specs.Calls.{begin_done, call_begin};
     ghost use Rattle.client_core.specs.Clients.{ClientValue, empty_client};
     ghost use Rattle.client_core.specs.Showing.{Answers, SameHeld, ShowsHeld};
@@ -212,7 +214,7 @@ impl Held {
 
 impl Held {
     ghost use Rattle.std.specs.Option.{ForSome};
-    ghost use Rattle.std.specs.Prelude.{◌<◌, OnErr, OnOk, [], length, slice_get};
+    ghost use Rattle.std.specs.Prelude.{◌<◌, OnErr, OnOk, [], slice_get};
     ghost use Rattle.certificates.specs.Deciding.{HasGoodForm};
     ghost use Rattle.client_core.specs.Calls as calls;
     ghost use Rattle.client_core.specs.Clients.{ClientValue};
@@ -262,6 +264,7 @@ impl Held {
         ensures answer { (v : ClientValue) → ShowsHeld self.old v → Written self.new v
             (calls.call_write v slot (record { key = key.now; value = value.now; deletes = deletes })) result }
         ensures as_before { (v : ClientValue) → ShowsHeld self.old v → OnErr result (ShowsHeld self.new v) }
+        ensures count { length self.new.slots.items ≡ length self.old.slots.items }
         ensures cluster { self.new.cluster ≡ self.old.cluster }
     {
         let place = &self.slots[slot];
@@ -286,6 +289,7 @@ impl Held {
         ensures kept { (v after : ClientValue) → ShowsHeld self.old v →
             Changes v slot (writes write) after → OnOk result (ShowsHeld self.new after) }
         ensures as_before { (v : ClientValue) → ShowsHeld self.old v → OnErr result (ShowsHeld self.new v) }
+        ensures count { length self.new.slots.items ≡ length self.old.slots.items }
         ensures cluster { self.new.cluster ≡ self.old.cluster }
     {
         let slot = &mut self.slots[slot];

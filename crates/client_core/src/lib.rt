@@ -13,6 +13,7 @@ mod finding;
 mod formed;
 mod held;
 mod invoking;
+pub mod laws;
 mod ordered;
 mod planned;
 mod preparing;

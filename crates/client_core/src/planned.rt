@@ -3,15 +3,15 @@
 ghost use Rattle.std.specs.Prelude.{◌≡◌, IfOk, length};
 ghost use Rattle.client_core.specs.Asks.{CanBeAsked, IsPlannedAsk, answer_to, by_call, by_frame, slot_of};
 ghost use Rattle.client_core.specs.Clients.{ClientDone, ClientValue};
-ghost use Rattle.client_core.specs.Done.{IsSent, Shows};
+ghost use Rattle.client_core.specs.Done.{CanCommit, IsSent, KeepsSlots, Shows};
 ghost use Rattle.client_core.specs.Seats.{self_at};
-ghost use Rattle.client_core.specs.Works.{CanPerform, WillDo, word_count};
+ghost use Rattle.client_core.specs.Works.{WillDo, word_count};
 ghost use Rattle.node_steps.specs.Pendings.{bytes_sent};
 ghost use Rattle.node_steps.specs.Pens.{pen_value};
 
 use crate::ask::{Ask, AskFault};
 use crate::client::Client;
-use crate::commit::perform;
+use crate::commit::{let_go, perform};
 use crate::fault::CallFault;
 use crate::invoking::plan_invoke;
 use crate::preparing::plan_prepare;
@@ -46,23 +46,26 @@ fn frame_planned(planned: Result<ClientPlan, FrameFault>) -> Result<ClientPlan, 
 }
 
 impl<V: Verifier, S: Signer> Client<V, S> {
-    /// Plans what is asked, or refuses what the call or the frame refuses. It takes all the memory for it, and leaves what the client
-    /// shows. The plan is for `commit` or `give_up`, with no other call of this client between.
+    /// Plans what is asked, or refuses what the call or the frame refuses. It takes all the memory for it, and leaves what
+    /// the client shows. The plan is for `commit` or `give_up`, with no other call of this client between.
     pub fn plan(&mut self, ask: Ask<'_>) -> Result<ClientPlan, AskFault>
         requires { CanBeAsked self.old.held ask }
         ensures answer { (v : ClientValue) →
             Shows self.old.held (pen_value (S.spent self.old.pen) (S.left_of self.old.pen)) v →
             IsPlannedAsk (S.fixed self.old.pen) self.new.held v result
             (answer_to (self_at self.old.seat (V.accepted self.old.keys) (S.fixed self.old.pen)) v ask.entry) }
-        ensures ready { IfOk result
-            (CanPerform (S.fixed self.old.pen).size (S.left_of self.old.pen) self.new.held) }
+        ensures ready { IfOk result (CanCommit (S.fixed self.new.pen)
+            (pen_value (S.spent self.new.pen) (S.left_of self.new.pen)) self.new.held) }
         ensures slot { (v : ClientValue) →
             Shows self.old.held (pen_value (S.spent self.old.pen) (S.left_of self.old.pen)) v →
             IfOk result (λ plan. plan.slot ≡ slot_of v ask.entry) }
         ensures shown { (v : ClientValue) →
             Shows self.old.held (pen_value (S.spent self.old.pen) (S.left_of self.old.pen)) v →
             Shows self.new.held (pen_value (S.spent self.new.pen) (S.left_of self.new.pen)) v }
+        ensures keys { self.new.keys ≡ self.old.keys }
         ensures pen { self.new.pen ≡ self.old.pen }
+        ensures seat { self.new.seat ≡ self.old.seat }
+        ensures slots { KeepsSlots self.old.held self.new.held }
     {
         let held = &mut self.held;
         match ask {
@@ -83,7 +86,8 @@ impl<V: Verifier, S: Signer> Client<V, S> {
 
     /// Does what was planned, and answers what it sends. Takes no memory.
     pub fn commit(&mut self, plan: ClientPlan) -> Outbox
-        requires { CanPerform (S.fixed self.old.pen).size (S.left_of self.old.pen) self.old.held plan }
+        requires { CanCommit (S.fixed self.old.pen) (pen_value (S.spent self.old.pen) (S.left_of self.old.pen))
+            self.old.held plan }
         ensures done { (v : ClientValue) (d : ClientDone) →
             Shows self.old.held (pen_value (S.spent self.old.pen) (S.left_of self.old.pen)) v →
             WillDo (S.fixed self.old.pen) self.old.held v plan d →
@@ -92,6 +96,10 @@ impl<V: Verifier, S: Signer> Client<V, S> {
         ensures messages { length result.messages.items ≡ plan.messages }
         ensures bytes { bytes_sent result.messages.items ≡ plan.bytes }
         ensures words { length result.signed.items ≡ word_count plan.work }
+        ensures keys { self.new.keys ≡ self.old.keys }
+        ensures seat { self.new.seat ≡ self.old.seat }
+        ensures fixed { S.fixed self.new.pen ≡ S.fixed self.old.pen }
+        ensures slots { KeepsSlots self.old.held self.new.held }
     {
         let ClientPlan { work, out, .. } = plan;
         let mut out = out;
@@ -110,8 +118,11 @@ impl<V: Verifier, S: Signer> Client<V, S> {
         ensures shown { (v : ClientValue) →
             Shows self.old.held (pen_value (S.spent self.old.pen) (S.left_of self.old.pen)) v →
             Shows self.new.held (pen_value (S.spent self.new.pen) (S.left_of self.new.pen)) v }
+        ensures keys { self.new.keys ≡ self.old.keys }
         ensures pen { self.new.pen ≡ self.old.pen }
+        ensures seat { self.new.seat ≡ self.old.seat }
+        ensures slots { KeepsSlots self.old.held self.new.held }
     {
-        drop(plan);
+        let_go(&mut self.held, plan.work);
     }
 }

@@ -3,9 +3,9 @@
 ghost use Rattle.std.specs.Prelude.{◌≡◌, ◌<◌, Some, OnErr, IfOk, length, option_map, slice_get};
 ghost use Rattle.client_core.specs.Calls.{call_invoke, call_recover, call_settle, recovered_at};
 ghost use Rattle.client_core.specs.Clients.{ClientValue, SlotValue};
-ghost use Rattle.client_core.specs.Done.{Calls, SameOutbox, Sends, Shows};
+ghost use Rattle.client_core.specs.Done.{Calls, KeepsSlots, SameOutbox, Sends, Shows};
 ghost use Rattle.client_core.specs.Seats.{self_at};
-ghost use Rattle.client_core.specs.Slots.{held_in, outcome_in};
+ghost use Rattle.client_core.specs.Slots.{held_in, outcome_in, slot_of_id};
 ghost use Rattle.client_recover.specs.Owned.{shown_outcome};
 ghost use Rattle.frame_views.specs.Fitting.{IsSignature};
 ghost use Rattle.node_steps.specs.Pens.{pen_value};
@@ -36,6 +36,10 @@ impl<V: Verifier, S: Signer> Client<V, S> {
             Shows self.old.held (pen_value (S.spent self.old.pen) (S.left_of self.old.pen)) v →
             OnErr result (Shows self.new.held (pen_value (S.spent self.new.pen) (S.left_of self.new.pen)) v) }
         ensures same_outbox { OnErr result (SameOutbox out.old out.new) }
+        ensures keys { self.new.keys ≡ self.old.keys }
+        ensures seat { self.new.seat ≡ self.old.seat }
+        ensures fixed { S.fixed self.new.pen ≡ S.fixed self.old.pen }
+        ensures slots { KeepsSlots self.old.held self.new.held }
     {
         match plan_settle(&mut self.held, &self.seat, slot as usize) {
             Ok(plan) => match self.finish(plan, out) {
@@ -59,6 +63,10 @@ impl<V: Verifier, S: Signer> Client<V, S> {
             Shows self.old.held (pen_value (S.spent self.old.pen) (S.left_of self.old.pen)) v →
             OnErr result (Shows self.new.held (pen_value (S.spent self.new.pen) (S.left_of self.new.pen)) v) }
         ensures same_outbox { OnErr result (SameOutbox out.old out.new) }
+        ensures keys { self.new.keys ≡ self.old.keys }
+        ensures seat { self.new.seat ≡ self.old.seat }
+        ensures fixed { S.fixed self.new.pen ≡ S.fixed self.old.pen }
+        ensures slots { KeepsSlots self.old.held self.new.held }
     {
         match plan_invoke(&mut self.held, &self.seat, slot as usize) {
             Ok(plan) => match self.finish(plan, out) {
@@ -91,6 +99,11 @@ impl<V: Verifier, S: Signer> Client<V, S> {
             Shows self.old.held (pen_value (S.spent self.old.pen) (S.left_of self.old.pen)) v →
             OnErr result (Shows self.new.held (pen_value (S.spent self.new.pen) (S.left_of self.new.pen)) v) }
         ensures same_outbox { OnErr result (SameOutbox out.old out.new) }
+        ensures keys { self.new.keys ≡ self.old.keys }
+        ensures seat { self.new.seat ≡ self.old.seat }
+        ensures fixed { S.fixed self.new.pen ≡ S.fixed self.old.pen }
+        ensures held { IfOk result (λ slot. slot < length self.new.held.slots.items) }
+        ensures slots { KeepsSlots self.old.held self.new.held }
     {
         match plan_recover(&mut self.held, &self.seat, t, signature) {
             Ok(plan) => match plan.slot {
@@ -101,6 +114,18 @@ impl<V: Verifier, S: Signer> Client<V, S> {
                 None => Err(CallFault::NoMemory),
             },
             Err(fault) => Err(fault),
+        }
+    }
+
+    /// The slot of the held formed transaction with this id. None where none is held.
+    pub fn slot_of(&self, id: &[u8; 32]) -> Option<u32>
+        ensures { (v : ClientValue) →
+            Shows self.now.held (pen_value (S.spent self.now.pen) (S.left_of self.now.pen)) v →
+            result ≡ slot_of_id v id.now }
+    {
+        match self.held.slot_of_id(id) {
+            Some(slot) => Some(slot as u32),
+            None => None,
         }
     }
 

@@ -22,10 +22,12 @@ use Rattle.client_recover.specs.Taken.{PursuitValue}
 use Rattle.client_recover.specs.Pursuits.{to_involved}
 use Rattle.client_core.specs.Slots.{put_write, slot_of_id}
 use Rattle.frame_views.specs.Values.{St1}
+use Rattle.message_pool.specs.declared.posted.Fate.{Fate}
+pub use Rattle.message_pool.specs.Posts.{lost}
 use Rattle.premise_watch.specs.declared.broken.Broken.{Broken}
 use Rattle.cluster_run.specs.declared.fault.WorldFault.{WorldFault}
 use Rattle.cluster_run.specs.declared.fault.WorldFault.TheVariants as fault
-use Rattle.cluster_run.specs.States.{Setup, is_faulty, Posted, Waiting, Delivered, Lost, BegunValue, FormedValue, Standing, put_standing, standing, client_at, posted_at, State, FateValue}
+use Rattle.cluster_run.specs.States.{Setup, is_faulty, Posted, Delivered, BegunValue, FormedValue, Standing, put_standing, standing, client_at, posted_at, State}
 use Rattle.cluster_run.specs.Parts.{see, enter, send, hand, client_self}
 use Rattle.cluster_run.specs.Faulty.{faulty_signature, after_lie, has_left, lies, faulty_vote, faulty_reply, faulty_word, faulty_proposal, faulty_second}
 
@@ -187,16 +189,11 @@ recovers_at s client f st = by_client s client (λ c. call_recover (client_self 
 
 -- ---- messages
 
-abbrev pub marked : ℕ → FateValue → Posted → State → State
+abbrev pub marked : ℕ → Fate → Posted → State → State
 marked place fate p st = record st { pool = slice_set st.pool place (record p { fate = fate }) }
 
 abbrev pub at_message : ℕ → (Posted → State → Result State WorldFault) → State → Result State WorldFault
 at_message message what st = option_map_or (λ p. what p st) (posted_at st message) (Ok st)
-
-abbrev pub lost : FateValue → FateValue
-lost Waiting = Lost
-lost Delivered = Delivered
-lost Lost = Lost
 
 abbrev pub ticks : (moment : ℕ) → Option Standing → State → State
 ticks moment None st = st

@@ -15,6 +15,7 @@ use Rattle.frame_views.specs.Fitting.{bounds_of}
 use Rattle.frame_views.specs.Frames.{frame_in}
 use Rattle.frame_views.specs.Spelling.{spelling}
 use Rattle.frame_views.specs.Values.{MessageValue, PairValue}
+pub use Rattle.message_pool.specs.Posts.{pool_bytes}
 use Rattle.premise_watch.specs.declared.broken.Broken.{Broken}
 use Rattle.premise_watch.specs.Breaches.{WatchValue, first_breach, after_marks}
 use Rattle.premise_watch.specs.Marks.{marks}
@@ -69,9 +70,6 @@ pub record Mail : Type 0 where
   pub from : Party
   pub to : Party
   pub frame : List ℕ
-
-abbrev pub pool_bytes : List Posted → ℕ
-pool_bytes pool = sum (map (λ (p : Posted). length p.frame) pool)
 
 abbrev pub mail_bytes : List Mail → ℕ
 mail_bytes mail = sum (map (λ (m : Mail). length m.frame) mail)

@@ -16,6 +16,9 @@ use Rattle.txn_table.specs.Entries.{same_party}
 use Rattle.replica_core.specs.Replicas.{BookValue, empty_book}
 use Rattle.node_steps.specs.Pens.{PenValue}
 use Rattle.client_core.specs.Clients.{ClientValue, empty_client}
+pub use Rattle.message_pool.specs.declared.posted.Fate.TheVariants.{Waiting, Delivered, Lost}
+pub use Rattle.message_pool.specs.declared.posted.Posted.{Posted}
+use Rattle.message_pool.specs.Posts as pools
 use Rattle.premise_watch.specs.Breaches.{NotedWords, WatchValue}
 
 -- what the keyrings accept, how the pen of each party signs, and where it begins
@@ -42,21 +45,6 @@ is_faulty s p = list_any (same_party p) s.faulty
 pub record IsSetup (s : Setup) : Type 0 where
   pub setting : IsSetting s.cluster
   pub few : (shard : ℕ) → size (λ r. is_faulty s (Replica shard r)) (replicas s.cluster.f) ≤ s.cluster.f
-
--- ---- the pool
-
--- a round passes over what was delivered or lost
-pub data FateValue : Type 0 where
-  Waiting : FateValue
-  Delivered : FateValue
-  Lost : FateValue
-
--- a message of the pool
-pub record Posted : Type 0 where
-  pub from : Party
-  pub to : Party
-  pub frame : List ℕ
-  pub fate : FateValue
 
 -- ---- begun transactions
 
@@ -114,7 +102,7 @@ client_at st number = if nat_le 1 number then slice_get st.clients (number - 1) 
 
 -- the message of this number, from 1 on
 abbrev pub posted_at : State → ℕ → Option Posted
-posted_at st message = if nat_le 1 message then slice_get st.pool (message - 1) else None
+posted_at st message = pools.posted_at st.pool message
 
 abbrev pub first_standing : Setup → (shard index : ℕ) → Standing
 first_standing s shard r =

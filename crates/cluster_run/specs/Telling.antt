@@ -10,22 +10,16 @@ use Rattle.client_core.specs.Clients.{ClientValue}
 use Rattle.client_core.specs.Slots.{ReadStateValue, NotRead, value}
 use Rattle.frame_views.specs.Values.{PairValue}
 use Rattle.node_steps.specs.Lists.{firsts}
+use Rattle.message_pool.specs.Posts.{next_waiting}
 use Rattle.cluster_run.specs.Headline.{committed}
 use Rattle.cluster_run.specs.Parts.{Mail}
-use Rattle.cluster_run.specs.States.{Setup, FateValue, Waiting, Delivered, Lost, Posted, BegunValue, FormedValue, State, posted_at, client_at}
+use Rattle.cluster_run.specs.States.{Setup, Posted, BegunValue, FormedValue, State, posted_at, client_at}
 
 -- ---- messages
 
-abbrev pub is_waiting : FateValue → Bool
-is_waiting Waiting = true
-is_waiting Delivered = false
-is_waiting Lost = false
-
 -- the least number, of these and later ones, of a message that is neither delivered nor lost
 abbrev pub undelivered : State → (from : ℕ) → Option ℕ
-undelivered st from =
-    let before = from - 1 in
-    option_map (λ place. before + place + 1) (position (λ (p : Posted). is_waiting p.fate) (drop before st.pool))
+undelivered st from = next_waiting from st.pool
 
 abbrev pub as_mail : Posted → Mail
 as_mail p = record { from = p.from; to = p.to; frame = p.frame }

@@ -1,6 +1,7 @@
 //! Does a work so many times, and prints a number that comes of it: what `bench/run` times.
 #![tactic(auto)]
 
+mod answers;
 mod decisions;
 mod frames;
 mod lines;

@@ -1,5 +1,6 @@
 //! The works, by name.
 
+use crate::answers::{Answering, answer_often, flood};
 use crate::decisions::{Proving, make_rings, prove};
 use crate::frames::{Place, Reading, Size, read_often};
 use crate::lines::{long_line, short_lines};
@@ -33,6 +34,10 @@ pub enum Work {
     Step(Stepping, Handing, u32),
     /// Hands a replica of LMS keys so many first stages.
     LmsStep(LmsSet, Handing),
+    /// Hands so many clients of plain keys, in a cluster of this f, the answers of every replica about a transaction.
+    Answer(Answering, Handing, u8),
+    /// Hands a client of plain keys so many log replies of one replica about one transaction, and then so many more.
+    Flood(Handing, u32),
 }
 
 /// The works, and their names.
@@ -167,6 +172,35 @@ const WORKS: &[(&str, Work)] = &[
         "first-w4h10-made",
         Work::LmsStep(LmsSet::W4H10, Handing::Made),
     ),
+    (
+        "votes-f1",
+        Work::Answer(Answering::Votes, Handing::Handed, 1),
+    ),
+    (
+        "votes-f1-made",
+        Work::Answer(Answering::Votes, Handing::Made, 1),
+    ),
+    (
+        "votes-f6",
+        Work::Answer(Answering::Votes, Handing::Handed, 6),
+    ),
+    (
+        "votes-f6-made",
+        Work::Answer(Answering::Votes, Handing::Made, 6),
+    ),
+    ("logs-f1", Work::Answer(Answering::Logs, Handing::Handed, 1)),
+    (
+        "logs-f1-made",
+        Work::Answer(Answering::Logs, Handing::Made, 1),
+    ),
+    ("logs-f6", Work::Answer(Answering::Logs, Handing::Handed, 6)),
+    (
+        "logs-f6-made",
+        Work::Answer(Answering::Logs, Handing::Made, 6),
+    ),
+    ("flood-0", Work::Flood(Handing::Handed, 0)),
+    ("flood-100000", Work::Flood(Handing::Handed, 100000)),
+    ("flood-made", Work::Flood(Handing::Made, 0)),
 ];
 
 impl Work {
@@ -194,5 +228,7 @@ pub fn checksum(alloc: Global, work: Work, count: u32) -> Result<u64, NoMemory> 
         Work::Rings(set) => make_rings(alloc, set, count),
         Work::Step(stepping, handing, known) => plain_steps(alloc, stepping, handing, known, count),
         Work::LmsStep(set, handing) => lms_steps(alloc, set, handing, count),
+        Work::Answer(answering, handing, f) => answer_often(alloc, f, answering, handing, count),
+        Work::Flood(handing, known) => flood(alloc, handing, known, count),
     }
 }

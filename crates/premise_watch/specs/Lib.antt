@@ -1,3 +1,11 @@
 pub mod Marks
 pub mod Breaches
 pub mod Laws
+pub mod Parties
+pub mod Rooms
+pub mod Signers
+pub mod Telling
+pub mod Texts
+pub mod Parts
+pub mod Looks
+pub mod Watches

@@ -1,6 +1,7 @@
 //! What breaks a premise.
 
 use basil_types::bytes::Bytes;
+use basil_types::memory::NoMemory;
 use basil_types::party::Party;
 use basil_types::words::Words;
 
@@ -18,4 +19,22 @@ pub enum Broken {
         first: Bytes,
         second: Bytes,
     },
+}
+
+/// Why a frame isn't taken.
+#[derive(Debug, Drop)]
+pub enum WatchFault {
+    Broken(Broken),
+    NoMemory,
+}
+
+impl From<NoMemory> for WatchFault {
+    ghost use Rattle.std.specs.Prelude.{◌≡◌};
+    ghost use Rattle.premise_watch.specs.declared.broken.WatchFault.TheVariants.{NoMemory};
+
+    ghost from_gives = { λ _ e. e ≡ NoMemory };
+
+    fn from(_refused: NoMemory) -> WatchFault {
+        WatchFault::NoMemory
+    }
 }

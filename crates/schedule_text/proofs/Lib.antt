@@ -15,3 +15,4 @@ pub mod EscapeTakes
 pub mod KindTakes
 pub mod HeaderTakes
 pub mod LineTakes
+pub mod LineCuts

@@ -10,3 +10,4 @@ pub mod Reading
 pub mod Spelling
 pub mod Fitting
 pub mod Pieces
+pub mod TextLines

@@ -6,6 +6,7 @@ pub mod fields;
 mod kinds;
 pub mod laws;
 pub mod line;
+pub mod lines;
 pub mod reading;
-mod words;
+pub mod words;
 pub mod writing;

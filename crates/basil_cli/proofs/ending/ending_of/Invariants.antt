@@ -1,5 +1,5 @@
 use Rattle.std.proofs.Common.{◌≡◌, ◌+◌, ◌≤◌, length}
-use Rattle.basil_cli.specs.Lines.{lines_of}
+use Rattle.schedule_text.specs.TextLines.{lines_of}
 use Rattle.basil_cli.specs.Replay.{ended_of, ended_lines}
 use Rattle.basil_cli.proofs.ending.ending_of.Given as goal
 

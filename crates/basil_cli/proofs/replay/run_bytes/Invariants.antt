@@ -1,5 +1,5 @@
 use Rattle.std.proofs.Common.{◌≡◌, ◌+◌, ◌≤◌, false, length}
-use Rattle.basil_cli.specs.Lines.{lines_of}
+use Rattle.schedule_text.specs.TextLines.{lines_of}
 use Rattle.basil_cli.specs.Parts.{replay_of}
 use Rattle.basil_cli.specs.Replay.{run_lines}
 use Rattle.basil_cli.proofs.replay.run_bytes.Given as goal

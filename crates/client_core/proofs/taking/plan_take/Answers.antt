@@ -4,7 +4,7 @@ use Rattle.client_core.specs.declared.held.Formed.{Formed}
 use Rattle.frame_views.specs.Shown.{message_of}
 use Rattle.client_core.specs.declared.held.Slot.{Slot}
 use Rattle.client_core.specs.Seats.{self_at}
-use Rattle.client_core.proofs.HeldLaws.{are_set, got}
+use Rattle.client_core.proofs.HeldLaws.{are_set, got, most_set}
 use Rattle.client_core.proofs.ReadingLaws.{shown_at}
 use Rattle.client_core.proofs.TakingLaws.{not_formed, taken_planned, taken_shows}
 use Rattle.client_core.proofs.taking.plan_take.Goals as goal
@@ -56,4 +56,5 @@ invariant_of-held g c =
           (got old.slots.items c.args.slot x c.requires.held c.index_mut-place.ensures.value)
           (λ of f e. sym (ap (λ (g : Formed). g.pursuit.cluster) (same_Some _ _ e)) ∙ c.plan_formed.ensures.cluster
           ∙ of c.in-Some.formed c.in-Some.is) old.clusters;
+      most = most_set old.slots.items c.args.slot _ old.most;
     }

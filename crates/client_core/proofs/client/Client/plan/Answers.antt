@@ -1,4 +1,4 @@
-use Rattle.std.proofs.Common.{◌≡◌, Result, sym, subst}
+use Rattle.std.proofs.Common.{◌≡◌, ◌∙◌, Result, sym, subst}
 use Rattle.std.specs.Prelude.{IfOk}
 use Rattle.client_core.specs.declared.ask.Ask.{Ask}
 use Rattle.client_core.specs.declared.ask.Ask.TheVariants as asks
@@ -6,10 +6,12 @@ use Rattle.client_core.specs.declared.ask.AskFault.{AskFault}
 use Rattle.client_core.specs.declared.work.ClientPlan.{ClientPlan}
 use Rattle.client_core.specs.Answers.{on_frame}
 use Rattle.client_core.specs.Asks.{IsPlannedAsk, answer_to, by_call, by_frame, slot_of}
+use Rattle.node_steps.specs.Pens.{pen_value}
+use Rattle.client_core.specs.Done.{CanCommit}
 use Rattle.client_core.specs.Calls.{call_invoke, call_prepare, call_read, call_recover, call_settle}
 use Rattle.client_core.specs.Seats.{self_at}
-use Rattle.client_core.specs.Works.{CanPerform}
 use Rattle.client_core.proofs.AskLaws.{call_asked, call_if, frame_asked, frame_if}
+use Rattle.client_core.proofs.ShownLaws.{call_ready, frame_ready, kept_count, still_shown}
 use Rattle.client_core.proofs.client.Client.plan.Goals as goal
 
 pub returns-in-Read-clause-answer : goal.returns-in-Read-clause-answer
@@ -30,10 +32,20 @@ returns-in-Read-clause-slot g c = λ v h.
 
 pub returns-in-Read-clause-ready : goal.returns-in-Read-clause-ready
 returns-in-Read-clause-ready g c =
-    let size = (g.S.Signer.fixed c.args.self.now.pen).size in
-    let left = g.S.Signer.left_of c.args.self.now.pen in
-    subst (λ (r : Result ClientPlan AskFault). IfOk r (CanPerform size left (c.plan_read.new.held))) (sym c.call_planned.ensures)
-    (call_if c.plan_read.result _ (c.plan_read.ensures.ready size left))
+    let me = c.args.self.now in
+    let signing = g.S.Signer.fixed me.pen in
+    let pen = pen_value (g.S.Signer.spent me.pen) (g.S.Signer.left_of me.pen) in
+    let accepts = g.V.Verifier.accepted me.keys in
+    subst (λ (r : Result ClientPlan AskFault). IfOk r (CanCommit signing pen c.plan_read.new.held)) (sym c.call_planned.ensures)
+    (call_ready signing pen me.held c.plan_read.new.held c.plan_read.ensures.shown me.shown c.plan_read.result _ (c.plan_read.ensures.ready signing.size pen.left) (λ v h. c.plan_read.ensures.answer signing accepts v h.shows))
+
+pub invariant_of-self : goal.invariant_of-self
+invariant_of-self g c =
+    let me = c.args.self.now in
+    record {
+      same = c.plan_read.ensures.cluster ∙ me.same;
+      shown = still_shown me.held c.plan_read.new.held (pen_value (g.S.Signer.spent me.pen) (g.S.Signer.left_of me.pen)) c.plan_read.ensures.shown me.shown;
+    }
 
 pub returns-in-Prepare-clause-answer : goal.returns-in-Prepare-clause-answer
 returns-in-Prepare-clause-answer g c = λ v h.
@@ -53,10 +65,12 @@ returns-in-Prepare-clause-slot g c = λ v h.
 
 pub returns-in-Prepare-clause-ready : goal.returns-in-Prepare-clause-ready
 returns-in-Prepare-clause-ready g c =
-    let size = (g.S.Signer.fixed c.args.self.now.pen).size in
-    let left = g.S.Signer.left_of c.args.self.now.pen in
-    subst (λ (r : Result ClientPlan AskFault). IfOk r (CanPerform size left (c.args.self.now.held))) (sym c.call_planned-in-Prepare.ensures)
-    (call_if c.plan_prepare.result _ c.plan_prepare.ensures.ready)
+    let me = c.args.self.now in
+    let signing = g.S.Signer.fixed me.pen in
+    let pen = pen_value (g.S.Signer.spent me.pen) (g.S.Signer.left_of me.pen) in
+    let accepts = g.V.Verifier.accepted me.keys in
+    subst (λ (r : Result ClientPlan AskFault). IfOk r (CanCommit signing pen me.held)) (sym c.call_planned-in-Prepare.ensures)
+    (call_ready signing pen me.held me.held (λ v h. h) me.shown c.plan_prepare.result _ c.plan_prepare.ensures.ready (λ v h. c.plan_prepare.ensures.answer accepts v h.shows h.place))
 
 pub returns-in-Settle-clause-answer : goal.returns-in-Settle-clause-answer
 returns-in-Settle-clause-answer g c = λ v h.
@@ -76,10 +90,20 @@ returns-in-Settle-clause-slot g c = λ v h.
 
 pub returns-in-Settle-clause-ready : goal.returns-in-Settle-clause-ready
 returns-in-Settle-clause-ready g c =
-    let size = (g.S.Signer.fixed c.args.self.now.pen).size in
-    let left = g.S.Signer.left_of c.args.self.now.pen in
-    subst (λ (r : Result ClientPlan AskFault). IfOk r (CanPerform size left (c.plan_settle.new.held))) (sym c.call_planned-in-Settle.ensures)
-    (call_if c.plan_settle.result _ (c.plan_settle.ensures.ready size left))
+    let me = c.args.self.now in
+    let signing = g.S.Signer.fixed me.pen in
+    let pen = pen_value (g.S.Signer.spent me.pen) (g.S.Signer.left_of me.pen) in
+    let accepts = g.V.Verifier.accepted me.keys in
+    subst (λ (r : Result ClientPlan AskFault). IfOk r (CanCommit signing pen c.plan_settle.new.held)) (sym c.call_planned-in-Settle.ensures)
+    (call_ready signing pen me.held c.plan_settle.new.held c.plan_settle.ensures.shown me.shown c.plan_settle.result _ (c.plan_settle.ensures.ready signing.size pen.left) (λ v h. c.plan_settle.ensures.answer signing accepts v h.shows))
+
+pub invariant_of-self-in-Settle : goal.invariant_of-self-in-Settle
+invariant_of-self-in-Settle g c =
+    let me = c.args.self.now in
+    record {
+      same = c.plan_settle.ensures.cluster ∙ me.same;
+      shown = still_shown me.held c.plan_settle.new.held (pen_value (g.S.Signer.spent me.pen) (g.S.Signer.left_of me.pen)) c.plan_settle.ensures.shown me.shown;
+    }
 
 pub returns-in-Recover-clause-answer : goal.returns-in-Recover-clause-answer
 returns-in-Recover-clause-answer g c = λ v h.
@@ -99,10 +123,20 @@ returns-in-Recover-clause-slot g c = λ v h.
 
 pub returns-in-Recover-clause-ready : goal.returns-in-Recover-clause-ready
 returns-in-Recover-clause-ready g c =
-    let size = (g.S.Signer.fixed c.args.self.now.pen).size in
-    let left = g.S.Signer.left_of c.args.self.now.pen in
-    subst (λ (r : Result ClientPlan AskFault). IfOk r (CanPerform size left (c.plan_recover.new.held))) (sym c.call_planned-in-Recover.ensures)
-    (call_if c.plan_recover.result _ (c.plan_recover.ensures.ready size left))
+    let me = c.args.self.now in
+    let signing = g.S.Signer.fixed me.pen in
+    let pen = pen_value (g.S.Signer.spent me.pen) (g.S.Signer.left_of me.pen) in
+    let accepts = g.V.Verifier.accepted me.keys in
+    subst (λ (r : Result ClientPlan AskFault). IfOk r (CanCommit signing pen c.plan_recover.new.held)) (sym c.call_planned-in-Recover.ensures)
+    (call_ready signing pen me.held c.plan_recover.new.held c.plan_recover.ensures.shown me.shown c.plan_recover.result _ (c.plan_recover.ensures.ready signing.size pen.left) (λ v h. c.plan_recover.ensures.answer signing accepts v h.shows))
+
+pub invariant_of-self-in-Recover : goal.invariant_of-self-in-Recover
+invariant_of-self-in-Recover g c =
+    let me = c.args.self.now in
+    record {
+      same = c.plan_recover.ensures.cluster ∙ me.same;
+      shown = still_shown me.held c.plan_recover.new.held (pen_value (g.S.Signer.spent me.pen) (g.S.Signer.left_of me.pen)) c.plan_recover.ensures.shown me.shown;
+    }
 
 pub returns-in-Invoke-clause-answer : goal.returns-in-Invoke-clause-answer
 returns-in-Invoke-clause-answer g c = λ v h.
@@ -122,10 +156,20 @@ returns-in-Invoke-clause-slot g c = λ v h.
 
 pub returns-in-Invoke-clause-ready : goal.returns-in-Invoke-clause-ready
 returns-in-Invoke-clause-ready g c =
-    let size = (g.S.Signer.fixed c.args.self.now.pen).size in
-    let left = g.S.Signer.left_of c.args.self.now.pen in
-    subst (λ (r : Result ClientPlan AskFault). IfOk r (CanPerform size left (c.plan_invoke.new.held))) (sym c.call_planned-in-Invoke.ensures)
-    (call_if c.plan_invoke.result _ (c.plan_invoke.ensures.ready size left))
+    let me = c.args.self.now in
+    let signing = g.S.Signer.fixed me.pen in
+    let pen = pen_value (g.S.Signer.spent me.pen) (g.S.Signer.left_of me.pen) in
+    let accepts = g.V.Verifier.accepted me.keys in
+    subst (λ (r : Result ClientPlan AskFault). IfOk r (CanCommit signing pen c.plan_invoke.new.held)) (sym c.call_planned-in-Invoke.ensures)
+    (call_ready signing pen me.held c.plan_invoke.new.held c.plan_invoke.ensures.shown me.shown c.plan_invoke.result _ (c.plan_invoke.ensures.ready signing.size pen.left) (λ v h. c.plan_invoke.ensures.answer signing accepts v h.shows))
+
+pub invariant_of-self-in-Invoke : goal.invariant_of-self-in-Invoke
+invariant_of-self-in-Invoke g c =
+    let me = c.args.self.now in
+    record {
+      same = c.plan_invoke.ensures.cluster ∙ me.same;
+      shown = still_shown me.held c.plan_invoke.new.held (pen_value (g.S.Signer.spent me.pen) (g.S.Signer.left_of me.pen)) c.plan_invoke.ensures.shown me.shown;
+    }
 
 pub returns-in-Frame-clause-answer : goal.returns-in-Frame-clause-answer
 returns-in-Frame-clause-answer g c = λ v h.
@@ -145,7 +189,41 @@ returns-in-Frame-clause-slot g c = λ v h.
 
 pub returns-in-Frame-clause-ready : goal.returns-in-Frame-clause-ready
 returns-in-Frame-clause-ready g c =
-    let size = (g.S.Signer.fixed c.args.self.now.pen).size in
-    let left = g.S.Signer.left_of c.args.self.now.pen in
-    subst (λ (r : Result ClientPlan AskFault). IfOk r (CanPerform size left (c.plan_frame.new.held))) (sym c.frame_planned.ensures)
-    (frame_if c.plan_frame.result _ (c.plan_frame.ensures.ready size left))
+    let me = c.args.self.now in
+    let signing = g.S.Signer.fixed me.pen in
+    let pen = pen_value (g.S.Signer.spent me.pen) (g.S.Signer.left_of me.pen) in
+    subst (λ (r : Result ClientPlan AskFault). IfOk r (CanCommit signing pen c.plan_frame.new.held)) (sym c.frame_planned.ensures)
+    (frame_ready signing pen me.held c.plan_frame.new.held c.plan_frame.ensures.shown me.shown c.plan_frame.result _ (c.plan_frame.ensures.ready signing.size pen.left) (λ v h. c.plan_frame.ensures.answer signing v h.shows))
+
+pub invariant_of-self-in-Frame : goal.invariant_of-self-in-Frame
+invariant_of-self-in-Frame g c =
+    let me = c.args.self.now in
+    record {
+      same = c.plan_frame.ensures.cluster ∙ me.same;
+      shown = still_shown me.held c.plan_frame.new.held (pen_value (g.S.Signer.spent me.pen) (g.S.Signer.left_of me.pen)) c.plan_frame.ensures.shown me.shown;
+    }
+
+pub returns-in-Read-clause-slots : goal.returns-in-Read-clause-slots
+returns-in-Read-clause-slots g c =
+    let me = c.args.self.now in
+    kept_count me.held c.plan_read.new.held (pen_value (g.S.Signer.spent me.pen) (g.S.Signer.left_of me.pen)) c.plan_read.ensures.shown me.shown
+
+pub returns-in-Settle-clause-slots : goal.returns-in-Settle-clause-slots
+returns-in-Settle-clause-slots g c =
+    let me = c.args.self.now in
+    kept_count me.held c.plan_settle.new.held (pen_value (g.S.Signer.spent me.pen) (g.S.Signer.left_of me.pen)) c.plan_settle.ensures.shown me.shown
+
+pub returns-in-Recover-clause-slots : goal.returns-in-Recover-clause-slots
+returns-in-Recover-clause-slots g c =
+    let me = c.args.self.now in
+    kept_count me.held c.plan_recover.new.held (pen_value (g.S.Signer.spent me.pen) (g.S.Signer.left_of me.pen)) c.plan_recover.ensures.shown me.shown
+
+pub returns-in-Invoke-clause-slots : goal.returns-in-Invoke-clause-slots
+returns-in-Invoke-clause-slots g c =
+    let me = c.args.self.now in
+    kept_count me.held c.plan_invoke.new.held (pen_value (g.S.Signer.spent me.pen) (g.S.Signer.left_of me.pen)) c.plan_invoke.ensures.shown me.shown
+
+pub returns-in-Frame-clause-slots : goal.returns-in-Frame-clause-slots
+returns-in-Frame-clause-slots g c =
+    let me = c.args.self.now in
+    kept_count me.held c.plan_frame.new.held (pen_value (g.S.Signer.spent me.pen) (g.S.Signer.left_of me.pen)) c.plan_frame.ensures.shown me.shown

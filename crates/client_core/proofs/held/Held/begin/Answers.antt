@@ -1,7 +1,7 @@
 use Rattle.std.proofs.Common.{◌∙◌, List, [], ◌∷◌, ◌++◌, refl, sym, ap, subst}
 use Rattle.client_core.specs.declared.held.Slot.{Slot}
 use Rattle.client_core.specs.Clusters.{AreOf}
-use Rattle.client_core.proofs.HeldLaws.{are_pushed, begun_shows, none_of}
+use Rattle.client_core.proofs.HeldLaws.{are_pushed, begun_shows, most_pushed, none_of}
 use Rattle.client_core.proofs.ShowingLaws.{slots_count}
 use Rattle.client_core.proofs.held.Held.begin.Goals as goal
 
@@ -22,4 +22,5 @@ invariant_of-self c =
           subst (AreOf held.cluster) (sym c.push_reserved.ensures.items)
           (are_pushed held.cluster held.slots.items c.begun.result held.clusters
           (none_of held.cluster c.begun.result.formed c.begun.ensures.formed));
+      most = most_pushed held.slots.items _ c.begun.result c.in_ok-slot.ensures.room.1 c.push_reserved.ensures.items;
     }

@@ -1,6 +1,6 @@
 use Rattle.std.proofs.Common.{refl, subst, sym}
 use Rattle.client_core.specs.Clusters.{AreOf}
-use Rattle.client_core.proofs.HeldLaws.{are_pushed, held_more}
+use Rattle.client_core.proofs.HeldLaws.{are_pushed, held_more, most_pushed}
 use Rattle.client_core.proofs.held.Held.hold.Goals as goal
 
 pub returns-clause-shown : goal.returns-clause-shown
@@ -14,4 +14,5 @@ invariant_of-self c =
       clusters =
           subst (AreOf held.cluster) (sym c.push_reserved.ensures.items)
           (are_pushed held.cluster held.slots.items c.args.recovered held.clusters c.requires.cluster);
+      most = most_pushed held.slots.items _ c.args.recovered c.requires.room.1 c.push_reserved.ensures.items;
     }

@@ -1,7 +1,7 @@
 use Rattle.std.proofs.Common.{refl, false}
 use Rattle.client_core.specs.Calls.{pursued}
 use Rattle.client_core.specs.Works.{pursues}
-use Rattle.client_core.proofs.HeldLaws.{are_set, got, held_changes, slot_pursues, some_of}
+use Rattle.client_core.proofs.HeldLaws.{are_set, got, held_changes, most_set, slot_pursues, some_of}
 use Rattle.client_core.proofs.held.Held.pursue.Goals as goal
 
 pub returns-clause-shown : goal.returns-clause-shown
@@ -22,4 +22,5 @@ invariant_of-self c =
       clusters =
           are_set held.cluster held.slots.items c.args.slot x _
           (got held.slots.items c.args.slot x c.requires.held c.index_mut-slot.ensures.value) (λ of. some_of held.cluster _ c.new-pursuit.ensures.cluster) held.clusters;
+      most = most_set held.slots.items c.args.slot _ held.most;
     }

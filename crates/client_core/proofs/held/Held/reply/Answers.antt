@@ -4,7 +4,7 @@ use Rattle.client_core.specs.declared.held.Formed.{Formed}
 use Rattle.client_core.specs.Clusters.{IsOf}
 use Rattle.client_core.specs.Clients.{SlotValue}
 use Rattle.client_core.specs.Slots.{put_read}
-use Rattle.client_core.proofs.HeldLaws.{are_set, got, held_changes}
+use Rattle.client_core.proofs.HeldLaws.{are_set, got, held_changes, most_set}
 use Rattle.client_core.proofs.held.Held.reply.Goals as goal
 
 pub reply-requires : goal.reply-requires
@@ -30,4 +30,5 @@ invariant_of-self c =
       clusters =
           are_set held.cluster held.slots.items c.args.slot x _
           (got held.slots.items c.args.slot x c.requires.held c.index_mut-slot.ensures.value) (λ of. subst (λ (o : Option Formed). IsOf held.cluster o) (sym c.reply.ensures.formed) of) held.clusters;
+      most = most_set held.slots.items c.args.slot _ held.most;
     }

@@ -3,7 +3,7 @@ use Rattle.std.specs.Prelude.{Option}
 use Rattle.client_core.specs.declared.held.Formed.{Formed}
 use Rattle.client_core.specs.Clusters.{IsOf}
 use Rattle.client_core.specs.Replying.{HasReplyRoomAt}
-use Rattle.client_core.proofs.HeldLaws.{are_set, got, held_same, set_got}
+use Rattle.client_core.proofs.HeldLaws.{are_set, got, held_same, most_set, set_got}
 use Rattle.client_core.proofs.held.Held.room_for_reply.Goals as goal
 
 pub room_for_reply-requires : goal.room_for_reply-requires
@@ -35,4 +35,5 @@ invariant_of-self c =
       clusters =
           are_set held.cluster held.slots.items c.args.slot x _
           (got held.slots.items c.args.slot x c.requires.held c.index_mut-slot.ensures.value) (λ of. subst (λ (o : Option Formed). IsOf held.cluster o) (sym c.room_for_reply.ensures.formed) of) held.clusters;
+      most = most_set held.slots.items c.args.slot _ held.most;
     }

@@ -1,7 +1,7 @@
 use Rattle.std.proofs.Common.{refl}
 use Rattle.client_core.specs.Clients.{SlotValue}
 use Rattle.client_core.specs.Slots.{with_pursuit}
-use Rattle.client_core.proofs.HeldLaws.{are_set, got, held_changes}
+use Rattle.client_core.proofs.HeldLaws.{are_set, got, held_changes, most_set}
 use Rattle.client_core.proofs.held.Held.take.Goals as goal
 
 pub returns-clause-shown : goal.returns-clause-shown
@@ -22,4 +22,5 @@ invariant_of-self c =
       clusters =
           are_set held.cluster held.slots.items c.args.slot x _
           (got held.slots.items c.args.slot x c.requires c.index_mut-slot.ensures.value) (c.take.ensures.cluster held.cluster) held.clusters;
+      most = most_set held.slots.items c.args.slot _ held.most;
     }

@@ -1,0 +1,9 @@
+use Rattle.std.proofs.Common.{◌≡◌, ◌++◌, length}
+use Rattle.audit_text.specs.Drafts.{write_parts}
+use Rattle.audit_text.proofs.draft.write_parts.Given as goal
+
+abbrev pub invariant-keys : goal.invariant-keys
+invariant-keys l = write_parts l.fn.map.entries ≡ l.parts.items ++ write_parts l.rest.entries
+
+abbrev pub decreases-keys : goal.decreases-keys
+decreases-keys l = length l.rest.entries

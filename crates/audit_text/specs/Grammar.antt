@@ -1,0 +1,67 @@
+-- What a line of an audit's input says, or the reason why it says nothing.
+use Rattle.std.specs.Prelude.{ℕ, Bool, false, codes, bytes_eq, List, [], ◌∷◌, length, nat_lt, nat_le, if◌then◌else◌, Result, Ok, Err}
+use Rattle.audit_text.specs.declared.line.AuditLine.{AuditLine}
+use Rattle.audit_text.specs.declared.line.AuditLine.TheVariants.{Skipped, Tx, Read, Write, Delete}
+use Rattle.schedule_text.specs.Complaints.{made2, made3, reason_of}
+use Rattle.schedule_text.specs.Fields.{name, number, client, key, writer, value}
+use Rattle.schedule_text.specs.Limits.{longest_line, most_lines}
+use Rattle.schedule_text.specs.Lines.{fields}
+use Rattle.schedule_text.specs.Reading.{is_skipped}
+use Rattle.schedule_text.specs.Words.{Word, words, two_of, three_of}
+use Rattle.schedule_text.specs.declared.complaint.Complaint.{Complaint}
+use Rattle.schedule_text.specs.declared.complaint.Complaint.TheVariants.{Misspelt, OutOfSize}
+
+-- `tx NAME TIME C`
+unfoldable pub tx : List Word → Result AuditLine Complaint
+tx words = fields (three_of words) (λ t. made3 Tx (name t.0) (number t.1) (client t.2))
+
+-- `read NAME KEY WRITER`, or `-` in the place of WRITER
+unfoldable pub read : List Word → Result AuditLine Complaint
+read words = fields (three_of words) (λ t. made3 Read (name t.0) (key t.1) (writer t.2))
+
+-- `write NAME KEY VALUE`
+unfoldable pub write : List Word → Result AuditLine Complaint
+write words = fields (three_of words) (λ t. made3 Write (name t.0) (key t.1) (value t.2))
+
+-- `delete NAME KEY`
+unfoldable pub delete : List Word → Result AuditLine Complaint
+delete words = fields (two_of words) (λ t. made2 Delete (name t.0) (key t.1))
+
+-- by the first word
+unfoldable pub by_word : Word → List Word → Result AuditLine Complaint
+by_word word rest =
+    if bytes_eq word (codes "tx") then tx rest
+    else if bytes_eq word (codes "read") then read rest
+    else if bytes_eq word (codes "write") then write rest
+    else if bytes_eq word (codes "delete") then delete rest
+    else Err Misspelt
+
+unfoldable pub said : List Word → Result AuditLine Complaint
+said [] = Err Misspelt
+said (first ∷ rest) = by_word first rest
+
+-- an empty line, or one that begins with `#`, is skipped
+unfoldable pub line_value : List ℕ → Result AuditLine Complaint
+line_value line = if is_skipped line then Ok Skipped else said (words line)
+
+-- no line stands behind the millionth
+abbrev pub numbered : ℕ → Result AuditLine Complaint → Result AuditLine Complaint
+numbered number (Ok line) = if nat_le number most_lines then Ok line else Err OutOfSize
+numbered number (Err c) = Err c
+
+abbrev pub reasoned : Result AuditLine Complaint → Result AuditLine ℕ
+reasoned (Ok line) = Ok line
+reasoned (Err c) = Err (reason_of c)
+
+-- a number stands for the reason why a line is refused: one above 2,200,000 bytes is 8 before all else
+unfoldable pub line_at : List ℕ → ℕ → Result AuditLine ℕ
+line_at line number =
+    if nat_lt longest_line (length line) then Err 8 else reasoned (numbered number (line_value line))
+
+abbrev pub begins_with_tx : List Word → Bool
+begins_with_tx [] = false
+begins_with_tx (first ∷ rest) = bytes_eq first (codes "tx")
+
+-- the first word is `tx`
+unfoldable pub is_tx : List ℕ → Bool
+is_tx line = begins_with_tx (words line)

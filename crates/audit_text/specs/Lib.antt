@@ -1,0 +1,5 @@
+pub mod Grammar
+pub mod Drafts
+pub mod Listing
+pub mod Findings
+pub mod Parts

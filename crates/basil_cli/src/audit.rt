@@ -1,0 +1,25 @@
+//! Whether each read of listed transactions is what the serial order gives it.
+
+ghost use Rattle.std.specs.Prelude.{◌≡◌, ◌≤◌, IfOk, length};
+ghost use Rattle.audit_text.specs.Findings.{finding_of};
+ghost use Rattle.basil_cli.specs.Outcome.{longest_input};
+ghost use Rattle.basil_cli.specs.Output.{audited};
+ghost use Rattle.basil_cli.specs.Parts.{outcome_is};
+
+use crate::ending::Ending;
+use audit_text::finding::{Finding, audit_text};
+use basil_types::bytes::Bytes;
+use basil_types::memory::NoMemory;
+use std::alloc::Global;
+
+/// What the bytes of an input to `audit` lead to.
+pub(crate) fn audit(alloc: Global, bytes: &[u8]) -> Result<Ending, NoMemory>
+    requires { length bytes.now ≤ longest_input }
+    ensures { IfOk result (λ e. outcome_is e ≡ audited (finding_of bytes.now)) }
+{
+    match audit_text(alloc, bytes)? {
+        Finding::BadLine { line, reason } => Ok(Ending::BadLine { line, reason }),
+        Finding::Serial => Ok(Ending::Written(Bytes::copy_of(alloc, b"serial\n")?)),
+        Finding::Stray(line) => Ok(Ending::Stray(line)),
+    }
+}

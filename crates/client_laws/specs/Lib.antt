@@ -1,0 +1,4 @@
+pub mod Steps
+pub mod Signing
+pub mod Reading
+pub mod Deciding

@@ -1,0 +1,6 @@
+mod Telling
+mod ClientTelling
+mod Taking
+mod Replicas
+mod Holding
+mod Clients

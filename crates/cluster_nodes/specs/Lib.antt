@@ -1,0 +1,5 @@
+pub mod Sizes
+pub mod Standings
+pub mod Refusing
+pub mod Handling
+pub mod Asking

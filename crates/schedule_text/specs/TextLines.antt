@@ -1,0 +1,13 @@
+-- The lines of a text.
+use Rattle.std.specs.Prelude.{ℕ, List, [], ◌∷◌, ◌==◌, length, if◌then◌else◌}
+use Rattle.std.specs.List.{slice_split}
+
+-- behind a last newline stands no line
+abbrev pub but_empty_last : List (List ℕ) → List (List ℕ)
+but_empty_last [] = []
+but_empty_last (p ∷ []) = if length p == 0 then [] else p ∷ []
+but_empty_last (p ∷ q ∷ ps) = p ∷ but_empty_last (q ∷ ps)
+
+-- the pieces between newlines
+abbrev pub lines_of : List ℕ → List (List ℕ)
+lines_of bytes = but_empty_last (slice_split (λ b. b == 10) bytes)

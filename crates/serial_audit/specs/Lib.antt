@@ -1,0 +1,6 @@
+pub mod Maps
+pub mod Strays
+pub mod Verdicts
+pub mod Laws
+pub mod Parts
+pub mod Writers

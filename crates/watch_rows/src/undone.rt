@@ -1,0 +1,46 @@
+//! Frames that are seen again, and taken back.
+
+ghost use Rattle.frame_views.specs.Fitting.{IsSpoken};
+ghost use Rattle.frame_views.specs.Shown.{message_of};
+
+use crate::frames::{SAMPLES, Sample};
+use crate::seen::{cluster_of, note_but};
+use basil_types::cluster::Cluster;
+use frame_views::frames::{MessageView, check};
+use keyring::plain::PlainKeys;
+use premise_watch::faulty::Faulty;
+use premise_watch::watch::Watch;
+use std::alloc::Global;
+use std::test::Fail;
+
+/// Whether a frame whose words are noted is seen twice, and once more after it was taken back.
+fn is_seen_again(watch: &mut Watch, cluster: &Cluster, m: &MessageView<'_>) -> Result<bool, Fail>
+    requires { IsSpoken (message_of m.now) }
+{
+    let keys = PlainKeys::new(cluster);
+    let faulty = Faulty::new();
+    note_but(watch, m, usize::MAX, usize::MAX)?;
+    let twice = watch.see(&keys, &faulty, m).is_ok() && watch.see(&keys, &faulty, m).is_ok();
+    watch.undo();
+    watch.undo();
+    Ok(twice && watch.see(&keys, &faulty, m).is_ok())
+}
+
+fn is_row_seen(alloc: Global, watch: &mut Watch, sample: &Sample) -> Result<bool, Fail> {
+    let cluster = cluster_of(sample)?;
+    let frame = hex::decode(alloc, sample.frame)?;
+    match check(&frame, &cluster) {
+        Ok(m) => is_seen_again(watch, &cluster, &m),
+        Err(_) => Ok(false),
+    }
+}
+
+/// One watch sees all frames, and some transactions in several of them. What was noted stays when a frame is taken back.
+#[test]
+fn texts_are_seen_again(rt: HostRuntime) -> Result<(), Fail> {
+    let mut watch = Watch::new(rt.alloc());
+    for sample in SAMPLES {
+        assert!(rt; is_row_seen(rt.alloc(), &mut watch, sample)?);
+    }
+    Ok(())
+}
