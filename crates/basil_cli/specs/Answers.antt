@@ -1,7 +1,7 @@
 -- What a status says of the outcome, and of what was written.
 use Rattle.std.specs.Prelude.{◌≡◌, ◌⊎◌, ℕ, Bool, true, false, List, Option, Result, Ok, Err, ⊤}
 use Rattle.basil_types.specs.Causes.{Rose, TookAll, TookPrefix}
-use Rattle.cluster_world.specs.Safe.{IsSafe}
+use Rattle.thin_world.specs.Safe.{IsSafe}
 use Rattle.basil_cli.specs.Outcome.{Outcome, Usage, BadLine, Written, Refused, Stray, TooLong, text_of, read_fault_text}
 use Rattle.basil_cli.specs.Replay as replay
 use Rattle.basil_cli.specs.Replay.{Ended}

@@ -1,9 +1,9 @@
 -- What the parts of the code answer, beside the definitions.
 use Rattle.std.specs.Prelude.{◌≡◌, ◌<◌, ◌≤◌, ℕ, length, List, [], ◌∷◌, Bool, false, Option, Some, None, Result, Ok, Err, ⊤}
 use Rattle.basil_types.specs.Setting.{Setting}
-use Rattle.cluster_world.specs.Run.{EventValue, happens}
-use Rattle.cluster_world.specs.State.{State}
-use Rattle.cluster_world.specs.World.{WorldValue, IsSmall}
+use Rattle.thin_world.specs.Run.{EventValue, happens}
+use Rattle.thin_world.specs.State.{State}
+use Rattle.thin_world.specs.World.{WorldValue, IsSmall}
 use Rattle.frame_views.specs.Shown.{writeback_of}
 use Rattle.frame_views.specs.Values.{WritebackValue}
 use Rattle.frame_views.specs.declared.frames.views.WritebackView.{WritebackView}

@@ -2,10 +2,10 @@
 use Rattle.std.specs.Prelude.{ℕ, ◌+◌, List, [], ◌∷◌, ◌++◌, Bool, true, false, not, ◌&&◌, ◌==◌, nat_le, length, map, position, Option, Some, None, Result, Ok, Err, if◌then◌else◌}
 use Rattle.std.specs.Str.{bytes_eq}
 use Rattle.basil_types.specs.Setting.{Setting}
-use Rattle.cluster_world.specs.Run.{EventValue, Begins, Writes, Prepares, Delivers, happens, run}
-use Rattle.cluster_world.specs.Shown.{waiting}
-use Rattle.cluster_world.specs.State.{State, start}
-use Rattle.cluster_world.specs.declared.event.CallFault.{CallFault}
+use Rattle.thin_world.specs.Run.{EventValue, Begins, Writes, Prepares, Delivers, happens, run}
+use Rattle.thin_world.specs.Shown.{waiting}
+use Rattle.thin_world.specs.State.{State, start}
+use Rattle.thin_world.specs.declared.event.CallFault.{CallFault}
 use Rattle.schedule_text.specs.TextLines.{lines_of}
 use Rattle.schedule_text.specs.Limits.{longest_line}
 use Rattle.schedule_text.specs.Reading.{line_at, is_header, is_skipped}

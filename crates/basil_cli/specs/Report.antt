@@ -5,9 +5,9 @@ use Rattle.basil_types.specs.Replayed.{Replayed, map_of}
 use Rattle.basil_types.specs.Transaction.{TransactionValue, id}
 use Rattle.basil_types.specs.declared.party.Decision.{Decision}
 use Rattle.basil_types.specs.declared.party.Decision.TheVariants.{Commit, Abort}
-use Rattle.cluster_world.specs.Safe.{committed}
-use Rattle.cluster_world.specs.Shown.{transaction, decision_of}
-use Rattle.cluster_world.specs.State.{State}
+use Rattle.thin_world.specs.Safe.{committed}
+use Rattle.thin_world.specs.Shown.{transaction, decision_of}
+use Rattle.thin_world.specs.State.{State}
 use Rattle.schedule_text.specs.Spelling.{key_word, value_word}
 use Rattle.basil_cli.specs.Replay.{Ended}
 

@@ -6,7 +6,7 @@ ghost use Rattle.basil_cli.specs.Output.{replayed};
 ghost use Rattle.basil_cli.specs.Answers.{IsSafeEnd};
 ghost use Rattle.basil_cli.specs.Parts.{outcome_is};
 ghost use Rattle.basil_cli.specs.Replay.{ended_of, ended_lines, ended_with, run_lines, first_replay};
-ghost use Rattle.cluster_world.specs.World.{IsSmall};
+ghost use Rattle.thin_world.specs.World.{IsSmall};
 
 use crate::header::{Opening, read_opening};
 use crate::replay::{Failure, run_bytes};
@@ -14,9 +14,9 @@ use crate::report::report;
 use basil_types::bytes::Bytes;
 use basil_types::cluster::Cluster;
 use basil_types::memory::NoMemory;
-use cluster_world::world::World;
 use schedule_text::lines::next_line;
 use std::alloc::Global;
+use thin_world::world::World;
 
 /// What a command leads to.
 #[derive(Drop)]

@@ -1,8 +1,8 @@
 //! The lines behind the header, taken to events of a world.
 
 ghost use Rattle.std.specs.Prelude.{◌≡◌, ◌+◌, ◌^◌, ◌≤◌, ◌<◌, false, IfOk, IfErr, length};
-ghost use Rattle.cluster_world.specs.Run.{Delivers, happens, kept};
-ghost use Rattle.cluster_world.specs.Shown.{event_value, MayCome};
+ghost use Rattle.thin_world.specs.Run.{Delivers, happens, kept};
+ghost use Rattle.thin_world.specs.Shown.{event_value, MayCome};
 ghost use Rattle.schedule_text.specs.Fitting.{Fits};
 ghost use Rattle.schedule_text.specs.TextLines.{lines_of};
 ghost use Rattle.basil_cli.specs.Parts.{replay_of, Did, Called, Rounded, Ran};
@@ -11,13 +11,13 @@ ghost use Rattle.basil_cli.specs.Replay.{line_step, step, run_lines, round_of, p
 
 use basil_types::bytes::Bytes;
 use basil_types::memory::NoMemory;
-use cluster_world::event::{Event, Waiting, WorldFault};
-use cluster_world::world::World;
 use schedule_text::laws::grammar_is_read;
 use schedule_text::line::{Line, LineFault};
 use schedule_text::lines::next_line;
 use schedule_text::reading::{LONGEST_LINE, is_header, read_line};
 use std::alloc::{AllocError, AllocFailed, Global};
+use thin_world::event::{Event, Waiting, WorldFault};
+use thin_world::world::World;
 
 /// Why a replay goes no further.
 #[derive(Clone, Copy)]

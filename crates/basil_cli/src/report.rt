@@ -8,7 +8,7 @@ ghost use Rattle.basil_types.specs.Replayed.{latest_of, put_writes, replay};
 ghost use Rattle.basil_types.specs.Shown.{transaction_of, write_of};
 ghost use Rattle.basil_types.specs.Transaction as transactions;
 ghost use Rattle.schedule_text.specs.Spelling.{key_word, value_word};
-ghost use Rattle.cluster_world.specs.Shown as shown;
+ghost use Rattle.thin_world.specs.Shown as shown;
 ghost use Rattle.basil_cli.specs.Report.{decided, fate_line, fate_lines, key_line, key_lines, end_line, report_of};
 
 use basil_types::bytes::{Bytes, id_of};
@@ -18,11 +18,11 @@ use basil_types::replayed::Latest;
 use basil_types::transaction::parts::WriteItem;
 use basil_types::transaction::{Transaction, TransactionView};
 use basil_types::version::Version;
-use cluster_world::world::World;
 use itoa::Buffer;
 use schedule_text::writing::{spell_key, spell_value};
 use std::alloc::Global;
 use std::collections::BTreeMap;
+use thin_world::world::World;
 use txn_meta::form::version_of;
 
 /// The report of a world's run, where its transactions have these names.

@@ -2,10 +2,10 @@
 
 use basil_types::cluster::Cluster;
 use basil_types::party::{Decision, Party};
-use cluster_world::event::{CallFault, Event, WorldFault};
-use cluster_world::world::World;
 use std::alloc::Global;
 use std::test::Fail;
+use thin_world::event::{CallFault, Event, WorldFault};
+use thin_world::world::World;
 
 const REPLICA: Party = Party::Replica { shard: 0, index: 0 };
 

@@ -1,13 +1,13 @@
 -- The plan of a call or of the answer to a frame is the plan of what was asked.
-use Rattle.std.proofs.Common.{ap}
-use Rattle.std.specs.Prelude.{IfOk, Result, Ok, Err}
+use Rattle.std.proofs.Common.{◌≡◌, true, false, ap, refl}
+use Rattle.std.specs.Prelude.{IfErr, IfOk, Result, Ok, Err}
 use Rattle.certificates.specs.declared.fault.FrameFault.{FrameFault}
 use Rattle.keyring.specs.Signing.{Signing}
 use Rattle.client_core.specs.declared.ask.AskFault.TheVariants.{Call, Frame}
 use Rattle.client_core.specs.declared.fault.CallFault.{CallFault}
 use Rattle.client_core.specs.declared.held.Held.{Held}
 use Rattle.client_core.specs.declared.work.ClientPlan.{ClientPlan}
-use Rattle.client_core.specs.Asks.{IsPlannedAsk, by_call, by_frame}
+use Rattle.client_core.specs.Asks.{IsPlannedAsk, by_call, by_frame, is_call_fault}
 use Rattle.client_core.specs.Clients.{ClientDone, ClientValue}
 use Rattle.client_core.specs.Receiving.{IsPlannedFrame}
 use Rattle.client_core.specs.Works.{IsPlanned}
@@ -29,3 +29,13 @@ call_if (Err e) P h = h
 pub frame_if : (r : Result ClientPlan FrameFault) (P : ClientPlan → Type 0) → IfOk r P → IfOk (by_frame r) P
 frame_if (Ok plan) P h = h
 frame_if (Err e) P h = h
+
+-- ---- the kind of a fault
+
+pub call_kind : (planned : Result ClientPlan CallFault) → IfErr (by_call planned) (λ e. is_call_fault e ≡ true)
+call_kind (Ok plan) = tt
+call_kind (Err fault) = refl
+
+pub frame_kind : (planned : Result ClientPlan FrameFault) → IfErr (by_frame planned) (λ e. is_call_fault e ≡ false)
+frame_kind (Ok plan) = tt
+frame_kind (Err fault) = refl

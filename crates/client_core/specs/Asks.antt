@@ -1,5 +1,5 @@
 -- What a client is asked to plan, and what it answers.
-use Rattle.std.specs.Prelude.{◌≡◌, ◌≢◌, ◌<◌, ℕ, Option, Some, None, Result, Ok, Err, length, ⊤}
+use Rattle.std.specs.Prelude.{◌≡◌, ◌≢◌, ◌<◌, ℕ, Bool, true, false, Option, Some, None, Result, Ok, Err, length, ⊤}
 use Rattle.certificates.specs.declared.fault.FrameFault.{FrameFault}
 use Rattle.certificates.specs.declared.fault.FrameFault.TheVariants as frames
 use Rattle.frame_views.specs.Fitting.{IsSignature}
@@ -25,6 +25,19 @@ CanBeAsked held (Settle slot) = slot < length held.slots.items
 CanBeAsked held (Recover t signature) = IsSignature signature.now
 CanBeAsked held (Invoke slot) = slot < length held.slots.items
 CanBeAsked held (Frame frame) = ⊤
+
+-- whether it is a call, and not a frame
+abbrev pub is_call : Ask → Bool
+is_call (Read slot key) = true
+is_call (Prepare slot) = true
+is_call (Settle slot) = true
+is_call (Recover t signature) = true
+is_call (Invoke slot) = true
+is_call (Frame frame) = false
+
+abbrev pub is_call_fault : AskFault → Bool
+is_call_fault (faults.Call fault) = true
+is_call_fault (faults.Frame fault) = false
 
 -- a call's fault or a frame's
 abbrev pub by_call : {A : Type 0} → Result A CallFault → Result A AskFault

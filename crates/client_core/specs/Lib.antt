@@ -24,3 +24,4 @@ pub mod Replying
 pub mod Taking
 pub mod Receiving
 pub mod Laws
+pub mod Letting

@@ -1,7 +1,8 @@
 //! A client: its calls, and its answers to frames.
 
-ghost use Rattle.std.specs.Prelude.{◌≡◌, ◌≤◌, ◌<◌, [], true, false, Some, OnErr, OnOk, IfOk, option_map, length, slice_get};
+ghost use Rattle.std.specs.Prelude.{◌≡◌, ◌≤◌, ◌<◌, [], true, false, Some, OnErr, OnOk, IfOk, IfSome, option_map, length, slice_get};
 ghost use Rattle.basil_types.specs.declared.party.Party.TheVariants as parties;
+ghost use Rattle.certificates.specs.Deciding.{HasGoodForm};
 ghost use Rattle.client_core.specs.Answers.{on_frame};
 ghost use Rattle.client_core.specs.Calls.{call_begin, call_prepare, call_read, call_write};
 ghost use Rattle.client_core.specs.Clients.{ClientDone, ClientValue, SlotValue, empty_client};
@@ -12,6 +13,7 @@ ghost use Rattle.client_core.specs.Receiving.{AnswersFrame};
 ghost use Rattle.client_core.specs.Seats.{self_at};
 ghost use Rattle.client_core.specs.Slots as slots;
 ghost use Rattle.client_core.specs.Works.{WillDo};
+ghost use Rattle.frame_views.specs.Fitting.{IsSignature};
 ghost use Rattle.node_steps.specs.Pens.{pen_value};
 
 use crate::append::append;
@@ -242,6 +244,15 @@ impl<V: Verifier, S: Signer> Client<V, S> {
         }
     }
 
+    /// How many transactions it holds, each in a slot of its own, from slot 0 on.
+    pub fn slots(&self) -> u32
+        ensures held { result ≡ length self.now.held.slots.items }
+        ensures shown { (v : ClientValue) →
+            Shows self.now.held (pen_value (S.spent self.now.pen) (S.left_of self.now.pen)) v → result ≡ length v.slots }
+    {
+        self.held.count()
+    }
+
     /// What a key gives to a transaction.
     pub fn value(&self, slot: u32, key: &[u8]) -> ReadState<'_>
         requires { slot < length self.now.held.slots.items }
@@ -255,9 +266,11 @@ impl<V: Verifier, S: Signer> Client<V, S> {
     /// The transaction in a slot, with its client's signature. None exactly before it is formed.
     pub fn formed(&self, slot: u32) -> Option<(&Transaction, &[u8])>
         requires { slot < length self.now.held.slots.items }
-        ensures { (v : ClientValue) (s : SlotValue) →
+        ensures parts { (v : ClientValue) (s : SlotValue) →
             Shows self.now.held (pen_value (S.spent self.now.pen) (S.left_of self.now.pen)) v →
             slice_get v.slots slot ≡ Some s → option_map shown_signed result ≡ slots.formed_in s }
+        ensures fits { IfSome result (λ x. IsSignature x.1.now) }
+        ensures form { IfSome result (λ x. HasGoodForm x.0.now) }
     {
         self.held.slots[slot as usize].formed_parts()
     }

@@ -2,6 +2,7 @@
 
 ghost use Rattle.std.specs.Prelude.{◌≡◌, ◌++◌};
 ghost use Rattle.client_core.specs.Clients.{ClientValue};
+ghost use Rattle.client_core.specs.Letting.{HoldsNothingBack, IsLetGo};
 ghost use Rattle.client_core.specs.Showing.{ShowsHeld};
 ghost use Rattle.client_core.specs.Works.{CanWork, Leaves, pending_bytes, pending_count, sealed_by, words_by};
 ghost use Rattle.node_steps.specs.Pendings.{Sends};
@@ -53,16 +54,25 @@ pub(crate) fn perform<S: Signer>(
     }
 }
 
-/// Lets go what a planned work holds back. Takes no memory.
-pub(crate) fn let_go(held: &mut Held, work: Work)
+/// Lets go what the transaction in a slot holds back, if there is that slot. Takes no memory.
+fn let_go_at(held: &mut Held, slot: usize)
     ensures shown { (v : ClientValue) → ShowsHeld held.old v → ShowsHeld held.new v }
+    ensures none { HoldsNothingBack held.new slot }
     ensures cluster { held.new.cluster ≡ held.old.cluster }
 {
-    let Work::Take { slot, .. } = work else {
-        return;
-    };
-    if slot >= held.slots.len() {
-        return;
+    if slot < held.slots.len() {
+        held.let_go(slot);
     }
-    held.let_go(slot);
+}
+
+/// Lets go what a planned work holds back. Takes no memory.
+pub(crate) fn let_go(held: &mut Held, work: &Work)
+    ensures shown { (v : ClientValue) → ShowsHeld held.old v → ShowsHeld held.new v }
+    ensures let_go { IsLetGo held.new work.now }
+    ensures cluster { held.new.cluster ≡ held.old.cluster }
+{
+    match work.takes_in() {
+        Some(slot) => let_go_at(held, slot),
+        None => {}
+    }
 }

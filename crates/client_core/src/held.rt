@@ -109,6 +109,9 @@ impl Slot {
 }
 
 impl Slot {
+    ghost use Rattle.std.specs.Prelude.{IfSome};
+    ghost use Rattle.certificates.specs.Deciding.{HasGoodForm};
+    ghost use Rattle.frame_views.specs.Fitting.{IsSignature};
     ghost use Rattle.client_core.specs.Forming.{shown_signed, started};
     ghost use Rattle.client_core.specs.Showing.{ShowsFormed};
     ghost use Rattle.client_recover.specs.Pursuits.{signed_part};
@@ -126,8 +129,10 @@ impl Slot {
 
     /// The formed transaction and its client's signature.
     pub(crate) fn formed_parts(&self) -> Option<(&Transaction, &[u8])>
-        ensures { (p : Option PursuitValue) → ShowsFormed self.now.formed p →
+        ensures parts { (p : Option PursuitValue) → ShowsFormed self.now.formed p →
             option_map shown_signed result ≡ option_map signed_part p }
+        ensures fits { IfSome result (λ x. IsSignature x.1.now) }
+        ensures form { IfSome result (λ x. HasGoodForm x.0.now) }
     {
         match &self.formed {
             Some(formed) => {
@@ -165,6 +170,13 @@ impl Held {
     ghost use Rattle.client_core.specs.Showing.{Answers, SameHeld, ShowsHeld};
     ghost use Rattle.client_core.specs.Works.{HasSlotRoom};
     ghost use Rattle.node_steps.specs.Pens.{PenValue};
+
+    /// How many transactions it has.
+    pub(crate) fn count(&self) -> u32
+        ensures { result ≡ length self.now.slots.items }
+    {
+        self.slots.len() as u32
+    }
 
     /// Nothing is held.
     pub(crate) fn new(alloc: Global, cluster: Cluster) -> Held

@@ -14,7 +14,7 @@ mod formed;
 mod held;
 mod invoking;
 pub mod laws;
-mod ordered;
+pub mod ordered;
 mod planned;
 mod preparing;
 mod pursuing;

@@ -6,20 +6,29 @@ ghost use Rattle.client_core.specs.Placing.{placed, IsWithin};
 
 use crate::asking::Asking;
 use basil_types::memory::NoMemory;
-use basil_types::transaction::parts::WritePart;
+use basil_types::transaction::parts::{ReadPart, WritePart};
 use std::cmp::Ordering;
 
 /// What stands in a list that ascends by key.
-pub(crate) trait Keyed {
+pub trait Keyed {
     // The key.
     ghost key_of: { Self → List ℕ };
 
+    /// The key, by which lists ascend.
     fn key(&self) -> &[u8]
         ensures { result.now ≡ key_of self.now };
 }
 
 impl Keyed for WritePart {
     ghost key_of = { λ w. w.key };
+
+    fn key(&self) -> &[u8] {
+        self.key.as_slice()
+    }
+}
+
+impl Keyed for ReadPart {
+    ghost key_of = { λ r. r.key };
 
     fn key(&self) -> &[u8] {
         self.key.as_slice()
@@ -71,7 +80,7 @@ pub(crate) fn put_reserved<T: Keyed + Drop>(items: &mut Vec<T>, item: T)
 }
 
 /// Puts an item into its place, or finds memory wanting and leaves the list as it was.
-pub(crate) fn put_in<T: Keyed + Drop>(items: &mut Vec<T>, item: T) -> Result<(), NoMemory>
+pub fn put_in<T: Keyed + Drop>(items: &mut Vec<T>, item: T) -> Result<(), NoMemory>
     ensures put { OnOk result (items.new.items ≡ put (by_key T.key_of) item items.old.items) }
     ensures as_before { OnErr result (items.new.items ≡ items.old.items) }
 {

@@ -1,9 +1,10 @@
 //! A client's calls in two halves: planned, and then done or given up.
 
-ghost use Rattle.std.specs.Prelude.{◌≡◌, IfOk, length};
-ghost use Rattle.client_core.specs.Asks.{CanBeAsked, IsPlannedAsk, answer_to, by_call, by_frame, slot_of};
+ghost use Rattle.std.specs.Prelude.{◌≡◌, IfErr, IfOk, length};
+ghost use Rattle.client_core.specs.Asks.{CanBeAsked, IsPlannedAsk, answer_to, by_call, by_frame, is_call, is_call_fault, slot_of};
 ghost use Rattle.client_core.specs.Clients.{ClientDone, ClientValue};
 ghost use Rattle.client_core.specs.Done.{CanCommit, IsSent, KeepsSlots, Shows};
+ghost use Rattle.client_core.specs.Letting.{IsLetGo};
 ghost use Rattle.client_core.specs.Seats.{self_at};
 ghost use Rattle.client_core.specs.Works.{WillDo, word_count};
 ghost use Rattle.node_steps.specs.Pendings.{bytes_sent};
@@ -54,6 +55,7 @@ impl<V: Verifier, S: Signer> Client<V, S> {
             Shows self.old.held (pen_value (S.spent self.old.pen) (S.left_of self.old.pen)) v →
             IsPlannedAsk (S.fixed self.old.pen) self.new.held v result
             (answer_to (self_at self.old.seat (V.accepted self.old.keys) (S.fixed self.old.pen)) v ask.entry) }
+        ensures kind { IfErr result (λ e. is_call_fault e ≡ is_call ask.entry) }
         ensures ready { IfOk result (CanCommit (S.fixed self.new.pen)
             (pen_value (S.spent self.new.pen) (S.left_of self.new.pen)) self.new.held) }
         ensures slot { (v : ClientValue) →
@@ -118,11 +120,13 @@ impl<V: Verifier, S: Signer> Client<V, S> {
         ensures shown { (v : ClientValue) →
             Shows self.old.held (pen_value (S.spent self.old.pen) (S.left_of self.old.pen)) v →
             Shows self.new.held (pen_value (S.spent self.new.pen) (S.left_of self.new.pen)) v }
+        // The frame that it would take isn't held back any more.
+        ensures let_go { IsLetGo self.new.held plan.work }
         ensures keys { self.new.keys ≡ self.old.keys }
         ensures pen { self.new.pen ≡ self.old.pen }
         ensures seat { self.new.seat ≡ self.old.seat }
         ensures slots { KeepsSlots self.old.held self.new.held }
     {
-        let_go(&mut self.held, plan.work);
+        let_go(&mut self.held, &plan.work);
     }
 }

@@ -1,6 +1,7 @@
 //! What a planned call or frame does.
 
 ghost use Rattle.std.specs.Prelude.{◌≡◌, ◌+◌, IfSome, length};
+ghost use Rattle.client_core.specs.Letting.{takes_in};
 ghost use Rattle.client_core.specs.Works.{pending_bytes, pending_count, word_count};
 ghost use Rattle.node_steps.specs.Pendings.{bytes_sent};
 
@@ -98,6 +99,21 @@ impl Work {
             | Work::Hold { .. }
             | Work::Reply { .. }
             | Work::Take { .. } => Some(0),
+        }
+    }
+
+    /// The slot in which a frame is held back that it takes. None where it takes none.
+    pub(crate) fn takes_in(&self) -> Option<usize>
+        ensures { result ≡ takes_in self.now }
+    {
+        match self {
+            Work::Take { slot, .. } => Some(*slot),
+            Work::Nothing
+            | Work::Ask { .. }
+            | Work::Pursue { .. }
+            | Work::Start { .. }
+            | Work::Hold { .. }
+            | Work::Reply { .. } => None,
         }
     }
 

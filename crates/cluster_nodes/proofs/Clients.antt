@@ -1,11 +1,17 @@
 -- A client of a run that is asked.
-use Rattle.std.proofs.Common.{◌≡◌, ℕ, Bool, true, false, List, Ok, Err, map, refl, sym, ap, subst, ◌∙◌}
-use Rattle.std.specs.Prelude.{◌≢◌, Result, IfOk, nat_le, ◌&&◌}
+use Rattle.std.proofs.Common.{◌≡◌, ◌<◌, ◌≤◌, ℕ, zero, suc, Bool, true, false, List, [], ◌∷◌, Ok, Err, length, map, refl, sym, ap, subst, ◌∙◌, arith}
+use Rattle.std.proofs.lemmas.Bool.{leb-false, leb-true}
+use Rattle.std.proofs.lemmas.Option.{same_Some}
+use Rattle.std.specs.Prelude.{◌≢◌, Result, IfOk, Option, Some, None, nat_le, slice_get, ◌&&◌}
+use Rattle.basil_types.specs.declared.transaction.parts.WritePart.{WritePart}
+use Rattle.node_steps.specs.Refusing.{unless}
+use Rattle.client_core.specs.Calls.{by_slot, call_write, invoke_by, prepare_done, prepare_fault, read_at, settle_by, write_done, write_fault}
+use Rattle.client_core.specs.declared.ask.Ask.TheVariants as asks
 use Rattle.basil_types.specs.declared.memory.NoMemory.{NoMemory}
 use Rattle.basil_types.specs.declared.outbox.Outbox.{Outbox}
 use Rattle.basil_types.specs.declared.party.Party.TheVariants as parties
 use Rattle.certificates.specs.declared.fault.FrameFault.TheVariants as frames
-use Rattle.client_core.specs.Clients.{ClientDone, ClientSelf, ClientValue}
+use Rattle.client_core.specs.Clients.{ClientDone, ClientSelf, ClientValue, SlotValue, quiet}
 use Rattle.client_core.specs.declared.ask.AskFault.{AskFault}
 use Rattle.client_core.specs.declared.ask.AskFault.TheVariants.{Call, Frame}
 use Rattle.client_core.specs.declared.fault.CallFault.TheVariants as calls
@@ -13,7 +19,7 @@ use Rattle.client_core.specs.declared.client.Client.{Client}
 use Rattle.client_core.specs.declared.held.Held.{Held}
 use Rattle.client_core.specs.declared.seat.Seat.{Seat}
 use Rattle.client_core.specs.declared.work.ClientPlan.{ClientPlan}
-use Rattle.client_core.specs.Asks.{IsPlannedAsk, answer_to}
+use Rattle.client_core.specs.Asks.{CanBeAsked, IsPlannedAsk, answer_to, by_call}
 use Rattle.client_core.specs.declared.ask.Ask.{Ask}
 use Rattle.client_core.specs.Done.{CanCommit, IsSent, Shows}
 use Rattle.client_core.specs.Seats.{self_at}
@@ -29,7 +35,7 @@ use Rattle.cluster_nodes.specs.declared.calling.StandingClient.{StandingClient}
 use Rattle.cluster_nodes.specs.declared.handled.Handled.{Handled}
 use Rattle.cluster_nodes.specs.declared.handled.Handled.TheVariants.{Refused, Full, Sent}
 use Rattle.message_pool.specs.declared.pool.Room.{Room}
-use Rattle.cluster_nodes.specs.Asking.{Answers, IsAnswered, RefusesAsk}
+use Rattle.cluster_nodes.specs.Asking.{Answers, HasSignature, IsAnswered, RefusesAsk, slot_named}
 use Rattle.cluster_nodes.specs.Handling.{Holds, fits}
 use Rattle.cluster_nodes.specs.Sizes.{ClientPlansTell, Counts, GivesItsSize}
 use Rattle.cluster_nodes.specs.Standings.{HoldsAs}
@@ -155,3 +161,75 @@ module _ {V S : Type 0} (v : verifiers.Ghosts V) (g : signers.Ghosts S) (s : Set
       answers_sent tell old new mid.held room a plan out st k p.answer (can_by old mid a plan p) has
       (does c p.answer.0 p.shown
       (subst (λ (q : S). WillDo (g.fixed q) mid.held c plan p.answer.0) (sym p.pen) p.answer.2))
+
+-- ---- slots that aren't held
+
+beyond : {A : Type 0} (xs : List A) (i : ℕ) → length xs ≤ i → slice_get xs i ≡ None
+beyond [] i h = refl
+beyond (x ∷ xs) zero h = absurd (omega arith)
+beyond (x ∷ xs) (suc i) h = beyond xs i (omega arith)
+
+-- the call on a slot that isn't held changes nothing
+pub write_lacks : (c : ClientValue) (slot : ℕ) (w : WritePart) (count : ℕ) → count ≡ length c.slots → count ≤ slot →
+    call_write c slot w ≡ Ok (quiet c)
+write_lacks c slot w count same h =
+    ap (by_slot c (λ x. unless (write_fault x w) (write_done c slot w x)))
+    (beyond c.slots slot (subst (λ n. n ≤ slot) same h))
+
+lacks_by : (me : ClientSelf) (c : ClientValue) (ask : Ask) (slot : ℕ) → slot_named ask ≡ Some slot → length c.slots ≤ slot →
+    answer_to me c ask ≡ Ok (quiet c)
+lacks_by me c (asks.Read place key) slot e h =
+    ap (λ o. by_call (by_slot c (read_at me c place key.now) o))
+    (beyond c.slots place (subst (λ n. length c.slots ≤ n) (sym (same_Some place slot e)) h))
+lacks_by me c (asks.Prepare place) slot e h =
+    ap (λ o. by_call (by_slot c (λ x. unless (prepare_fault me c x) (prepare_done me c place x)) o))
+    (beyond c.slots place (subst (λ n. length c.slots ≤ n) (sym (same_Some place slot e)) h))
+lacks_by me c (asks.Settle place) slot e h =
+    ap (λ o. by_call (by_slot c (λ x. settle_by me c place x x.pursuit) o))
+    (beyond c.slots place (subst (λ n. length c.slots ≤ n) (sym (same_Some place slot e)) h))
+lacks_by me c (asks.Recover t signature) slot e h = absurd cc
+lacks_by me c (asks.Invoke place) slot e h =
+    ap (λ o. by_call (by_slot c (λ x. invoke_by me c x.pursuit) o))
+    (beyond c.slots place (subst (λ n. length c.slots ≤ n) (sym (same_Some place slot e)) h))
+lacks_by me c (asks.Frame frame) slot e h = absurd cc
+
+pub ask_lacks : (me : ClientSelf) (c : ClientValue) (ask : Ask) (slot count : ℕ) → slot_named ask ≡ Some slot → count ≡ length c.slots →
+    nat_le count slot ≡ true → answer_to me c ask ≡ Ok (quiet c)
+ask_lacks me c ask slot count e same h =
+    lacks_by me c ask slot e (subst (λ n. n ≤ slot) same (leb-true count slot h))
+
+can_named : (held : Held) (ask : Ask) (slot : ℕ) → slot_named ask ≡ Some slot → slot < length held.slots.items → HasSignature ask →
+    CanBeAsked held ask
+can_named held (asks.Read place key) slot e h k = subst (λ n. n < length held.slots.items) (sym (same_Some place slot e)) h
+can_named held (asks.Prepare place) slot e h k = subst (λ n. n < length held.slots.items) (sym (same_Some place slot e)) h
+can_named held (asks.Settle place) slot e h k = subst (λ n. n < length held.slots.items) (sym (same_Some place slot e)) h
+can_named held (asks.Recover t signature) slot e h k = k
+can_named held (asks.Invoke place) slot e h k = subst (λ n. n < length held.slots.items) (sym (same_Some place slot e)) h
+can_named held (asks.Frame frame) slot e h k = tt
+
+pub ask_can : (held : Held) (ask : Ask) (slot count : ℕ) → slot_named ask ≡ Some slot → count ≡ length held.slots.items →
+    nat_le count slot ≡ false → HasSignature ask → CanBeAsked held ask
+ask_can held ask slot count e same h k = can_named held ask slot e (subst (λ n. slot < n) same (leb-false count slot h)) k
+
+pub nameless_can : (held : Held) (ask : Ask) → slot_named ask ≡ None → HasSignature ask → CanBeAsked held ask
+nameless_can held (asks.Read place key) e k = absurd cc
+nameless_can held (asks.Prepare place) e k = absurd cc
+nameless_can held (asks.Settle place) e k = absurd cc
+nameless_can held (asks.Recover t signature) e k = k
+nameless_can held (asks.Invoke place) e k = absurd cc
+nameless_can held (asks.Frame frame) e k = tt
+
+-- ---- slots that are held
+
+pub here : {A : Type 0} (xs : List A) (i : ℕ) → i < length xs → (x : A) × (slice_get xs i ≡ Some x)
+here [] i h = absurd (omega arith)
+here (x ∷ xs) zero h = (x, refl)
+here (x ∷ xs) (suc i) h = here xs i (omega arith)
+
+pub there_is : (c : ClientValue) (slot count : ℕ) → count ≡ length c.slots → nat_le count slot ≡ false →
+    (x : SlotValue) × (slice_get c.slots slot ≡ Some x)
+there_is c slot count same h = here c.slots slot (subst (λ n. slot < n) same (leb-false count slot h))
+
+pub nothing_there : (c : ClientValue) (slot count : ℕ) → count ≡ length c.slots → nat_le count slot ≡ true →
+    slice_get c.slots slot ≡ None
+nothing_there c slot count same h = beyond c.slots slot (subst (λ n. n ≤ slot) same (leb-true count slot h))

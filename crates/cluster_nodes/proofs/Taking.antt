@@ -1,5 +1,5 @@
 -- What a planned answer is, under the room of a pool.
-use Rattle.std.proofs.Common.{◌≡◌, ◌+◌, ◌<◌, ℕ, Bool, true, false, List, [], ◌∷◌, ◌++◌, Ok, Err, length, map, refl, sym, ap, subst, ◌∙◌, arith}
+use Rattle.std.proofs.Common.{◌≡◌, ◌+◌, ◌<◌, ◌≤◌, ℕ, Bool, true, false, List, [], ◌∷◌, ◌++◌, Ok, Err, length, map, refl, sym, ap, subst, ◌∙◌, arith}
 use Rattle.std.specs.Prelude.{Result, nat_le, ◌&&◌}
 use Rattle.basil_types.specs.declared.outbox.Envelope.{Envelope}
 use Rattle.basil_types.specs.declared.party.Party.{Party}
@@ -18,7 +18,10 @@ use Rattle.replica_core.specs.Replicas.{BookValue, Done, LoggedEntry, ReplicaSel
 use Rattle.replica_core.specs.Telling.{Told, told, told_of}
 use Rattle.replica_laws.specs.Steps.{Handed, PlacesNeverRepeat, Spends, left_by, signed_in}
 use Rattle.message_pool.specs.declared.pool.Room.{Room}
-use Rattle.cluster_nodes.specs.Handling.{fits}
+use Rattle.basil_types.specs.declared.outbox.Outbox.{Outbox}
+use Rattle.cluster_nodes.specs.Handling.{HasRoom, fits}
+use Rattle.std.proofs.Math.Dec.{leb-zero}
+use Rattle.std.proofs.lemmas.Bool.{leb-true}
 use Rattle.cluster_nodes.specs.Sizes.{Counts, GivesItsSize}
 
 -- ---- what is shown
@@ -97,3 +100,22 @@ pub gives_after : PlacesNeverRepeat → (me : ReplicaSelf) (h : Handed) (book : 
     answer me h.now h.from book h.frame ≡ Ok d → GivesItsSize signing book.pen → GivesItsSize signing d.book.pen
 gives_after places me h book d signing e =
     gives_then signing book d.book (length (d.signed ++ [])) (one_step places me h book d e)
+
+-- ---- room
+
+both : (a b : Bool) → (a && b) ≡ true → (a ≡ true) × (b ≡ true)
+both true b h = (refl, h)
+both false b h = absurd cc
+
+pub within_by : (room : Room) (out : Outbox) (messages bytes : ℕ) → length out.messages.items ≡ messages →
+    bytes_sent out.messages.items ≡ bytes → (nat_le messages room.messages && nat_le bytes room.bytes) ≡ true → HasRoom room out
+within_by room out messages bytes count size h =
+    let k = both (nat_le messages room.messages) (nat_le bytes room.bytes) h in
+    record {
+      messages = subst (λ n. n ≤ room.messages) (sym count) (leb-true messages room.messages k.0);
+      bytes = subst (λ n. n ≤ room.bytes) (sym size) (leb-true bytes room.bytes k.1);
+    }
+
+-- there is room for nothing
+pub nothing_fits : (room : Room) → fits room [] ≡ true
+nothing_fits room = ap (λ b. b && nat_le 0 room.bytes) (leb-zero room.messages) ∙ leb-zero room.bytes

@@ -1,12 +1,16 @@
 -- What a client that is asked comes to, under the room of a pool.
-use Rattle.std.specs.Prelude.{◌≡◌, ◌≢◌, ℕ, ⊤, Bool, true, false, Result, Ok, Err}
+use Rattle.std.specs.Prelude.{◌≡◌, ◌≢◌, ℕ, ⊤, Bool, true, false, Option, Some, None, Result, Ok, Err}
 use Rattle.basil_types.specs.declared.memory.NoMemory.{NoMemory}
 use Rattle.certificates.specs.declared.fault.FrameFault.TheVariants as frames
+use Rattle.client_core.specs.Asks.{is_call, is_call_fault}
 use Rattle.client_core.specs.Clients.{ClientDone, ClientValue}
+use Rattle.client_core.specs.declared.ask.Ask.{Ask}
+use Rattle.client_core.specs.declared.ask.Ask.TheVariants as asks
 use Rattle.client_core.specs.declared.ask.AskFault.{AskFault}
 use Rattle.client_core.specs.declared.ask.AskFault.TheVariants.{Call, Frame}
 use Rattle.client_core.specs.declared.fault.CallFault.{CallFault}
 use Rattle.client_core.specs.declared.fault.CallFault.TheVariants as calls
+use Rattle.frame_views.specs.Fitting.{IsSignature}
 use Rattle.keyring.specs.declared.verifier.Verifier as verifiers
 use Rattle.keyring.specs.declared.signer.Signer as signers
 use Rattle.cluster_run.specs.States.{Setup}
@@ -17,10 +21,34 @@ use Rattle.message_pool.specs.declared.pool.Room.{Room}
 use Rattle.cluster_nodes.specs.Handling.{Holds, fits}
 use Rattle.cluster_nodes.specs.Standings.{HoldsAs}
 
+-- a signature that is given has a good length
+abbrev pub HasSignature : Ask → Type 0
+HasSignature (asks.Read slot key) = ⊤
+HasSignature (asks.Prepare slot) = ⊤
+HasSignature (asks.Settle slot) = ⊤
+HasSignature (asks.Recover t signature) = IsSignature signature.now
+HasSignature (asks.Invoke slot) = ⊤
+HasSignature (asks.Frame frame) = ⊤
+
+-- the slot that is named
+abbrev pub slot_named : Ask → Option ℕ
+slot_named (asks.Read slot key) = Some slot
+slot_named (asks.Prepare slot) = Some slot
+slot_named (asks.Settle slot) = Some slot
+slot_named (asks.Recover t signature) = None
+slot_named (asks.Invoke slot) = Some slot
+slot_named (asks.Frame frame) = None
+
 -- it is refused, and not for want of memory
 pub record IsAnswered (fault : AskFault) : Type 0 where
   pub call : fault ≢ Call calls.NoMemory
   pub frame : fault ≢ Frame frames.NoMemory
+
+-- a call is refused by a call's fault, and a frame by a frame's
+abbrev pub IsOfKind : Ask → Handled AskFault → Type 0
+IsOfKind ask (Refused fault) = is_call_fault fault ≡ is_call ask
+IsOfKind ask Full = ⊤
+IsOfKind ask (Sent out) = ⊤
 
 -- a fault is told as it is, unless memory was wanting
 abbrev pub RefusesAsk : AskFault → Result (Handled AskFault) NoMemory → Type 0

@@ -1,5 +1,5 @@
 -- What a node that is handed a frame comes to, under the room of a pool.
-use Rattle.std.specs.Prelude.{◌≡◌, ◌&&◌, Bool, true, false, List, length, map, nat_le, Result, Ok, Err}
+use Rattle.std.specs.Prelude.{◌≡◌, ◌≤◌, ◌&&◌, ⊤, Bool, true, false, List, length, map, nat_le, Result, Ok, Err}
 use Rattle.basil_types.specs.declared.memory.NoMemory.{NoMemory}
 use Rattle.basil_types.specs.declared.outbox.Envelope.{Envelope}
 use Rattle.basil_types.specs.declared.outbox.Outbox.{Outbox}
@@ -27,6 +27,16 @@ fits room sent =
 pub record Holds (out : Outbox) (mail : List EnvelopeValue) (said : List SignedWords) : Type 0 where
   pub messages : out.messages.items ≡ map framed mail
   pub signed : out.signed.items ≡ map words_of said
+
+-- what is sent has room
+pub record HasRoom (room : Room) (out : Outbox) : Type 0 where
+  pub messages : length out.messages.items ≤ room.messages
+  pub bytes : bytes_sent out.messages.items ≤ room.bytes
+
+abbrev pub IsWithin : {E : Type 0} → Room → Handled E → Type 0
+IsWithin room (Refused e) = ⊤
+IsWithin room Full = ⊤
+IsWithin room (Sent out) = HasRoom room out
 
 -- it is as answered: refused, or done where what is sent has room; else, and where memory is wanting, all is as it was
 abbrev pub Takes : {V S : Type 0} {v : verifiers.Ghosts V} {g : signers.Ghosts S} →

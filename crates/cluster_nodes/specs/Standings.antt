@@ -1,5 +1,5 @@
 -- The nodes of a run, as code holds them.
-use Rattle.std.specs.Prelude.{◌≡◌, ℕ}
+use Rattle.std.specs.Prelude.{◌≡◌, ◌==◌, ◌&&◌, ℕ, Bool}
 use Rattle.basil_types.specs.declared.party.Party.{Party}
 use Rattle.basil_types.specs.declared.party.Party.TheVariants as parties
 use Rattle.certificates.specs.Accepted.{Accepted}
@@ -33,6 +33,11 @@ pub record StandsAs {V S : Type 0} {v : verifiers.Ghosts V} {g : signers.Ghosts 
   pub moment : node.moment ≡ x.moment
   pub book : Shows node.replica.parts (pen_value (g.spent node.replica.pen) (g.left_of node.replica.pen)) x.book
   pub sized : GivesItsSize (s.kit.signing (parties.Replica x.shard x.index)) x.book.pen
+
+-- whether it is the replica of this index of this shard
+abbrev pub at_place : {V S : Type 0} {v : verifiers.Ghosts V} {g : signers.Ghosts S} → (shard index : ℕ) →
+    StandingReplica V S v g → Bool
+at_place shard index node = (node.shard == shard) && (node.index == index)
 
 -- a client of this number that holds this, with a pen of one size
 pub record HoldsAs {V S : Type 0} {v : verifiers.Ghosts V} {g : signers.Ghosts S} (s : Setup) (number : ℕ)

@@ -1,12 +1,11 @@
 //! A replica of a run.
 
-ghost use Rattle.std.specs.Prelude.{◌≡◌, ◌<◌};
+ghost use Rattle.std.specs.Prelude.{◌≡◌, ◌<◌, IfOk};
 ghost use Rattle.basil_types.specs.declared.party.Party.TheVariants as parties;
 ghost use Rattle.cluster_run.specs.Parts.{replica_self};
+ghost use Rattle.cluster_run.specs.States as states;
 ghost use Rattle.cluster_run.specs.States.{Setup, Standing, first_standing};
 ghost use Rattle.replica_core.specs.Answers.{answer};
-ghost use Rattle.cluster_nodes.specs.Handling.{Takes};
-ghost use Rattle.cluster_nodes.specs.Standings.{IsOf, StandsAs};
 ghost use Rattle.node_steps.specs.Pens.{pen_value};
 ghost use Rattle.quorum_laws.specs.Numbers.{replicas};
 
@@ -35,9 +34,16 @@ pub struct Place {
 pub struct StandingReplica<V: Verifier, S: Signer> {
     pub(crate) replica: Replica<V, S>,
     pub(crate) moment: u64,
+    shard: u8,
+    index: u8,
+    ghost home: { replica.seat.home.shard ≡ shard },
+    ghost own: { replica.seat.index ≡ index },
 }
 
 impl<V: Verifier, S: Signer> StandingReplica<V, S> {
+    ghost use Rattle.cluster_nodes.specs.Handling.{IsWithin, Takes};
+    ghost use Rattle.cluster_nodes.specs.Standings.{IsOf, StandsAs, at_place};
+
     /// A replica at its place of a cluster, with its clock at this moment, before its first frame. Takes no memory.
     pub fn new(alloc: Global, seat: Place, moment: u64, keys: V, signer: S) -> StandingReplica<V, S>
         requires shard { seat.shard < seat.cluster.shards }
@@ -56,7 +62,17 @@ impl<V: Verifier, S: Signer> StandingReplica<V, S> {
         StandingReplica {
             replica: Replica::new(alloc, cluster, shard, index, keys, signer),
             moment,
+            shard,
+            index,
         }
+    }
+
+    /// Whether it is the replica of this index of this shard.
+    pub fn is_at(&self, shard: u8, index: u8) -> bool
+        ensures place { result ≡ at_place shard index self.now }
+        ensures stands { (s : Setup) (x : Standing) → StandsAs s self.now x → result ≡ states.is_at shard index x }
+    {
+        self.shard == shard && self.index == index
     }
 
     /// Sets the clock.
@@ -75,7 +91,8 @@ impl<V: Verifier, S: Signer> StandingReplica<V, S> {
         from: Party,
         frame: &[u8],
     ) -> Result<Handled<Refusal>, NoMemory>
-        ensures { (s : Setup) (x : Standing) → StandsAs s self.old x →
+        ensures within { IfOk result (IsWithin room) }
+        ensures answer { (s : Setup) (x : Standing) → StandsAs s self.old x →
             Takes s x room (answer (replica_self s x.shard x.index) x.moment from x.book frame.now) result self.new }
     {
         plans_tell();

@@ -1,5 +1,6 @@
 -- A breach that ends a run is real.
 use Rattle.node_steps.specs.Refusing.{unless_refused}
+use Rattle.client_core.specs.declared.fault.CallFault.TheVariants as call
 use Rattle.cluster_run.proofs.Members.{any_of}
 use Rattle.std.proofs.Common.{◌≡◌, ℕ, Bool, true, false, cond, not, ◌&&◌, ◌||◌, List, [], ◌∷◌, ◌++◌, Option, Some, None, refl, sym, ap}
 use Rattle.std.proofs.Common.{subst, ◌∙◌, inl, inr, append-nil, append_assoc}
@@ -9,7 +10,7 @@ use Rattle.std.specs.List.{list_any}
 use Rattle.std.specs.Option.{option_map_or}
 use Rattle.std.specs.Str.{bytes_eq}
 use Rattle.std.proofs.lemmas.Bool.{and_parts, and_from}
-use Rattle.basil_types.specs.Built.{or_else}
+use Rattle.basil_types.specs.Built.{key_fits, or_else, write_fits}
 use Rattle.basil_types.specs.Id.{id_of}
 use Rattle.basil_types.specs.Steps.{◌>>=◌}
 use Rattle.basil_types.specs.declared.party.Party.{Party}
@@ -23,7 +24,7 @@ use Rattle.client_core.specs.declared.fault.CallFault.{CallFault}
 use Rattle.client_core.specs.Answers.{on_frame}
 use Rattle.client_core.specs.Calls.{call_begin, call_read, call_write, call_prepare, call_settle, call_recover, call_invoke}
 use Rattle.client_core.specs.Clients.{ClientValue, ClientDone}
-use Rattle.client_core.specs.Slots.{slot_of_id}
+use Rattle.client_core.specs.Slots.{put_write, slot_of_id}
 use Rattle.certificates.specs.declared.fault.FrameFault.{FrameFault}
 use Rattle.frame_views.specs.declared.fault.BadFrame.{BadFrame}
 use Rattle.frame_views.specs.Signed.{SignedBy}
@@ -305,18 +306,21 @@ module _ (s : Setup) where
       by true bad = stay P st _ bad same refl
       by false bad = begins_with P client time (client_at st client) st same bad
 
-  unformed : (P : Result State Broken → Type 0) (b : BegunValue) (answer : Result State WorldFault) → Comes P answer →
-      Comes P (unless_formed b answer)
-  unformed P b answer h = by (is_some b.formed)
+  unformed : (P : Result State Broken → Type 0) (b : BegunValue) (fits : Bool) (answer : Result State WorldFault) → Comes P answer →
+      Comes P (unless_formed b fits answer)
+  unformed P b fits answer h = by (is_some b.formed) fits
     where
-      by : (x : Bool) → Comes P (cond x (Err (fault.Call Rattle.client_core.specs.declared.fault.CallFault.TheVariants.NotOpen)) answer)
-      by true = tt
-      by false = h
+      by : (x y : Bool) → Comes P (cond x (Err (fault.Call call.NotOpen)) (cond y answer (Err (fault.Call call.SizeOut))))
+      by true y = tt
+      by false true = h
+      by false false = tt
 
   claims : (P : Result State Broken → Type 0) (tx : ℕ) (key : List ℕ) (v : Option Version) (b : BegunValue) (st : State) → st.watch.faulty
       ≡ s.faulty → Wants P st [] → Comes P (claims_at tx key v b st)
   claims P tx key None b st same bad = stay P st st bad same refl
-  claims P tx key (Some v) b st same bad = unformed P b _ (stay P st _ bad same refl)
+  claims P tx key (Some v) b st same bad =
+      let next = set_begun tx (record b { reads = put_claim (record { key = key; version = v; dependency = false }) b.reads }) st in
+      unformed P b (key_fits key) (Ok next) (stay P st next bad same refl)
 
   prepared : (P : Result State Broken → Type 0) (tx : ℕ) (b : BegunValue) (slot : ℕ) (r : Result ClientDone CallFault) (st : State) →
       st.watch.faulty ≡ s.faulty → Wants P st (call_words b.client r) → Comes P (prepared_by s tx b slot r st)
@@ -410,7 +414,7 @@ module _ (s : Setup) where
       of_tx P tx (writes_at s tx w) (λ b. slot_words b (λ slot. client_words b.client (λ c. call_write c slot w) st)) st same bad
       (λ b bad. maybe P b.slot (λ slot. by_client s b.client (λ c. call_write c slot w) st)
       (λ slot. client_words b.client (λ c. call_write c slot w) st) _ st bad
-      (λ slot bad. by_clients P b.client (λ c. call_write c slot w) st same bad) (λ bad. unformed P b _ (stay P st _ bad same refl)))
+      (λ slot bad. by_clients P b.client (λ c. call_write c slot w) st same bad) (λ bad. unformed P b (write_fits w) _ (stay P st (set_begun tx (record b { writes = put_write w b.writes }) st) bad same refl)))
   events (event.Claim tx key None) st same P sight bad =
       plain P (slice_get st.begun tx) (λ b. claims_at tx key (Some genesis) b st) st same bad
       (λ b. claims P tx key (Some genesis) b st same bad)

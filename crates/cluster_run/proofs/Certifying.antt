@@ -20,7 +20,8 @@ use Rattle.certificates.specs.Refusals.{decision_of, refusal}
 use Rattle.basil_types.specs.declared.party.Decision.{Decision}
 use Rattle.basil_types.specs.declared.party.Decision.TheVariants.{Commit, Abort}
 use Rattle.client_core.specs.declared.fault.CallFault.{CallFault}
-use Rattle.client_core.specs.declared.fault.CallFault.TheVariants.{NotOpen}
+use Rattle.client_core.specs.declared.fault.CallFault.TheVariants.{NotOpen, SizeOut}
+use Rattle.basil_types.specs.Built.{key_fits, write_fits}
 use Rattle.client_core.specs.Answers.{on_frame}
 use Rattle.client_core.specs.Calls.{call_begin, call_read, call_write, call_prepare}
 use Rattle.client_core.specs.Clients.{ClientValue, ClientDone}
@@ -162,13 +163,14 @@ module _ (s : Setup) (P : List PairValue → Type 0)
   begins_by client time None st k = k
   begins_by client time (Some c) st k = called_fine client (call_begin c time) _ k
 
-  unless_fine : (b : BegunValue) (answer : Result State WorldFault) → Fine answer → Fine (unless_formed b answer)
-  unless_fine b answer k = if_fine (is_some b.formed) (Err (fault.Call NotOpen)) answer tt k
+  unless_fine : (b : BegunValue) (fits : Bool) (answer : Result State WorldFault) → Fine answer → Fine (unless_formed b fits answer)
+  unless_fine b fits answer k =
+      if_fine (is_some b.formed) (Err (fault.Call NotOpen)) _ tt (if_fine fits answer (Err (fault.Call SizeOut)) k tt)
 
   claims_fine : (tx : ℕ) (key : List ℕ) (v : Option Version) (b : BegunValue) (st : State) → P st.certified →
       Fine (claims_at tx key v b st)
   claims_fine tx key None b st k = k
-  claims_fine tx key (Some v) b st k = unless_fine b (Ok _) k
+  claims_fine tx key (Some v) b st k = unless_fine b (key_fits key) (Ok _) k
 
   prepared_fine : (tx : ℕ) (b : BegunValue) (slot : ℕ) (r : Result ClientDone CallFault) (st : State) → P st.certified →
       Fine (prepared_by s tx b slot r st)
@@ -221,8 +223,8 @@ module _ (s : Setup) (P : List PairValue → Type 0)
       (λ slot. call_fine b.client (λ c. call_read (client_self s b.client) c slot key) st k) k)
   happens_fine (event.Write tx w) st k =
       tx_fine tx (writes_at s tx w) st k
-      (λ b. maybe_fine b.slot (λ slot. by_client s b.client (λ c. call_write c slot w) st) (unless_formed b (Ok _))
-      (λ slot. call_fine b.client (λ c. call_write c slot w) st k) (unless_fine b (Ok _) k))
+      (λ b. maybe_fine b.slot (λ slot. by_client s b.client (λ c. call_write c slot w) st) (unless_formed b (write_fits w) (Ok _))
+      (λ slot. call_fine b.client (λ c. call_write c slot w) st k) (unless_fine b (write_fits w) (Ok _) k))
   happens_fine (event.Claim tx key None) st k =
       tx_fine tx (claims_at tx key (Some genesis)) st k (λ b. claims_fine tx key (Some genesis) b st k)
   happens_fine (event.Claim tx key (Some writer)) st k =

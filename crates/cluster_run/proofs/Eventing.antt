@@ -11,6 +11,7 @@ use Rattle.basil_types.specs.declared.version.Version.{Version}
 use Rattle.basil_types.specs.declared.transaction.parts.WritePart.{WritePart}
 use Rattle.basil_types.specs.Transaction.{id}
 use Rattle.basil_types.specs.Version.{genesis}
+use Rattle.client_core.specs.declared.fault.CallFault.TheVariants as call
 use Rattle.client_core.specs.declared.fault.CallFault.{CallFault}
 use Rattle.client_core.specs.declared.fault.CallFault.TheVariants.{NotPrepared}
 use Rattle.client_core.specs.Calls.{call_begin, call_read, call_write, call_prepare, call_settle, call_recover, call_invoke}
@@ -137,21 +138,21 @@ module _ (law : Laws) (s : Setup) (ok : IsSetup s) where
       (λ slot k. by_client_keeps b.client (λ c. call_read (client_self s b.client) c slot key) st t inv
       (λ c d e. law.clients_sign.at_read (client_self s b.client) c slot key d e) k) h
 
-  formed_keeps : (b : BegunValue) (answer : Result State WorldFault) (t : State) → (answer ≡ Ok t → Inv s t) → unless_formed b answer
-      ≡ Ok t → Inv s t
-  formed_keeps b answer t f h = by (Rattle.std.specs.Prelude.is_some b.formed) h
+  formed_keeps : (b : BegunValue) (fits : Bool) (answer : Result State WorldFault) (t : State) → (answer ≡ Ok t → Inv s t) →
+      unless_formed b fits answer ≡ Ok t → Inv s t
+  formed_keeps b fits answer t f h = by (Rattle.std.specs.Prelude.is_some b.formed) fits h
     where
-      by : (x : Bool) → cond x (Err (fault.Call Rattle.client_core.specs.declared.fault.CallFault.TheVariants.NotOpen)) answer ≡ Ok t →
-          Inv s t
-      by true h = absurd cc
-      by false h = f h
+      by : (x y : Bool) → cond x (Err (fault.Call call.NotOpen)) (cond y answer (Err (fault.Call call.SizeOut))) ≡ Ok t → Inv s t
+      by true y h = absurd cc
+      by false true h = f h
+      by false false h = absurd cc
 
   writes_keeps : (tx : ℕ) (w : WritePart) (b : BegunValue) (st t : State) → Inv s st → writes_at s tx w b st ≡ Ok t → Inv s t
   writes_keeps tx w b st t inv h =
       let next = set_begun tx (record b { writes = Rattle.client_core.specs.Slots.put_write w b.writes }) st in
-      or_keeps b.slot (λ slot. by_client s b.client (λ c. call_write c slot w) st) (unless_formed b (Ok next)) t
+      or_keeps b.slot (λ slot. by_client s b.client (λ c. call_write c slot w) st) (unless_formed b _ (Ok next)) t
       (λ slot k. by_client_keeps b.client (λ c. call_write c slot w) st t inv (λ c d e. law.clients_sign.at_write c slot w d e) k)
-      (λ k. formed_keeps b (Ok next) t (λ j. stay_keeps law s ok next t (set_keeps tx _ st inv) (Ok next) refl j) k) h
+      (λ k. formed_keeps b _ (Ok next) t (λ j. stay_keeps law s ok next t (set_keeps tx _ st inv) (Ok next) refl j) k) h
 
   claims_keeps : (tx : ℕ) (key : List ℕ) (v : Option Version) (b : BegunValue) (st t : State) → Inv s st → claims_at tx key v b st ≡ Ok t →
       Inv s t
@@ -162,7 +163,7 @@ module _ (law : Laws) (s : Setup) (ok : IsSetup s) where
         reads = Rattle.cluster_run.specs.Events.put_claim
             (record { key = key; version = v; dependency = false }) b.reads;
       }) st in
-      formed_keeps b (Ok next) t (λ j. stay_keeps law s ok next t (set_keeps tx _ st inv) (Ok next) refl j) h
+      formed_keeps b _ (Ok next) t (λ j. stay_keeps law s ok next t (set_keeps tx _ st inv) (Ok next) refl j) h
 
   -- ---- prepare
 

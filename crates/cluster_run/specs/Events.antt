@@ -1,9 +1,9 @@
 -- Events, what each does, and the fold over a list of them.
-use Rattle.std.specs.Prelude.{ℕ, ◌-◌, List, [], ◌∷◌, ◌++◌, false, ◌&&◌, ◌==◌, Option, Some, None, option_map, option_and_then, Result, Ok, Err, slice_get, slice_set, length, is_some, nat_lt, if◌then◌else◌}
+use Rattle.std.specs.Prelude.{ℕ, ◌-◌, List, [], ◌∷◌, ◌++◌, Bool, false, ◌&&◌, ◌==◌, Option, Some, None, option_map, option_and_then, Result, Ok, Err, slice_get, slice_set, length, is_some, nat_lt, if◌then◌else◌}
 use Rattle.std.specs.Option.{option_map_or}
 use Rattle.node_steps.specs.Lists.{by_key, put}
 use Rattle.node_steps.specs.Refusing.{unless_refused}
-use Rattle.basil_types.specs.Built.{built}
+use Rattle.basil_types.specs.Built.{built, key_fits, write_fits}
 use Rattle.basil_types.specs.Steps.{◌>>=◌}
 use Rattle.basil_types.specs.declared.party.Party.{Party}
 use Rattle.basil_types.specs.declared.party.Party.TheVariants.{Replica, Client}
@@ -15,7 +15,7 @@ use Rattle.basil_types.specs.Version.{genesis}
 use Rattle.basil_types.specs.Transaction.{id, version_of, key_of_read}
 use Rattle.basil_types.specs.Words.{TransactionWords}
 use Rattle.client_core.specs.declared.fault.CallFault.{CallFault}
-use Rattle.client_core.specs.declared.fault.CallFault.TheVariants.{NotOpen, TooMany, Empty, NotPrepared}
+use Rattle.client_core.specs.declared.fault.CallFault.TheVariants.{NotOpen, TooMany, SizeOut, Empty, NotPrepared}
 use Rattle.client_core.specs.Calls.{most_keys, call_begin, call_read, call_write, call_prepare, call_settle, call_recover, call_invoke}
 use Rattle.client_core.specs.Clients.{ClientValue, ClientDone, SlotValue}
 use Rattle.client_recover.specs.Taken.{PursuitValue}
@@ -108,13 +108,15 @@ abbrev pub reads_at : Setup → List ℕ → BegunValue → State → Result Sta
 reads_at s key b st =
     option_map_or (λ slot. by_client s b.client (λ c. call_read (client_self s b.client) c slot key) st) b.slot (Ok st)
 
-abbrev pub unless_formed : BegunValue → Result State WorldFault → Result State WorldFault
-unless_formed b answer = if is_some b.formed then Err (fault.Call NotOpen) else answer
+-- what is added to a faulty client's transaction has a good size
+abbrev pub unless_formed : BegunValue → (fits : Bool) → Result State WorldFault → Result State WorldFault
+unless_formed b fits answer =
+    if is_some b.formed then Err (fault.Call NotOpen) else if fits then answer else Err (fault.Call SizeOut)
 
 abbrev pub writes_at : Setup → ℕ → WritePart → BegunValue → State → Result State WorldFault
 writes_at s tx w b st =
     option_map_or (λ slot. by_client s b.client (λ c. call_write c slot w) st) b.slot
-    (unless_formed b (Ok (set_begun tx (record b { writes = put_write w b.writes }) st)))
+    (unless_formed b (write_fits w) (Ok (set_begun tx (record b { writes = put_write w b.writes }) st)))
 
 abbrev pub put_claim : ReadPart → List ReadPart → List ReadPart
 put_claim r reads = put (by_key key_of_read) r reads
@@ -128,7 +130,7 @@ abbrev pub claims_at : ℕ → List ℕ → Option Version → BegunValue → St
 claims_at tx key None b st = Ok st
 claims_at tx key (Some v) b st =
     let read : ReadPart = record { key = key; version = v; dependency = false } in
-    unless_formed b (Ok (set_begun tx (record b { reads = put_claim read b.reads }) st))
+    unless_formed b (key_fits key) (Ok (set_begun tx (record b { reads = put_claim read b.reads }) st))
 
 -- ---- prepare
 

@@ -27,7 +27,7 @@ use Rattle.txn_meta.specs.Places.{involved, log_shard, leader_of}
 use Rattle.txn_table.specs.Entries.{same_party}
 use Rattle.cluster_run.specs.declared.fault.WorldFault.{WorldFault}
 use Rattle.cluster_run.specs.declared.fault.WorldFault.TheVariants as fault
-use Rattle.cluster_run.specs.States.{Setup, Posted, State, FormedValue}
+use Rattle.cluster_run.specs.States.{Setup, is_faulty, Posted, State, FormedValue}
 use Rattle.cluster_run.specs.Parts.{Mail, enter, mail_of}
 
 -- ---- signing
@@ -43,8 +43,9 @@ faulty_signature s st p words = (s.kit.signing p).gives ((s.kit.pen p).spent + s
 abbrev pub after_lie : State → Party → SignedWords → State
 after_lie st p words = record st { lied = st.lied ++ record { party = p; words = words } ∷ [] }
 
+-- a faulty party that has a signature left
 abbrev pub has_left : Setup → State → Party → Bool
-has_left s st p = nat_lt (spent_by st p) (s.kit.pen p).left
+has_left s st p = is_faulty s p && nat_lt (spent_by st p) (s.kit.pen p).left
 
 -- what a faulty party is to sign, and to send with that signature
 pub record LieValue : Type 0 where

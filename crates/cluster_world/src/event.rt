@@ -1,101 +1,126 @@
-//! What may happen in a run, and why a call is refused.
+//! The events of a run.
 
-use basil_types::memory::NoMemory;
-use basil_types::party::Party;
-use std::alloc::{AllocError, AllocFailed};
+use basil_types::party::{Decision, Party};
 
-/// One event of a run: a call of a client, or a message that is delivered.
-/// `tx` is a transaction's number, from 0, in the order of the `Begin` events that answered Ok; of one that isn't begun
-/// nothing happens.
+/// An event of a run. Transactions are numbered from 0 as they begin, messages from 1 as they enter the pool.
 #[derive(Clone, Copy)]
 pub enum Event<'a> {
-    /// A client, 1 to 16, begins a transaction.
+    /// A client begins a transaction of this time.
     Begin {
         client: u8,
         time: u64,
     },
-    /// The transaction's client gives a key a value; the last write or deletion of a key counts.
+    /// A correct client reads a key.
+    Read {
+        tx: u32,
+        key: &'a [u8],
+    },
+    /// A client writes a key.
     Write {
         tx: u32,
         key: &'a [u8],
         value: &'a [u8],
     },
-    /// The transaction's client deletes a key.
+    /// A client deletes a key.
     Delete {
         tx: u32,
         key: &'a [u8],
     },
-    /// The transaction is formed and signed, and sent to every replica of its shards.
+    /// A faulty client claims to have read a key at the version of a formed transaction, or at genesis.
+    Claim {
+        tx: u32,
+        key: &'a [u8],
+        writer: Option<u32>,
+    },
+    /// A client forms and signs a transaction, and sends it.
     Prepare {
         tx: u32,
     },
-    /// A message, from 1, is handed to its receiver; also again. Of a message that isn't there nothing happens.
+    /// A correct client starts the second stage of a transaction that it holds.
+    Settle {
+        tx: u32,
+        client: u8,
+    },
+    /// A correct client recovers a transaction.
+    Recover {
+        tx: u32,
+        client: u8,
+    },
+    /// A correct client invokes the fallback of a transaction that it holds.
+    Invoke {
+        tx: u32,
+        client: u8,
+    },
+    /// A message is delivered: its receiver is handed these bytes.
     Deliver {
         message: u64,
-        to: Party,
+        given: &'a [u8],
     },
-}
-
-/// A message that is neither delivered nor lost, and its receiver.
-#[derive(Clone, Copy)]
-pub struct Waiting {
-    pub message: u64,
-    pub to: Party,
-}
-
-/// Why a client refuses a call; the first that holds, in the order of these numbers.
-#[derive(Clone, Copy, Debug, PartialEq, Eq)]
-pub enum CallFault {
-    /// 1: the time isn't above the client's last one, which is 0 at first.
-    TimeNotAbove(u64),
-    /// 2: the transaction is formed already.
-    NotOpen,
-    /// 3: a 33rd key.
-    TooMany,
-    /// 4: a key that isn't 1 to 64 bytes, or a value above 256.
-    SizeOut,
-    /// 6: no write.
-    Empty,
-}
-
-/// Why a world refuses an event.
-#[derive(Clone, Copy, Debug, PartialEq, Eq)]
-pub enum WorldFault {
-    /// The client refuses the call, and the world is as before.
-    Call(CallFault),
-    /// Memory is wanting, and the world has ended.
-    NoMemory,
-}
-
-impl From<NoMemory> for WorldFault {
-    ghost use Rattle.std.specs.Prelude.{◌≡◌};
-    ghost use Rattle.cluster_world.specs.declared.event.WorldFault.TheVariants.{NoMemory};
-
-    ghost from_gives = { λ _ e. e ≡ NoMemory };
-
-    fn from(_refused: NoMemory) -> WorldFault {
-        WorldFault::NoMemory
-    }
-}
-
-impl From<AllocError> for WorldFault {
-    ghost use Rattle.std.specs.Prelude.{◌≡◌};
-    ghost use Rattle.cluster_world.specs.declared.event.WorldFault.TheVariants.{NoMemory};
-
-    ghost from_gives = { λ _ e. e ≡ NoMemory };
-
-    fn from(_refused: AllocError) -> WorldFault {
-        WorldFault::NoMemory
-    }
-}
-
-impl<T: Drop> From<AllocFailed<T>> for WorldFault {
-    ghost use Rattle.std.specs.Prelude.{◌≡◌};
-    ghost use Rattle.cluster_world.specs.declared.event.WorldFault.TheVariants.{NoMemory};
-
-    ghost from_gives = { λ _ e. e ≡ NoMemory };
-
-    fn from(_refused: AllocFailed<T>) -> WorldFault {
-        WorldFault::NoMemory
-    }
+    /// A message is lost.
+    Lose {
+        message: u64,
+    },
+    /// Another party is handed these bytes as a message.
+    Divert {
+        message: u64,
+        to: Party,
+        given: &'a [u8],
+    },
+    /// A replica's clock is set.
+    Clock {
+        shard: u8,
+        replica: u8,
+        moment: u64,
+    },
+    /// A faulty replica votes.
+    Vote {
+        shard: u8,
+        replica: u8,
+        tx: u32,
+        decision: Decision,
+        client: u8,
+    },
+    /// A faulty client's second stage goes to a replica of the log shard.
+    Second {
+        tx: u32,
+        decision: Decision,
+        replica: u8,
+    },
+    /// A faulty replica's log reply goes to a client.
+    Logged {
+        shard: u8,
+        replica: u8,
+        tx: u32,
+        decision: Decision,
+        decided: u64,
+        current: u64,
+        client: u8,
+    },
+    /// A faulty replica's election word goes to the leader of a view.
+    Elect {
+        shard: u8,
+        replica: u8,
+        tx: u32,
+        decision: Decision,
+        view: u64,
+    },
+    /// A faulty replica's proposal goes to a replica of its shard.
+    Decide {
+        shard: u8,
+        replica: u8,
+        tx: u32,
+        decision: Decision,
+        view: u64,
+        to: u8,
+    },
+    /// A frame enters the pool.
+    Raw {
+        from: Party,
+        to: Party,
+        frame: &'a [u8],
+    },
+    /// A frame is shown to nobody.
+    Show {
+        frame: &'a [u8],
+    },
 }

@@ -1,14 +1,18 @@
-//! A simulated cluster: its events, the state that a list of events leads to, and why every such state is safe.
-//!
-//! This first world has one shard of one replica, plain keys, and nodes that only write and delete.
+//! A world: the nodes of a cluster, the messages between them, and what was seen of them.
 #![tactic(auto)]
 
-mod certificate;
-mod client;
+pub mod asking;
+pub mod building;
+pub mod calls;
+pub mod engine;
 pub mod event;
-mod events;
-pub mod laws;
-mod replica;
-mod state;
+pub mod fault;
+pub mod lying;
+pub mod messages;
+pub mod preparing;
+pub mod sending;
+pub mod step;
+pub mod taking;
+pub mod telling;
 pub mod world;
-mod writes;
+pub mod written;

@@ -30,7 +30,7 @@ pub struct Replica<V: Verifier, S: Signer> {
 }
 
 impl<V: Verifier, S: Signer> Replica<V, S> {
-    ghost use Rattle.std.specs.Prelude.{◌≡◌, ◌<◌, [], IfOk, OnErr, length, option_map};
+    ghost use Rattle.std.specs.Prelude.{◌≡◌, ◌<◌, [], None, IfOk, OnErr, length, option_map};
     ghost use Rattle.basil_types.specs.declared.party.Party.TheVariants as parties;
     ghost use Rattle.node_steps.specs.Pendings.{bytes_sent};
     ghost use Rattle.quorum_laws.specs.Numbers.{replicas};
@@ -127,6 +127,8 @@ impl<V: Verifier, S: Signer> Replica<V, S> {
     /// Lets a plan go: what the replica shows is what it was before the plan. Takes no memory.
     pub fn give_up(&mut self, plan: Plan)
         ensures same { ShowsSame self.old.parts self.new.parts }
+        // No word is held back.
+        ensures let_go { self.new.parts.leading.next ≡ None }
         ensures keys { self.new.keys ≡ self.old.keys }
         ensures pen { self.new.pen ≡ self.old.pen }
         ensures seat { self.new.seat ≡ self.old.seat }

@@ -1,4 +1,4 @@
-//! Tests of the watch over frames of an independent program, and of the faulty parties.
+//! Tests of the watch and of the sight of a run over frames of an independent program, and of the faulty parties.
 #![tactic(auto)]
 
 #[cfg(test)]
@@ -7,5 +7,7 @@ mod frames;
 mod parties;
 #[cfg(test)]
 mod seen;
+#[cfg(test)]
+mod sights;
 #[cfg(test)]
 mod undone;

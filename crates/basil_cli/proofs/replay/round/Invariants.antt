@@ -1,6 +1,6 @@
 use Rattle.std.proofs.Common.{◌≡◌, false, map, drop}
-use Rattle.cluster_world.specs.Run.{Delivers, run}
-use Rattle.cluster_world.specs.declared.event.Waiting.{Waiting}
+use Rattle.thin_world.specs.Run.{Delivers, run}
+use Rattle.thin_world.specs.declared.event.Waiting.{Waiting}
 use Rattle.basil_cli.specs.Replay.{round_of}
 use Rattle.basil_cli.proofs.replay.round.Given as goal
 

@@ -1,16 +1,16 @@
-use Rattle.std.proofs.Common.{◌≡◌, ◌∙◌, Result, sym, subst}
-use Rattle.std.specs.Prelude.{IfOk}
+use Rattle.std.proofs.Common.{◌≡◌, ◌∙◌, Result, true, false, sym, subst}
+use Rattle.std.specs.Prelude.{IfErr, IfOk}
 use Rattle.client_core.specs.declared.ask.Ask.{Ask}
 use Rattle.client_core.specs.declared.ask.Ask.TheVariants as asks
 use Rattle.client_core.specs.declared.ask.AskFault.{AskFault}
 use Rattle.client_core.specs.declared.work.ClientPlan.{ClientPlan}
 use Rattle.client_core.specs.Answers.{on_frame}
-use Rattle.client_core.specs.Asks.{IsPlannedAsk, answer_to, by_call, by_frame, slot_of}
+use Rattle.client_core.specs.Asks.{IsPlannedAsk, is_call, is_call_fault, answer_to, by_call, by_frame, slot_of}
 use Rattle.node_steps.specs.Pens.{pen_value}
 use Rattle.client_core.specs.Done.{CanCommit}
 use Rattle.client_core.specs.Calls.{call_invoke, call_prepare, call_read, call_recover, call_settle}
 use Rattle.client_core.specs.Seats.{self_at}
-use Rattle.client_core.proofs.AskLaws.{call_asked, call_if, frame_asked, frame_if}
+use Rattle.client_core.proofs.AskLaws.{call_asked, call_if, call_kind, frame_asked, frame_if, frame_kind}
 use Rattle.client_core.proofs.ShownLaws.{call_ready, frame_ready, kept_count, still_shown}
 use Rattle.client_core.proofs.client.Client.plan.Goals as goal
 
@@ -227,3 +227,33 @@ pub returns-in-Frame-clause-slots : goal.returns-in-Frame-clause-slots
 returns-in-Frame-clause-slots g c =
     let me = c.args.self.now in
     kept_count me.held c.plan_frame.new.held (pen_value (g.S.Signer.spent me.pen) (g.S.Signer.left_of me.pen)) c.plan_frame.ensures.shown me.shown
+
+pub returns-in-Read-clause-kind : goal.returns-in-Read-clause-kind
+returns-in-Read-clause-kind g c =
+    subst (λ (a : Ask). IfErr c.call_planned.result (λ e. is_call_fault e ≡ is_call a)) (sym c.in-Read.is)
+    (subst (λ (r : Result ClientPlan AskFault). IfErr r (λ e. is_call_fault e ≡ true)) (sym c.call_planned.ensures) (call_kind c.plan_read.result))
+
+pub returns-in-Prepare-clause-kind : goal.returns-in-Prepare-clause-kind
+returns-in-Prepare-clause-kind g c =
+    subst (λ (a : Ask). IfErr c.call_planned-in-Prepare.result (λ e. is_call_fault e ≡ is_call a)) (sym c.in-Prepare.is)
+    (subst (λ (r : Result ClientPlan AskFault). IfErr r (λ e. is_call_fault e ≡ true)) (sym c.call_planned-in-Prepare.ensures) (call_kind c.plan_prepare.result))
+
+pub returns-in-Settle-clause-kind : goal.returns-in-Settle-clause-kind
+returns-in-Settle-clause-kind g c =
+    subst (λ (a : Ask). IfErr c.call_planned-in-Settle.result (λ e. is_call_fault e ≡ is_call a)) (sym c.in-Settle.is)
+    (subst (λ (r : Result ClientPlan AskFault). IfErr r (λ e. is_call_fault e ≡ true)) (sym c.call_planned-in-Settle.ensures) (call_kind c.plan_settle.result))
+
+pub returns-in-Recover-clause-kind : goal.returns-in-Recover-clause-kind
+returns-in-Recover-clause-kind g c =
+    subst (λ (a : Ask). IfErr c.call_planned-in-Recover.result (λ e. is_call_fault e ≡ is_call a)) (sym c.in-Recover.is)
+    (subst (λ (r : Result ClientPlan AskFault). IfErr r (λ e. is_call_fault e ≡ true)) (sym c.call_planned-in-Recover.ensures) (call_kind c.plan_recover.result))
+
+pub returns-in-Invoke-clause-kind : goal.returns-in-Invoke-clause-kind
+returns-in-Invoke-clause-kind g c =
+    subst (λ (a : Ask). IfErr c.call_planned-in-Invoke.result (λ e. is_call_fault e ≡ is_call a)) (sym c.in-Invoke.is)
+    (subst (λ (r : Result ClientPlan AskFault). IfErr r (λ e. is_call_fault e ≡ true)) (sym c.call_planned-in-Invoke.ensures) (call_kind c.plan_invoke.result))
+
+pub returns-in-Frame-clause-kind : goal.returns-in-Frame-clause-kind
+returns-in-Frame-clause-kind g c =
+    subst (λ (a : Ask). IfErr c.frame_planned.result (λ e. is_call_fault e ≡ is_call a)) (sym c.in-Frame.is)
+    (subst (λ (r : Result ClientPlan AskFault). IfErr r (λ e. is_call_fault e ≡ false)) (sym c.frame_planned.ensures) (frame_kind c.plan_frame.result))

@@ -1,47 +1,12 @@
-use Rattle.std.proofs.Common.{refl, ◌∙◌, ap}
-use Rattle.client_core.specs.Asks.{answer_to}
-use Rattle.cluster_run.specs.Parts.{client_self}
-use Rattle.cluster_nodes.proofs.Clients.{full_by, planned_here, sent_by, still_holds}
-use Rattle.cluster_nodes.proofs.Taking.{asked}
+use Rattle.client_core.specs.Clients.{quiet}
+use Rattle.cluster_nodes.proofs.Taking.{nothing_fits}
 use Rattle.cluster_nodes.proofs.calling.StandingClient.take.Goals as goal
 
-pub returns-then-has : goal.returns-then-has
-returns-then-has g c s number client st =
-    sent_by g.V.Verifier g.S.Signer s number client c.client_plans_tell.ensures c.args.self.now _ c.plan.new.self c.args.room
-    (answer_to (client_self s number) client c.args.ask)
-    c.in-Ok.plan c.commit.result st
-    (record {
-      keys = c.commit.ensures.keys ∙ c.plan.ensures.keys;
-      seat = c.commit.ensures.seat ∙ c.plan.ensures.seat;
-      fixed = c.commit.ensures.fixed ∙ ap g.S.Signer.fixed c.plan.ensures.pen;
-    })
-    (record {
-      answer = planned_here g.V.Verifier g.S.Signer s number client c.args.self.now c.plan.new.self.held c.in-Ok.plan c.args.ask st
-          (c.in-Ok.ensures.answer client st.shows);
-      ready = c.in-Ok.ensures.ready;
-      shown = c.plan.ensures.shown client st.shows;
-      pen = c.plan.ensures.pen;
-    })
-    c.commit.ensures.done
-    (asked c.args.room c.in-Ok.plan.messages c.in-Ok.plan.bytes _ _ _ _ c.messages.ensures c.bytes.ensures c.has.ensures c.if-has.true)
-
-pub returns-else-has : goal.returns-else-has
-returns-else-has g c s number client st =
-    full_by g.V.Verifier g.S.Signer s number client c.client_plans_tell.ensures c.args.self.now _ c.plan.new.self c.args.room
-    (answer_to (client_self s number) client c.args.ask)
-    c.in-Ok.plan st
-    (still_holds g.V.Verifier g.S.Signer s number client c.args.self.now _
-    (record {
-      keys = c.give_up.ensures.keys ∙ c.plan.ensures.keys;
-      seat = c.give_up.ensures.seat ∙ c.plan.ensures.seat;
-      fixed = ap g.S.Signer.fixed (c.give_up.ensures.pen ∙ c.plan.ensures.pen);
-    })
-    st (c.give_up.ensures.shown client (c.plan.ensures.shown client st.shows)))
-    (record {
-      answer = planned_here g.V.Verifier g.S.Signer s number client c.args.self.now c.plan.new.self.held c.in-Ok.plan c.args.ask st
-          (c.in-Ok.ensures.answer client st.shows);
-      ready = c.in-Ok.ensures.ready;
-      shown = c.plan.ensures.shown client st.shows;
-      pen = c.plan.ensures.pen;
-    })
-    (asked c.args.room c.in-Ok.plan.messages c.in-Ok.plan.bytes _ _ _ _ c.messages.ensures c.bytes.ensures c.has.ensures c.if-has.false)
+pub returns-then-lacks-clause-answer : goal.returns-then-lacks-clause-answer
+returns-then-lacks-clause-answer g c = λ s number client st. (
+  quiet client,
+  c.lacks.ensures.lacking s number client st c.if-lacks.true,
+  nothing_fits c.args.room,
+  record { messages = c.outbox.ensures.messages; signed = c.outbox.ensures.signed },
+  st,
+)

@@ -1,10 +1,10 @@
 use Rattle.std.proofs.Common.{refl, ◌∙◌, ap}
 use Rattle.cluster_nodes.proofs.Replicas.{full_by, sent_by, still_stands}
-use Rattle.cluster_nodes.proofs.Taking.{asked, shows_on}
+use Rattle.cluster_nodes.proofs.Taking.{within_by, asked, shows_on}
 use Rattle.cluster_nodes.proofs.standing.StandingReplica.take.Goals as goal
 
-pub returns-then-has : goal.returns-then-has
-returns-then-has g c s x st =
+pub returns-then-has-clause-answer : goal.returns-then-has-clause-answer
+returns-then-has-clause-answer g c s x st =
     sent_by g.V.Verifier g.S.Signer s x c.plans_tell.ensures c.places_never_repeat.ensures c.args.self.now _ c.plan.new.self c.args.from
     c.args.frame.now c.args.room c.in-Ok.plan c.commit.result st
     (record {
@@ -24,8 +24,8 @@ returns-then-has g c s x st =
     c.commit.ensures.done
     (asked c.args.room c.in-Ok.plan.messages c.in-Ok.plan.bytes _ _ _ _ c.messages.ensures c.bytes.ensures c.has.ensures c.if-has.true)
 
-pub returns-else-has : goal.returns-else-has
-returns-else-has g c s x st =
+pub returns-else-has-clause-answer : goal.returns-else-has-clause-answer
+returns-else-has-clause-answer g c s x st =
     full_by g.V.Verifier g.S.Signer s x c.plans_tell.ensures c.args.self.now _ c.plan.new.self c.args.from c.args.frame.now
     c.args.room c.in-Ok.plan st
     (still_stands g.V.Verifier g.S.Signer s x c.args.self.now _
@@ -47,3 +47,8 @@ returns-else-has g c s x st =
       seat = c.plan.ensures.seat;
     })
     (asked c.args.room c.in-Ok.plan.messages c.in-Ok.plan.bytes _ _ _ _ c.messages.ensures c.bytes.ensures c.has.ensures c.if-has.false)
+
+pub returns-then-has-clause-within : goal.returns-then-has-clause-within
+returns-then-has-clause-within g c =
+    within_by c.args.room c.commit.result c.in-Ok.plan.messages c.in-Ok.plan.bytes c.commit.ensures.messages c.commit.ensures.bytes
+    (asked c.args.room c.in-Ok.plan.messages c.in-Ok.plan.bytes _ _ _ _ c.messages.ensures c.bytes.ensures c.has.ensures c.if-has.true)

@@ -1,15 +1,12 @@
-use Rattle.std.proofs.Common.{ap, ◌∙◌}
-use Rattle.cluster_world.specs.World.{WorldValue}
-use Rattle.cluster_world.proofs.Runs.{is_run_after, stands_after, is_run_safe}
+use Rattle.std.proofs.Common.{◌∙◌, sym}
+use Rattle.std.proofs.Math.Logic.{∥∥₁_map}
+use Rattle.cluster_world.specs.EventValues.{event_value}
+use Rattle.cluster_world.proofs.WorldLaws.{ran_on}
 use Rattle.cluster_world.proofs.world.World.step.Goals as goal
 
 pub invariant_of-self : goal.invariant_of-self
-invariant_of-self c going =
-    is_run_after _ _ _ _ _ _ c.in-Ok.ensures.cluster (c.self.invariant going) c.in-Ok.ensures.state
-
-pub returns-in-Ok-clause-stands : goal.returns-in-Ok-clause-stands
-returns-in-Ok-clause-stands c = stands_after _ _ _ _ _ _ _ _ c.self.view_is c.in-Ok.ensures.cluster c.in-Ok.ensures.state
-
-pub returns-in-Ok-clause-safe : goal.returns-in-Ok-clause-safe
-returns-in-Ok-clause-safe c =
-    is_run_safe _ _ _ (is_run_after _ _ _ _ _ _ c.in-Ok.ensures.cluster (c.self.invariant (ap (λ (w : WorldValue). w.ended) c.self.view_is ∙ c.requires.going)) c.in-Ok.ensures.state)
+invariant_of-self g c = record {
+  ran = λ e. ∥∥₁_map (c.args.self.now.ran c.requires)
+      (ran_on g.K.Keys.Verifier g.K.Pen.Signer c.step-done.new.self c.args.self.now.core _ (event_value c.args.event) c.step-done.result
+      (c.is_sized.ensures) c.step-done.ensures (sym c.ends-self.ensures ∙ e));
+}

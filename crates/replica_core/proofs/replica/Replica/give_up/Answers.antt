@@ -19,3 +19,6 @@ invariant_of-self g c =
         kept = ap (λ (l : LeadingValue). l.kept) c.give_up.ensures;
       }));
     }
+
+pub returns-clause-let_go : goal.returns-clause-let_go
+returns-clause-let_go g c = ap (λ (l : LeadingValue). l.next) c.give_up.ensures

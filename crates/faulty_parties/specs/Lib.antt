@@ -1,0 +1,9 @@
+pub mod Sizes
+pub mod Unsaid
+pub mod Lies
+pub mod Pens
+pub mod Holding
+pub mod Fronts
+pub mod Hearing
+pub mod Heard
+pub mod Tallies

@@ -1,0 +1,14 @@
+//! The kits of a replay, where anybody can make the key of each party.
+#![tactic(auto)]
+
+mod kind;
+mod kit;
+mod lms;
+mod made;
+mod pen;
+mod ring;
+
+pub use kind::KitKind;
+pub use kit::ReplayKit;
+pub use pen::ReplayPen;
+pub use ring::ReplayRing;

@@ -1,0 +1,7 @@
+mod KeepLaws
+mod ProvenLaws
+mod PairLaws
+mod SightLaws
+mod NoteLaws
+mod BackLaws
+mod OrderLaws

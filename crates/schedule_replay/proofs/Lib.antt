@@ -1,0 +1,5 @@
+pub mod Fitting
+pub mod Joining
+pub mod Running
+pub mod Lines
+pub mod Stages

@@ -1,0 +1,280 @@
+-- Each stage of a schedule is sound: its replay is a run, with at most f faulty replicas of each shard.
+use Rattle.std.proofs.Common.{◌≡◌, ℕ, ◌+◌, ◌-◌, ◌^◌, Bool, true, false, List, [], ◌∷◌, ◌++◌, Option, Some, None, not, refl, sym, ap, subst, ◌∙◌, arith}
+use Rattle.std.specs.Prelude.{Result, Ok, Err, option_map, if◌then◌else◌}
+use Rattle.basil_types.specs.Built.{or_else}
+use Rattle.basil_types.specs.Setting.{Setting, IsSetting}
+use Rattle.basil_types.specs.Steps.{◌>>=◌}
+use Rattle.basil_types.specs.declared.party.Party.{Party}
+use Rattle.cluster_run.specs.Breaking.{RunsUpToABreachAreSafe}
+use Rattle.cluster_run.specs.Kits.{PlainKitsSign, LmsKitsSign}
+use Rattle.cluster_run.specs.Safety.{AreSigned, RunsAreSafe}
+use Rattle.cluster_run.specs.States.{KitValue, start}
+use Rattle.keyring_lms.specs.Replay.{is_party_of, replay_accepts, tree_in_replay}
+use Rattle.lms_sign.specs.Sets.{leaves_of}
+use Rattle.lms_sign.specs.declared.sets.LmsSet.{LmsSet}
+use Rattle.lms_sign.specs.declared.sets.LmsSet.TheVariants as sets
+use Rattle.node_steps.specs.Refusing.{when, unless}
+use Rattle.premise_watch.specs.Parties.{AreCounted, AreFew, can_join}
+use Rattle.premise_watch.specs.declared.broken.Broken.{Broken}
+use Rattle.schedule_text.specs.Fitting.{Fits, GrammarIsRead}
+use Rattle.schedule_text.specs.Reading.{line_at, is_skipped}
+use Rattle.schedule_text.specs.TextLines.{lines_of}
+use Rattle.schedule_text.specs.declared.line.KeysKind.{KeysKind}
+use Rattle.schedule_text.specs.declared.line.KeysKind.TheVariants.{Plain, W4H5, W4H10, W8H5, W8H10, Batch}
+use Rattle.schedule_text.specs.declared.line.Line.{Line}
+use Rattle.schedule_text.specs.declared.line.Line.TheVariants.{Header, Skipped, Faulty}
+use Rattle.schedule_text.specs.declared.line.LineFault.{LineFault}
+use Rattle.schedule_text.specs.declared.line.LineFault.TheVariants as line_fault
+use Rattle.schedule_replay.proofs.Fitting.{read_fits}
+use Rattle.schedule_replay.proofs.Joining.{joins_few}
+use Rattle.schedule_replay.proofs.Lines.{line_keeps, line_breaks}
+use Rattle.schedule_replay.proofs.Running.{between}
+use Rattle.schedule_replay.specs.Kits.{kit_of, plain_replay, lms_replay, fresh}
+use Rattle.schedule_replay.specs.Laws.{IsSound, IsReplayed, IsSafeReport, ReportsAreSafe, IsRealBreak, BreaksAreReal}
+use Rattle.schedule_replay.specs.Lines.{bad_line, line_step}
+use Rattle.schedule_replay.specs.Outcomes.{replay_of, outcome_of}
+use Rattle.schedule_replay.specs.Replays.{Opening, ReplayValue, first_replay, setup_of}
+use Rattle.schedule_replay.specs.Reports.{report}
+use Rattle.schedule_replay.specs.Stages.{Stage, Begins, Opens, Runs, opened, first_line, bad_first, faulty_reason, opening_line, read_line, stage_step, run_lines, ended}
+use Rattle.schedule_replay.specs.declared.fault.ReplayFault.{ReplayFault}
+use Rattle.schedule_replay.specs.declared.fault.ReplayFault.TheVariants as fault
+
+-- what the laws below tell
+pub record Laws : Type 0 where
+  pub grammar : GrammarIsRead
+  pub few : (c : Setting) (parties : List Party) → AreCounted c.f parties → AreFew c parties
+  pub plain : PlainKitsSign
+  pub lms : LmsKitsSign
+
+record IsOpening (o : Opening) (faulty : List Party) : Type 0 where
+  pub setting : IsSetting o.cluster
+  pub counted : AreCounted o.cluster.f faulty
+  pub signed : AreSigned o.kit
+
+abbrev IsStage : Stage → Type 0
+IsStage Begins = Unit {0}
+IsStage (Opens o faulty) = IsOpening o faulty
+IsStage (Runs r) = IsReplayed r
+
+module _ (laws : Laws) where
+  -- ---- openings
+
+  begins_replayed : (o : Opening) (faulty : List Party) → IsOpening o faulty → IsReplayed (first_replay o faulty)
+  begins_replayed o faulty i = record {
+    sound = record {
+      setup = record { setting = i.setting; few = laws.few o.cluster faulty i.counted };
+      signed = i.signed;
+    };
+    events = [];
+    sized = tt;
+    ends = refl;
+  }
+
+  lms_signs : (c : Setting) (set : LmsSet) → AreSigned (lms_replay c set)
+  lms_signs c set = laws.lms (replay_accepts c set) (tree_in_replay set) (λ _. 0) (λ _. fresh (leaves_of set))
+
+  kit_signs : (c : Setting) (keys : KeysKind) (kit : KitValue) → kit_of c keys ≡ Some kit → AreSigned kit
+  kit_signs c Plain kit h =
+      let same : plain_replay ≡ kit = cc in subst AreSigned same (laws.plain (λ _. fresh (2 ^ 64 - 1)))
+  kit_signs c W4H5 kit h = let same : lms_replay c sets.W4H5 ≡ kit = cc in subst AreSigned same (lms_signs c sets.W4H5)
+  kit_signs c W4H10 kit h = let same : lms_replay c sets.W4H10 ≡ kit = cc in subst AreSigned same (lms_signs c sets.W4H10)
+  kit_signs c W8H5 kit h = let same : lms_replay c sets.W8H5 ≡ kit = cc in subst AreSigned same (lms_signs c sets.W8H5)
+  kit_signs c W8H10 kit h = let same : lms_replay c sets.W8H10 ≡ kit = cc in subst AreSigned same (lms_signs c sets.W8H10)
+  kit_signs c Batch kit h = absurd cc
+
+  nobody : (f : ℕ) → AreCounted f []
+  nobody f shard = omega arith
+
+  opens : (number : ℕ) (c : Setting) (clock : ℕ) (journal : Bool) (kit : Option KitValue) (stage : Stage) → IsSetting c →
+      ((k : KitValue) → kit ≡ Some k → AreSigned k) → opened number c clock journal kit ≡ Ok stage → IsStage stage
+  opens number c clock true kit stage i signs h = absurd cc
+  opens number c clock false None stage i signs h = absurd cc
+  opens number c clock false (Some kit) stage i signs h =
+      let same : Opens (record { cluster = c; clock = clock; kit = kit }) [] ≡ stage = cc in
+      subst IsStage same (record { setting = i; counted = nobody c.f; signed = signs kit refl })
+
+  first_keeps : (number : ℕ) (line : Line) (stage : Stage) → Fits line → first_line number line ≡ Ok stage → IsStage stage
+  first_keeps number (Header c clock keys journal) stage f h =
+      opens number c clock journal (kit_of c keys) stage f.0 (λ k e. kit_signs c keys k e) h
+  first_keeps number Skipped stage f h = let same : Begins ≡ stage = cc in subst IsStage same tt
+  first_keeps number line stage f h = absurd cc
+
+  -- ---- faulty parties
+
+  may_join : (c : Setting) (faulty : List Party) (party : Party) → faulty_reason c faulty party ≡ None →
+      can_join c.f faulty party ≡ true
+  may_join c faulty party h = by (not (is_party_of c party)) (can_join c.f faulty party) h
+    where
+      by : (a b : Bool) → or_else {A = ℕ} (when a 3) (when (not b) 5) ≡ None → b ≡ true
+      by true b h = absurd cc
+      by false true h = refl
+      by false false h = absurd cc
+
+  joins : (o : Opening) (faulty : List Party) (number : ℕ) (party : Party) (stage : Stage) → IsOpening o faulty →
+      unless (option_map (fault.BadInput number) (faulty_reason o.cluster faulty party)) (Opens o (faulty ++ party ∷ [])) ≡ Ok stage →
+      IsStage stage
+  joins o faulty number party stage i h = by (faulty_reason o.cluster faulty party) refl h
+    where
+      by : (reason : Option ℕ) → faulty_reason o.cluster faulty party ≡ reason →
+          unless (option_map (fault.BadInput number) reason) (Opens o (faulty ++ party ∷ [])) ≡ Ok stage → IsStage stage
+      by None e h =
+          let same : Opens o (faulty ++ party ∷ []) ≡ stage = cc in
+          subst IsStage same
+          (record {
+            setting = i.setting;
+            counted = joins_few o.cluster.f faulty party (may_join o.cluster faulty party e) i.counted;
+            signed = i.signed;
+          })
+      by (Some reason) e h = absurd cc
+
+  -- ---- lines
+
+  runs_on : (r : ReplayValue) (line : Line) (number : ℕ) (stage : Stage) → Fits line → IsReplayed r →
+      (line_step r line number >>= λ r. Ok (Runs r)) ≡ Ok stage → IsStage stage
+  runs_on r line number stage f i h =
+      let b = between (line_step r line number) (λ r. Ok (Runs r)) stage h in
+      let same : Runs b.start ≡ stage = cc in
+      subst IsStage same (line_keeps r line number b.start f i b.first)
+
+  opening_keeps : (o : Opening) (faulty : List Party) (number : ℕ) (line : Line) (stage : Stage) → Fits line → IsOpening o faulty →
+      opening_line o faulty number line ≡ Ok stage → IsStage stage
+  opening_keeps o faulty number (Faulty party) stage f i h = joins o faulty number party stage i h
+  opening_keeps o faulty number Skipped stage f i h = let same : Opens o faulty ≡ stage = cc in subst IsStage same i
+  opening_keeps o faulty number line stage f i h =
+      runs_on (first_replay o faulty) line number stage f (begins_replayed o faulty i) h
+
+  read_keeps : (stage : Stage) (line : List ℕ) (number : ℕ) (value : Result Line LineFault) (after : Stage) →
+      ((x : Line) → value ≡ Ok x → Fits x) → IsStage stage → read_line stage line number value ≡ Ok after → IsStage after
+  read_keeps Begins line number (Ok value) after f i h = first_keeps number value after (f value refl) h
+  read_keeps Begins line number (Err e) after f i h = absurd cc
+  read_keeps (Opens o faulty) line number (Ok value) after f i h = opening_keeps o faulty number value after (f value refl) i h
+  read_keeps (Opens o faulty) line number (Err e) after f i h = absurd cc
+  read_keeps (Runs r) line number (Ok value) after f i h = runs_on r value number after (f value refl) i h
+  read_keeps (Runs r) line number (Err e) after f i h = absurd cc
+
+  step_keeps : (stage : Stage) (line : List ℕ) (number : ℕ) (after : Stage) → IsStage stage → stage_step stage line number ≡ Ok after →
+      IsStage after
+  step_keeps stage line number after i h =
+      read_keeps stage line number (line_at line number) after (λ x e. read_fits laws.grammar line number x e) i h
+
+  lines_keep : (lines : List (List ℕ)) (number : ℕ) (stage after : Stage) → IsStage stage → run_lines lines number stage ≡ Ok after →
+      IsStage after
+  lines_keep [] number stage after i h = let same : stage ≡ after = cc in subst IsStage same i
+  lines_keep (line ∷ lines) number stage after i h =
+      let b = between (stage_step stage line number) (run_lines lines (number + 1)) after h in
+      lines_keep lines (number + 1) b.start after (step_keeps stage line number b.start i b.first) b.second
+
+  ends_replayed : (stage : Stage) (r : ReplayValue) → IsStage stage → ended stage ≡ Ok r → IsReplayed r
+  ends_replayed Begins r i h = absurd cc
+  ends_replayed (Opens o faulty) r i h =
+      let same : first_replay o faulty ≡ r = cc in subst IsReplayed same (begins_replayed o faulty i)
+  ends_replayed (Runs x) r i h = let same : x ≡ r = cc in subst IsReplayed same i
+
+  is_replayed : (bytes : List ℕ) (r : ReplayValue) → replay_of bytes ≡ Ok r → IsReplayed r
+  is_replayed bytes r h =
+      let b = between (run_lines (lines_of bytes) 1 Begins) ended r h in
+      ends_replayed b.start r (lines_keep (lines_of bytes) 1 Begins b.start tt b.first) b.second
+
+  pub reports_are_safe : RunsAreSafe → ReportsAreSafe
+  reports_are_safe safe bytes text h =
+      let b = between (replay_of bytes) (λ r. Ok (report r)) text h in
+      let i = is_replayed bytes b.start b.first in
+      let same : report b.start ≡ text = cc in
+      record {
+        replay = b.start;
+        replayed = b.first;
+        told = sym same;
+        ran = i;
+        safe = safe b.start.setup i.sound.setup i.sound.signed i.events b.start.state i.sized i.ends;
+      }
+
+  -- ---- breaches
+
+  opened_breaks : (number : ℕ) (c : Setting) (clock : ℕ) (journal : Bool) (kit : Option KitValue) (b : Broken) →
+      opened number c clock journal kit ≡ Err (fault.Broken b) → IsRealBreak b
+  opened_breaks number c clock true kit b h = absurd cc
+  opened_breaks number c clock false None b h = absurd cc
+  opened_breaks number c clock false (Some kit) b h = absurd cc
+
+  first_breaks : (number : ℕ) (line : Line) (b : Broken) → first_line number line ≡ Err (fault.Broken b) → IsRealBreak b
+  first_breaks number (Header c clock keys journal) b h = opened_breaks number c clock journal (kit_of c keys) b h
+  first_breaks number Skipped b h = absurd cc
+  first_breaks number line b h = absurd cc
+
+  bad_first_breaks : (line : List ℕ) (number : ℕ) (e : LineFault) (b : Broken) → bad_first line number e ≡ fault.Broken b → IsRealBreak b
+  bad_first_breaks line number (line_fault.BadLine n reason) b h = absurd cc
+  bad_first_breaks line number line_fault.NoMemory b h = absurd cc
+
+  bad_line_breaks : (line : List ℕ) (number : ℕ) (e : LineFault) (b : Broken) → bad_line line number e ≡ fault.Broken b → IsRealBreak b
+  bad_line_breaks line number (line_fault.BadLine n reason) b h = absurd cc
+  bad_line_breaks line number line_fault.NoMemory b h = absurd cc
+
+  joins_break : (number : ℕ) (reason : Option ℕ) (stage : Stage) (b : Broken) →
+      unless (option_map (fault.BadInput number) reason) stage ≡ Err (fault.Broken b) → IsRealBreak b
+  joins_break number None stage b h = absurd cc
+  joins_break number (Some reason) stage b h = absurd cc
+
+  module _ (law : RunsUpToABreachAreSafe) where
+    runs_break : (r : ReplayValue) (line : Line) (number : ℕ) (b : Broken) → Fits line → IsReplayed r →
+        (line_step r line number >>= λ r. Ok (Runs r)) ≡ Err (fault.Broken b) → IsRealBreak b
+    runs_break r line number b f i h = by (line_step r line number) refl h
+      where
+        by : (x : Result ReplayValue ReplayFault) → line_step r line number ≡ x → (x >>= λ r. Ok (Runs r)) ≡ Err (fault.Broken b) →
+            IsRealBreak b
+        by (Ok after) e h = absurd cc
+        by (Err x) e h =
+            let same : x ≡ fault.Broken b = cc in
+            line_breaks law r line number b f i (e ∙ ap (λ (z : ReplayFault). Err z) same)
+
+    opening_breaks : (o : Opening) (faulty : List Party) (number : ℕ) (line : Line) (b : Broken) → Fits line → IsOpening o faulty →
+        opening_line o faulty number line ≡ Err (fault.Broken b) → IsRealBreak b
+    opening_breaks o faulty number (Faulty party) b f i h =
+        joins_break number (faulty_reason o.cluster faulty party) (Opens o (faulty ++ party ∷ [])) b h
+    opening_breaks o faulty number Skipped b f i h = absurd cc
+    opening_breaks o faulty number line b f i h =
+        runs_break (first_replay o faulty) line number b f (begins_replayed o faulty i) h
+
+    read_breaks : (stage : Stage) (line : List ℕ) (number : ℕ) (value : Result Line LineFault) (b : Broken) →
+        ((x : Line) → value ≡ Ok x → Fits x) → IsStage stage → read_line stage line number value ≡ Err (fault.Broken b) → IsRealBreak b
+    read_breaks Begins line number (Ok value) b f i h = first_breaks number value b h
+    read_breaks Begins line number (Err e) b f i h =
+        bad_first_breaks line number e b (let same : bad_first line number e ≡ fault.Broken b = cc in same)
+    read_breaks (Opens o faulty) line number (Ok value) b f i h = opening_breaks o faulty number value b (f value refl) i h
+    read_breaks (Opens o faulty) line number (Err e) b f i h =
+        bad_line_breaks line number e b (let same : bad_line line number e ≡ fault.Broken b = cc in same)
+    read_breaks (Runs r) line number (Ok value) b f i h = runs_break r value number b (f value refl) i h
+    read_breaks (Runs r) line number (Err e) b f i h =
+        bad_line_breaks line number e b (let same : bad_line line number e ≡ fault.Broken b = cc in same)
+
+    lines_break : (lines : List (List ℕ)) (number : ℕ) (stage : Stage) (b : Broken) → IsStage stage →
+        run_lines lines number stage ≡ Err (fault.Broken b) → IsRealBreak b
+    lines_break [] number stage b i h = absurd cc
+    lines_break (line ∷ lines) number stage b i h = by (stage_step stage line number) refl h (λ t k e. lines_break lines (number + 1) t b k e)
+      where
+        by : (x : Result Stage ReplayFault) → stage_step stage line number ≡ x →
+            (x >>= run_lines lines (number + 1)) ≡ Err (fault.Broken b) →
+            ((t : Stage) → IsStage t → run_lines lines (number + 1) t ≡ Err (fault.Broken b) → IsRealBreak b) → IsRealBreak b
+        by (Ok t) e h rest = rest t (step_keeps stage line number t i e) h
+        by (Err x) e h rest =
+            let same : x ≡ fault.Broken b = cc in
+            read_breaks stage line number (line_at line number) b (λ y k. read_fits laws.grammar line number y k) i
+            (e ∙ ap (λ (z : ReplayFault). Err z) same)
+
+    ended_breaks : (stage : Stage) (b : Broken) → ended stage ≡ Err (fault.Broken b) → IsRealBreak b
+    ended_breaks Begins b h = absurd cc
+    ended_breaks (Opens o faulty) b h = absurd cc
+    ended_breaks (Runs r) b h = absurd cc
+
+    pub breaks_are_real : BreaksAreReal
+    breaks_are_real bytes b h = by (run_lines (lines_of bytes) 1 Begins) refl h
+      where
+        at_end : (x : Result ReplayValue ReplayFault) → (x >>= λ r. Ok (report r)) ≡ Err (fault.Broken b) → x ≡ Err (fault.Broken b)
+        at_end (Ok r) h = absurd cc
+        at_end (Err e) h = let same : e ≡ fault.Broken b = cc in ap (λ (z : ReplayFault). Err z) same
+
+        by : (x : Result Stage ReplayFault) → run_lines (lines_of bytes) 1 Begins ≡ x →
+            ((x >>= ended) >>= λ r. Ok (report r)) ≡ Err (fault.Broken b) → IsRealBreak b
+        by (Ok stage) e h = ended_breaks stage b (at_end (ended stage) h)
+        by (Err f) e h =
+            let same : f ≡ fault.Broken b = cc in
+            lines_break (lines_of bytes) 1 Begins b tt (e ∙ ap (λ (z : ReplayFault). Err z) same)

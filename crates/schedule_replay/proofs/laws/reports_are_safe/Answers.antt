@@ -1,0 +1,12 @@
+use Rattle.schedule_replay.proofs.Stages as stages
+use Rattle.schedule_replay.proofs.laws.reports_are_safe.Goals as goal
+
+pub returns : goal.returns
+returns c =
+    stages.reports_are_safe
+    (record {
+      grammar = c.grammar_is_read.ensures;
+      few = c.counted_are_few.ensures;
+      plain = c.plain_kits_sign.ensures;
+      lms = c.lms_kits_sign.ensures;
+    }) c.runs_are_safe.ensures

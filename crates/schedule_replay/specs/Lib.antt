@@ -1,0 +1,10 @@
+pub mod Kits
+pub mod Replays
+pub mod Names
+pub mod Reasons
+pub mod Events
+pub mod Lines
+pub mod Stages
+pub mod Reports
+pub mod Outcomes
+pub mod Laws

@@ -1,0 +1,16 @@
+-- What the bytes of a schedule lead to.
+use Rattle.std.specs.Prelude.{ℕ, List, Result, Ok, Err}
+use Rattle.basil_types.specs.Steps.{◌>>=◌}
+use Rattle.schedule_text.specs.TextLines.{lines_of}
+use Rattle.schedule_replay.specs.Replays.{ReplayValue}
+use Rattle.schedule_replay.specs.Reports.{report}
+use Rattle.schedule_replay.specs.Stages.{Begins, run_lines, ended}
+use Rattle.schedule_replay.specs.declared.fault.ReplayFault.{ReplayFault}
+
+-- the replay behind the last line, or the fault of the first line that ends it
+abbrev pub replay_of : List ℕ → Result ReplayValue ReplayFault
+replay_of bytes = run_lines (lines_of bytes) 1 Begins >>= ended
+
+-- the report, or that fault
+abbrev pub outcome_of : List ℕ → Result (List ℕ) ReplayFault
+outcome_of bytes = replay_of bytes >>= λ r. Ok (report r)

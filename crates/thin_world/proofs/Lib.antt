@@ -1,0 +1,6 @@
+pub mod OneReplica
+pub mod PlacingLaws
+pub mod Votes
+pub mod Safety
+pub mod Runs
+pub mod Committed

@@ -1,0 +1,10 @@
+pub mod Certificates
+pub mod State
+pub mod Calls
+pub mod Nodes
+pub mod Placing
+pub mod Run
+pub mod Prepared
+pub mod Safe
+pub mod Shown
+pub mod World
