@@ -3,6 +3,7 @@
 ghost use Rattle.std.specs.Prelude.{◌≡◌, IfOk, length, option_map};
 ghost use Rattle.basil_types.specs.Shown.{transaction_of};
 ghost use Rattle.client_core.specs.Keeping.{told_state};
+ghost use Rattle.cluster_run.specs.States as states;
 ghost use Rattle.cluster_run.specs.States.{Setup, State};
 ghost use Rattle.cluster_run.specs.Telling as telling;
 ghost use Rattle.cluster_world.specs.Shows.{Shows};
@@ -88,5 +89,12 @@ impl<V: Verifier, S: Signer> Engine<V, S> {
         ensures { (s : Setup) (st : State) → Shows s self.now st → result ≡ st.refused }
     {
         self.refused
+    }
+
+    /// Whether a party is one of the faulty ones.
+    pub fn is_faulty(&self, party: Party) -> bool
+        ensures { (s : Setup) (st : State) → Shows s self.now st → result ≡ states.is_faulty s party }
+    {
+        self.sight.is_faulty(party)
     }
 }

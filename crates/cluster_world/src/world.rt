@@ -1,15 +1,20 @@
 //! A world: a run of a cluster, event by event.
 
-ghost use Rattle.std.specs.Prelude.{◌≡◌, ◌<◌, ◌^◌, false, IfOk};
+ghost use Rattle.std.specs.Prelude.{◌≡◌, ◌<◌, ◌^◌, false, IfOk, length, option_map};
 ghost use Rattle.basil_types.specs.Setting.{IsSetting};
+ghost use Rattle.basil_types.specs.Shown.{transaction_of};
 ghost use Rattle.basil_types.specs.Texts.{IsBytes};
+ghost use Rattle.client_core.specs.Keeping.{told_state};
 ghost use Rattle.cluster_run.specs.Events.{happens};
 ghost use Rattle.cluster_run.specs.Safety.{IsEvent};
 ghost use Rattle.cluster_run.specs.States.{Setup, State, start};
+ghost use Rattle.cluster_run.specs.States as states;
+ghost use Rattle.cluster_run.specs.Telling as telling;
 ghost use Rattle.cluster_world.specs.Building.{setup_of};
 ghost use Rattle.cluster_world.specs.Comes.{Comes};
 ghost use Rattle.cluster_world.specs.EventValues.{event_value};
 ghost use Rattle.cluster_world.specs.Shows.{AreMembers, Shows};
+ghost use Rattle.cluster_world.specs.Telling.{told_mail};
 ghost use Rattle.cluster_world.specs.Worlds.{Ran, RanSafely, is_end};
 ghost use Rattle.premise_watch.specs.Parties.{AreCounted};
 
@@ -19,6 +24,9 @@ use crate::event::Event;
 use crate::fault::StepFault;
 use basil_types::cluster::Cluster;
 use basil_types::memory::NoMemory;
+use basil_types::party::{Decision, Party};
+use basil_types::transaction::{Transaction, TransactionView};
+use client_core::ReadState;
 use cluster_run::fault::WorldFault;
 use cluster_run::safety::runs_are_safe;
 use premise_watch::faulty::Faulty;
@@ -137,5 +145,72 @@ impl<K: Kit> World<K> {
         ensures { ∥ RanSafely self.now.core (K.value self.now.kit) ∥₁ }
     {
         runs_are_safe();
+    }
+
+    /// How many messages have entered the pool.
+    pub fn messages(&self) -> u64
+        ensures { (s : Setup) (st : State) → Shows s self.now.core st → result ≡ length st.pool }
+    {
+        self.core.messages()
+    }
+
+    /// The least number, of this and later ones, of a message that is neither delivered nor lost.
+    pub fn undelivered(&self, from: u64) -> Option<u64>
+        ensures { (s : Setup) (st : State) → Shows s self.now.core st → result ≡ telling.undelivered st from }
+    {
+        self.core.undelivered(from)
+    }
+
+    /// The sender, the receiver and the frame of a message. Messages are numbered from 1.
+    pub fn frame(&self, message: u64) -> Option<(Party, Party, &[u8])>
+        ensures { (s : Setup) (st : State) → Shows s self.now.core st →
+            option_map told_mail result ≡ telling.mail_at st message }
+    {
+        self.core.frame(message)
+    }
+
+    /// The transaction of a number, from 0 on, once it is formed.
+    pub fn transaction(&self, tx: u32) -> Option<TransactionView<'_>>
+        ensures { (s : Setup) (st : State) → Shows s self.now.core st →
+            option_map transaction_of result ≡ telling.transaction_at st tx }
+    {
+        self.core.transaction(tx)
+    }
+
+    /// What a key gives to a begun transaction of a correct client; of a faulty one nothing was read.
+    pub fn value(&self, tx: u32, key: &[u8]) -> ReadState<'_>
+        ensures { (s : Setup) (st : State) → Shows s self.now.core st →
+            told_state result ≡ telling.value_at s st tx key.now }
+    {
+        self.core.value(tx, key)
+    }
+
+    /// The decision on the transaction with this id that the first certificate proved, of those that were seen.
+    pub fn decision_of(&self, id: &[u8; 32]) -> Option<Decision>
+        ensures { (s : Setup) (st : State) → Shows s self.now.core st → result ≡ telling.decision_at st id.now }
+    {
+        self.core.decision_of(id)
+    }
+
+    /// The transactions that a certificate which was seen proves to be committed, each once, ascending by version.
+    pub fn committed(&self) -> Result<Vec<Transaction>, NoMemory>
+        ensures { IfOk result (λ ts. (s : Setup) (st : State) → Shows s self.now.core st →
+            ts.items ≡ telling.committed_by_version st) }
+    {
+        self.core.committed()
+    }
+
+    /// The message that a node refused last.
+    pub fn last_refused(&self) -> Option<u64>
+        ensures { (s : Setup) (st : State) → Shows s self.now.core st → result ≡ st.refused }
+    {
+        self.core.last_refused()
+    }
+
+    /// Whether a party is one of the faulty ones.
+    pub fn is_faulty(&self, party: Party) -> bool
+        ensures { (s : Setup) (st : State) → Shows s self.now.core st → result ≡ states.is_faulty s party }
+    {
+        self.core.is_faulty(party)
     }
 }

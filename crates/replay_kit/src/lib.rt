@@ -10,5 +10,6 @@ mod ring;
 
 pub use kind::KitKind;
 pub use kit::ReplayKit;
+pub use lms::has_party;
 pub use pen::ReplayPen;
 pub use ring::ReplayRing;

@@ -25,7 +25,7 @@ pub(crate) struct LmsKit {
 }
 
 /// Whether a party is one of a cluster's: a replica of one of its shards, or one of the clients 1 to 16.
-fn has_party(cluster: &Cluster, party: Party) -> bool
+pub fn has_party(cluster: &Cluster, party: Party) -> bool
     ensures { result ≡ is_party_of cluster.now party }
 {
     match party {

@@ -1,6 +1,6 @@
 -- What is read fits, and so does its event.
-use Rattle.std.proofs.Common.{◌≡◌, ℕ, List, [], ◌∷◌, Option, Some, None, inl, inr, sym, subst, arith}
-use Rattle.std.specs.Prelude.{true, false, Result, Ok, Err, option_map, option_and_then}
+use Rattle.std.proofs.Common.{◌≡◌, ℕ, List, [], Option, Some, None, inl, inr, subst, arith}
+use Rattle.std.specs.Prelude.{true, false, Ok, option_map, option_and_then}
 use Rattle.cluster_run.specs.Events as events
 use Rattle.cluster_run.specs.Events.{EventValue}
 use Rattle.cluster_run.specs.Safety.{IsEvent}

@@ -1,5 +1,5 @@
 -- A faulty party that may join leaves at most f of each shard.
-use Rattle.std.proofs.Common.{◌≡◌, ℕ, ◌+◌, ◌≤◌, ◌<◌, Bool, true, false, cond, List, [], ◌∷◌, ◌++◌, not, refl, sym, ap, subst, ◌∙◌, arith}
+use Rattle.std.proofs.Common.{◌≡◌, ℕ, ◌+◌, ◌≤◌, ◌<◌, Bool, true, false, cond, List, [], ◌∷◌, ◌++◌, not, refl, ap, subst, arith}
 use Rattle.std.specs.Prelude.{◌||◌, ◌==◌, nat_le}
 use Rattle.std.specs.List.{count_by}
 use Rattle.std.proofs.lemmas.Bool.{eqb-true, leb-false}
@@ -21,7 +21,8 @@ neither false false h = refl
 
 pub joins_few : (f : ℕ) (ps : List Party) (p : Party) → can_join f ps p ≡ true → AreCounted f ps → AreCounted f (ps ++ p ∷ [])
 joins_few f ps (Client number) h few shard =
-    let c : count_of_shard shard (ps ++ Client number ∷ []) ≡ count_of_shard shard ps + 0 = count_push (is_of_shard shard) ps (Client number) in
+    let c : count_of_shard shard (ps ++ Client number ∷ []) ≡ count_of_shard shard ps + 0 =
+    count_push (is_of_shard shard) ps (Client number) in
     omega (arith, c, few shard)
 joins_few f ps (Replica s index) h few shard = by (s == shard) refl
   where

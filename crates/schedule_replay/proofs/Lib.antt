@@ -1,5 +1,14 @@
+pub mod Beginnings
+pub mod ReasonLaws
+pub mod NameLaws
+pub mod StageLaws
 pub mod Fitting
 pub mod Joining
 pub mod Running
 pub mod Lines
-pub mod Stages
+pub mod SoundStages
+mod Reporting
+pub mod Rounds
+pub mod Deliveries
+pub mod Courses
+pub mod Stepping

@@ -1,8 +1,8 @@
 -- A line keeps a replay's run, or ends it in a breach.
-use Rattle.std.proofs.Common.{◌≡◌, ℕ, List, Option, Some, None, refl, sym, ap, subst, ◌∙◌}
+use Rattle.std.proofs.Common.{◌≡◌, ℕ, Option, Some, None, refl, sym, ap, subst}
 use Rattle.std.specs.Prelude.{Result, Ok, Err, option_map}
 use Rattle.cluster_run.specs.Breaking.{RunsUpToABreachAreSafe}
-use Rattle.cluster_run.specs.States.{Setup, State, start}
+use Rattle.cluster_run.specs.States.{State, start}
 use Rattle.cluster_run.specs.declared.fault.WorldFault.{WorldFault}
 use Rattle.cluster_run.specs.declared.fault.WorldFault.TheVariants as world
 use Rattle.node_steps.specs.Refusing.{unless_refused}
@@ -11,7 +11,7 @@ use Rattle.schedule_text.specs.Fitting.{Fits}
 use Rattle.schedule_text.specs.declared.line.Line.{Line}
 use Rattle.schedule_replay.proofs.Running.{Goes, goes_on, does_go, does_break}
 use Rattle.schedule_replay.specs.Events.{line_does}
-use Rattle.schedule_replay.specs.Laws.{IsSound, IsReplayed, IsRealBreak}
+use Rattle.schedule_replay.specs.Laws.{IsReplayed, IsRealBreak}
 use Rattle.schedule_replay.specs.Lines.{answered, line_step, names_after}
 use Rattle.schedule_replay.specs.Reasons.{reason_of}
 use Rattle.schedule_replay.specs.Replays.{NamesValue, ReplayValue}

@@ -27,6 +27,12 @@ claim_of names name key None = by_name names name (λ tx. events.Claim tx key No
 claim_of names name key (Some writer) =
     option_and_then (λ w. by_name names name (λ tx. events.Claim tx key (Some w))) (number_of writer names)
 
+-- what a line hands over of a message: the message's own bytes
+abbrev pub given_to : State → Line → List ℕ
+given_to st (Deliver message) = frame_at st message
+given_to st (Divert message to) = frame_at st message
+given_to st _ = []
+
 -- the event of a line that has one alone; what is delivered or diverted has its own bytes
 abbrev pub event_of : NamesValue → State → Line → Option EventValue
 event_of names st (Begin name client time) = Some (events.Begin client time)

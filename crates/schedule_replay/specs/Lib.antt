@@ -1,10 +1,15 @@
 pub mod Kits
 pub mod Replays
 pub mod Names
+pub mod Naming
 pub mod Reasons
+pub mod LineKinds
 pub mod Events
 pub mod Lines
 pub mod Stages
 pub mod Reports
 pub mod Outcomes
 pub mod Laws
+pub mod Shown
+pub mod Schedules
+pub mod Telling

@@ -1,5 +1,5 @@
 -- The stages of a schedule, and its lines.
-use Rattle.std.specs.Prelude.{ℕ, ◌+◌, List, [], ◌∷◌, ◌++◌, Bool, true, false, not, Option, Some, None, option_map, Result, Ok, Err, if◌then◌else◌}
+use Rattle.std.specs.Prelude.{◌≡◌, ℕ, ◌+◌, List, [], ◌∷◌, ◌++◌, Bool, true, false, not, Option, Some, None, option_map, Result, Ok, Err, if◌then◌else◌}
 use Rattle.basil_types.specs.Built.{or_else}
 use Rattle.basil_types.specs.Setting.{Setting}
 use Rattle.basil_types.specs.Steps.{◌>>=◌}
@@ -7,7 +7,7 @@ use Rattle.basil_types.specs.declared.party.Party.{Party}
 use Rattle.cluster_run.specs.States.{KitValue}
 use Rattle.keyring_lms.specs.Replay.{is_party_of}
 use Rattle.node_steps.specs.Refusing.{when, unless}
-use Rattle.premise_watch.specs.Parties.{can_join}
+use Rattle.premise_watch.specs.Parties.{can_join, is_among}
 use Rattle.schedule_text.specs.Reading.{line_at, is_skipped}
 use Rattle.schedule_text.specs.declared.line.Line.{Line}
 use Rattle.schedule_text.specs.declared.line.Line.TheVariants.{Header, Skipped, Faulty}
@@ -46,6 +46,10 @@ bad_first line number (line_fault.BadLine n reason) = BadInput number (if is_ski
 bad_first line number line_fault.NoMemory = NoMemory
 
 -- ---- faulty parties
+
+-- each of them is one of the cluster's
+abbrev pub AreParties : Setting → List Party → Type 0
+AreParties c parties = (p : Party) → is_among parties p ≡ true → is_party_of c p ≡ true
 
 -- a party that isn't one of the cluster, or is named twice, or would be one too many of its shard
 abbrev pub faulty_reason : Setting → List Party → Party → Option ℕ

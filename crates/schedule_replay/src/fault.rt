@@ -1,6 +1,8 @@
 //! Why a replay goes no further.
 
+use basil_types::memory::NoMemory;
 use premise_watch::broken::Broken;
+use std::alloc::AllocFailed;
 
 /// Why a schedule has no report.
 #[derive(Debug, Drop)]
@@ -17,4 +19,26 @@ pub enum ReplayFault {
     WriteFault,
     /// Memory is wanting.
     NoMemory,
+}
+
+impl From<NoMemory> for ReplayFault {
+    ghost use Rattle.std.specs.Prelude.{◌≡◌};
+    ghost use Rattle.schedule_replay.specs.declared.fault.ReplayFault.TheVariants.{NoMemory};
+
+    ghost from_gives = { λ _ e. e ≡ NoMemory };
+
+    fn from(_wanting: NoMemory) -> ReplayFault {
+        ReplayFault::NoMemory
+    }
+}
+
+impl<T: Drop> From<AllocFailed<T>> for ReplayFault {
+    ghost use Rattle.std.specs.Prelude.{◌≡◌};
+    ghost use Rattle.schedule_replay.specs.declared.fault.ReplayFault.TheVariants.{NoMemory};
+
+    ghost from_gives = { λ _ e. e ≡ NoMemory };
+
+    fn from(_wanting: AllocFailed<T>) -> ReplayFault {
+        ReplayFault::NoMemory
+    }
 }

@@ -5,5 +5,12 @@
 //! report (`Reports`) and the outcome (`Outcomes`).
 #![tactic(auto)]
 
+mod course;
+mod events;
 pub mod fault;
 pub mod laws;
+mod names;
+mod reasons;
+pub mod replay;
+mod report;
+pub mod stages;

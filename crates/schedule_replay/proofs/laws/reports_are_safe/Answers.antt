@@ -1,4 +1,4 @@
-use Rattle.schedule_replay.proofs.Stages as stages
+use Rattle.schedule_replay.proofs.SoundStages as stages
 use Rattle.schedule_replay.proofs.laws.reports_are_safe.Goals as goal
 
 pub returns : goal.returns

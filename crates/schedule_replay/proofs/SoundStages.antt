@@ -1,6 +1,6 @@
 -- Each stage of a schedule is sound: its replay is a run, with at most f faulty replicas of each shard.
-use Rattle.std.proofs.Common.{◌≡◌, ℕ, ◌+◌, ◌-◌, ◌^◌, Bool, true, false, List, [], ◌∷◌, ◌++◌, Option, Some, None, not, refl, sym, ap, subst, ◌∙◌, arith}
-use Rattle.std.specs.Prelude.{Result, Ok, Err, option_map, if◌then◌else◌}
+use Rattle.std.proofs.Common.{◌≡◌, ℕ, ◌+◌, Bool, true, false, List, [], ◌∷◌, ◌++◌, Option, Some, None, not, refl, sym, ap, subst, ◌∙◌, arith}
+use Rattle.std.specs.Prelude.{Result, Ok, Err, option_map}
 use Rattle.basil_types.specs.Built.{or_else}
 use Rattle.basil_types.specs.Setting.{Setting, IsSetting}
 use Rattle.basil_types.specs.Steps.{◌>>=◌}
@@ -8,16 +8,16 @@ use Rattle.basil_types.specs.declared.party.Party.{Party}
 use Rattle.cluster_run.specs.Breaking.{RunsUpToABreachAreSafe}
 use Rattle.cluster_run.specs.Kits.{PlainKitsSign, LmsKitsSign}
 use Rattle.cluster_run.specs.Safety.{AreSigned, RunsAreSafe}
-use Rattle.cluster_run.specs.States.{KitValue, start}
+use Rattle.cluster_run.specs.States.{KitValue}
 use Rattle.keyring_lms.specs.Replay.{is_party_of, replay_accepts, tree_in_replay}
-use Rattle.lms_sign.specs.Sets.{leaves_of}
 use Rattle.lms_sign.specs.declared.sets.LmsSet.{LmsSet}
 use Rattle.lms_sign.specs.declared.sets.LmsSet.TheVariants as sets
 use Rattle.node_steps.specs.Refusing.{when, unless}
 use Rattle.premise_watch.specs.Parties.{AreCounted, AreFew, can_join}
 use Rattle.premise_watch.specs.declared.broken.Broken.{Broken}
+use Rattle.replay_kit.specs.Values.{lms_place, lms_value, plain_place, plain_value}
 use Rattle.schedule_text.specs.Fitting.{Fits, GrammarIsRead}
-use Rattle.schedule_text.specs.Reading.{line_at, is_skipped}
+use Rattle.schedule_text.specs.Reading.{line_at}
 use Rattle.schedule_text.specs.TextLines.{lines_of}
 use Rattle.schedule_text.specs.declared.line.KeysKind.{KeysKind}
 use Rattle.schedule_text.specs.declared.line.KeysKind.TheVariants.{Plain, W4H5, W4H10, W8H5, W8H10, Batch}
@@ -29,11 +29,11 @@ use Rattle.schedule_replay.proofs.Fitting.{read_fits}
 use Rattle.schedule_replay.proofs.Joining.{joins_few}
 use Rattle.schedule_replay.proofs.Lines.{line_keeps, line_breaks}
 use Rattle.schedule_replay.proofs.Running.{between}
-use Rattle.schedule_replay.specs.Kits.{kit_of, plain_replay, lms_replay, fresh}
-use Rattle.schedule_replay.specs.Laws.{IsSound, IsReplayed, IsSafeReport, ReportsAreSafe, IsRealBreak, BreaksAreReal}
+use Rattle.schedule_replay.specs.Kits.{kit_of}
+use Rattle.schedule_replay.specs.Laws.{IsReplayed, ReportsAreSafe, IsRealBreak, BreaksAreReal}
 use Rattle.schedule_replay.specs.Lines.{bad_line, line_step}
-use Rattle.schedule_replay.specs.Outcomes.{replay_of, outcome_of}
-use Rattle.schedule_replay.specs.Replays.{Opening, ReplayValue, first_replay, setup_of}
+use Rattle.schedule_replay.specs.Outcomes.{replay_of}
+use Rattle.schedule_replay.specs.Replays.{Opening, ReplayValue, first_replay}
 use Rattle.schedule_replay.specs.Reports.{report}
 use Rattle.schedule_replay.specs.Stages.{Stage, Begins, Opens, Runs, opened, first_line, bad_first, faulty_reason, opening_line, read_line, stage_step, run_lines, ended}
 use Rattle.schedule_replay.specs.declared.fault.ReplayFault.{ReplayFault}
@@ -70,16 +70,16 @@ module _ (laws : Laws) where
     ends = refl;
   }
 
-  lms_signs : (c : Setting) (set : LmsSet) → AreSigned (lms_replay c set)
-  lms_signs c set = laws.lms (replay_accepts c set) (tree_in_replay set) (λ _. 0) (λ _. fresh (leaves_of set))
+  lms_signs : (c : Setting) (set : LmsSet) → AreSigned (lms_value c set)
+  lms_signs c set = laws.lms (replay_accepts c set) (tree_in_replay set) (λ _. 0) (λ _. lms_place set)
 
   kit_signs : (c : Setting) (keys : KeysKind) (kit : KitValue) → kit_of c keys ≡ Some kit → AreSigned kit
   kit_signs c Plain kit h =
-      let same : plain_replay ≡ kit = cc in subst AreSigned same (laws.plain (λ _. fresh (2 ^ 64 - 1)))
-  kit_signs c W4H5 kit h = let same : lms_replay c sets.W4H5 ≡ kit = cc in subst AreSigned same (lms_signs c sets.W4H5)
-  kit_signs c W4H10 kit h = let same : lms_replay c sets.W4H10 ≡ kit = cc in subst AreSigned same (lms_signs c sets.W4H10)
-  kit_signs c W8H5 kit h = let same : lms_replay c sets.W8H5 ≡ kit = cc in subst AreSigned same (lms_signs c sets.W8H5)
-  kit_signs c W8H10 kit h = let same : lms_replay c sets.W8H10 ≡ kit = cc in subst AreSigned same (lms_signs c sets.W8H10)
+      let same : plain_value ≡ kit = cc in subst AreSigned same (laws.plain (λ _. plain_place))
+  kit_signs c W4H5 kit h = let same : lms_value c sets.W4H5 ≡ kit = cc in subst AreSigned same (lms_signs c sets.W4H5)
+  kit_signs c W4H10 kit h = let same : lms_value c sets.W4H10 ≡ kit = cc in subst AreSigned same (lms_signs c sets.W4H10)
+  kit_signs c W8H5 kit h = let same : lms_value c sets.W8H5 ≡ kit = cc in subst AreSigned same (lms_signs c sets.W8H5)
+  kit_signs c W8H10 kit h = let same : lms_value c sets.W8H10 ≡ kit = cc in subst AreSigned same (lms_signs c sets.W8H10)
   kit_signs c Batch kit h = absurd cc
 
   nobody : (f : ℕ) → AreCounted f []
@@ -249,7 +249,8 @@ module _ (laws : Laws) where
     lines_break : (lines : List (List ℕ)) (number : ℕ) (stage : Stage) (b : Broken) → IsStage stage →
         run_lines lines number stage ≡ Err (fault.Broken b) → IsRealBreak b
     lines_break [] number stage b i h = absurd cc
-    lines_break (line ∷ lines) number stage b i h = by (stage_step stage line number) refl h (λ t k e. lines_break lines (number + 1) t b k e)
+    lines_break (line ∷ lines) number stage b i h =
+        by (stage_step stage line number) refl h (λ t k e. lines_break lines (number + 1) t b k e)
       where
         by : (x : Result Stage ReplayFault) → stage_step stage line number ≡ x →
             (x >>= run_lines lines (number + 1)) ≡ Err (fault.Broken b) →

@@ -1,0 +1,12 @@
+use Rattle.std.proofs.Common.{refl, sym, subst}
+use Rattle.schedule_replay.specs.Replays.{first_replay}
+use Rattle.schedule_replay.specs.Shown.{Stands, opening_of}
+use Rattle.schedule_replay.proofs.Beginnings.{first_stands}
+use Rattle.schedule_replay.proofs.replay.Replay.new.Goals as goal
+
+pub returns-clause-stands : goal.returns-clause-stands
+returns-clause-stands c =
+    let o = c.args.opening.now in
+    subst (λ x. Stands x (first_replay (opening_of o) c.args.faulty)) (sym c.in_ok-new.ensures.ok)
+    (first_stands _ o c.args.faulty c.limits.result _ refl c.new-names.ensures c.limits.ensures.messages c.limits.ensures.bytes
+    c.in_ok-kit.ensures.value c.in_ok-world.ensures.shows)

@@ -1,0 +1,157 @@
+//! A replay: a run of a cluster by the lines of a schedule.
+
+ghost use Rattle.std.specs.Prelude.{◌≡◌, ◌<◌, false, IfErr, IfOk, OnOk};
+ghost use Rattle.std.specs.Result.{IsErrOf};
+ghost use Rattle.basil_types.specs.Causes.{Rose, TookAll, TookPrefix};
+ghost use Rattle.cluster_world.specs.Shows.{AreMembers};
+ghost use Rattle.cluster_world.specs.Worlds.{RanSafely};
+ghost use Rattle.premise_watch.specs.Parties.{AreCounted};
+ghost use Rattle.schedule_replay.specs.Lines.{line_step};
+ghost use Rattle.schedule_replay.specs.Replays.{ReplayValue, first_replay, most_bytes, most_messages};
+ghost use Rattle.schedule_replay.specs.Reports as reports;
+ghost use Rattle.schedule_replay.specs.Shown.{Did, IsOfReport, Stands, ends_by, opening_of};
+
+use crate::course::Course;
+use crate::fault::ReplayFault;
+use crate::names::Names;
+use crate::report::text_of;
+use basil_types::cluster::Cluster;
+use basil_types::memory::NoMemory;
+use basil_types::sink::Sink;
+use cluster_world::building::Beginning;
+use cluster_world::world::World;
+use message_pool::Room;
+use premise_watch::faulty::Faulty;
+use replay_kit::{KitKind, ReplayKit};
+use run_kit::Kit;
+use schedule_text::line::Line;
+use std::alloc::Global;
+
+/// What a header opens.
+#[derive(Clone, Copy)]
+pub struct Opening {
+    pub cluster: Cluster,
+    /// The first moment of every replica.
+    pub clock: u64,
+    /// The keys of the parties.
+    pub keys: KitKind,
+}
+
+/// A run of a cluster by the lines of a schedule, with the names of its transactions. Contracts see by `Stands` which
+/// values it shows.
+#[derive(Drop)]
+pub struct Replay {
+    course: Box<Course>,
+    ended: bool,
+    ghost going: { ended ≡ false → course.value.world.ended ≡ false },
+}
+
+/// The limits of the pool: messages, and bytes of their frames.
+fn limits() -> Room
+    ensures messages { result.messages ≡ most_messages }
+    ensures bytes { result.bytes ≡ most_bytes }
+{
+    Room {
+        messages: 1_000_000,
+        bytes: 1_073_741_824,
+    }
+}
+
+/// Whether what a line comes to ends a replay: a breach does, and want of memory.
+fn ends(done: &Result<(), ReplayFault>) -> bool
+    ensures { result ≡ ends_by done.now }
+{
+    match done {
+        Err(ReplayFault::Broken(_)) => true,
+        Err(ReplayFault::NoMemory) => true,
+        _ => false,
+    }
+}
+
+impl Replay {
+    /// The replay before its first line. The faulty parties are of the cluster, at most f replicas of each shard.
+    pub fn new(alloc: Global, opening: &Opening, faulty: Faulty) -> Result<Replay, NoMemory>
+        requires members { AreMembers opening.now.cluster faulty }
+        requires few { AreCounted opening.now.cluster.f faulty }
+        ensures stands { IfOk result (λ replay.
+            Stands replay.course.value (first_replay (opening_of opening.now) faulty)) }
+        ensures going { IfOk result (λ replay. replay.ended ≡ false) }
+    {
+        let cluster = opening.cluster;
+        let kit = ReplayKit::new(alloc, cluster, opening.keys)?;
+        let beginning = Beginning {
+            cluster,
+            clock: opening.clock,
+            limits: limits(),
+        };
+        let world = World::new(alloc, beginning, faulty, kit)?;
+        let names = Names::new(alloc);
+        let course = Course {
+            alloc,
+            cluster,
+            world,
+            names,
+        };
+        Ok(Replay {
+            course: Box::new(alloc, course)?,
+            ended: false,
+        })
+    }
+
+    /// Does what a line says, which has this number in the schedule. A breach, and want of memory, end the replay; a line
+    /// that is refused leaves it as before.
+    pub fn line(&mut self, line: &Line, number: u64) -> Result<(), ReplayFault>
+        requires { self.old.ended ≡ false }
+        ensures did { (r : ReplayValue) → Stands self.old.course.value r →
+            Did (line_step r line.now number) r self.new.course.value result }
+        ensures ended { self.new.ended ≡ ends_by result }
+    {
+        let done = self.course.line(line, number);
+        self.ended = ends(&done);
+        done
+    }
+
+    /// Whether a breach, or want of memory, has ended it.
+    pub fn ended(&self) -> bool
+        ensures { result ≡ self.now.ended }
+    {
+        self.ended
+    }
+
+    /// A replay that hasn't ended is safe: what it shows is what a run comes to in which no transaction has both
+    /// certificates, and each committed transaction of a correct client read, per key, what the latest committed writer
+    /// before it wrote.
+    pub fn is_safe(&self)
+        requires { self.now.ended ≡ false }
+        ensures { let world = self.now.course.value.world in
+            ∥ RanSafely world.core (⟦<ReplayKit as Kit>⟧.value world.kit) ∥₁ }
+    {
+        self.course.world.is_safe();
+    }
+
+    /// The report.
+    pub fn text(&self) -> Result<Vec<u8>, NoMemory>
+        ensures { IfOk result (λ text. (r : ReplayValue) → Stands self.now.course.value r →
+            text.items ≡ reports.report r) }
+    {
+        text_of(&self.course)
+    }
+
+    /// Writes the report. Where memory is wanting nothing was written, and where the sink failed some of it.
+    pub fn report<K: Sink>(&self, sink: &mut K) -> Result<(), ReplayFault>
+        ensures written { OnOk result ((r : ReplayValue) → Stands self.now.course.value r →
+            TookAll (K.taken sink.old) (K.taken sink.new) (reports.report r)) }
+        ensures prefix { (r : ReplayValue) → Stands self.now.course.value r →
+            TookPrefix (K.taken sink.old) (K.taken sink.new) (reports.report r) }
+        ensures cause { IsErrOf result ReplayFault.WriteFault → Rose (K.faults sink.old) (K.faults sink.new) }
+        ensures told { K.faults sink.old < K.faults sink.new → IsErrOf result ReplayFault.WriteFault }
+        ensures spared { IsErrOf result ReplayFault.NoMemory → sink.new ≡ sink.old }
+        ensures only { IfErr result IsOfReport }
+    {
+        let text = self.text()?;
+        match sink.write(&text) {
+            Ok(()) => Ok(()),
+            Err(_) => Err(ReplayFault::WriteFault),
+        }
+    }
+}

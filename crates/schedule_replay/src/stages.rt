@@ -1,0 +1,250 @@
+//! The stages of a schedule: its header, its faulty parties, and its run.
+
+ghost use Rattle.std.specs.Prelude.{◌≡◌, ◌≤◌, [], false, Err, IfOk, Ok, OnOk};
+ghost use Rattle.premise_watch.specs.Parties.{AreCounted};
+ghost use Rattle.schedule_text.specs.Limits.{most_lines};
+ghost use Rattle.schedule_replay.specs.Kits.{kit_of};
+ghost use Rattle.schedule_replay.specs.Lines as lines;
+ghost use Rattle.schedule_replay.specs.Shown.{Stands, opening_of};
+ghost use Rattle.schedule_replay.specs.Stages as stages;
+ghost use Rattle.schedule_replay.specs.Stages.{AreParties, Stage};
+ghost use Rattle.schedule_replay.specs.Replays.{first_replay};
+
+use crate::fault::ReplayFault;
+use crate::replay::{Opening, Replay};
+use basil_types::cluster::Cluster;
+use basil_types::memory::NoMemory;
+use basil_types::party::Party;
+use premise_watch::faulty::Faulty;
+use replay_kit::{KitKind, has_party};
+use schedule_text::laws::grammar_is_read;
+use schedule_text::line::{KeysKind, Line, LineFault};
+use schedule_text::reading::{LONGEST_LINE, is_header, is_skipped, read_line};
+use std::alloc::Global;
+
+/// What a header opens, and the faulty parties that lines have named since: of the cluster, at most f replicas of each
+/// shard.
+#[derive(Drop)]
+pub struct Opened {
+    opening: Opening,
+    faulty: Box<Faulty>,
+    ghost members: { AreParties opening.cluster faulty.value },
+    ghost few: { AreCounted opening.cluster.f faulty.value },
+}
+
+/// A schedule, run up to some line. Contracts see by `IsAt` at which stage it is.
+#[derive(Drop)]
+pub enum Schedule {
+    /// No line came yet that isn't skipped.
+    Begins,
+    /// The header came, and lines that name faulty parties.
+    Opens(Opened),
+    /// Another line came.
+    Runs(Replay),
+}
+
+/// Why a line is refused where no header came before it.
+fn bad_first(line: &[u8], number: u64, fault: LineFault) -> ReplayFault
+    ensures { result ≡ stages.bad_first line.now number fault }
+{
+    match fault {
+        LineFault::BadLine { reason, .. } => ReplayFault::BadInput {
+            line: number,
+            reason: if is_skipped(line) { reason } else { 1 },
+        },
+        LineFault::NoMemory => ReplayFault::NoMemory,
+    }
+}
+
+/// A later header is reason 2 for anything, unless it is too long.
+fn later_reason(line: &[u8], reason: u8) -> u8
+    ensures { result ≡ lines.later_reason line.now reason }
+{
+    if line.len() <= LONGEST_LINE && is_header(line) {
+        2
+    } else {
+        reason
+    }
+}
+
+/// Why a line behind the header is refused that says nothing.
+fn bad_line(line: &[u8], number: u64, fault: LineFault) -> ReplayFault
+    ensures { result ≡ lines.bad_line line.now number fault }
+{
+    match fault {
+        LineFault::BadLine { reason, .. } => ReplayFault::BadInput {
+            line: number,
+            reason: later_reason(line, reason),
+        },
+        LineFault::NoMemory => ReplayFault::NoMemory,
+    }
+}
+
+impl Opened {
+    ghost use Rattle.schedule_replay.specs.Schedules.{Joins, Took};
+
+    /// A line names a faulty party. Reason 3 for one that isn't of the cluster, and 5 for one that is named already or
+    /// would be the (f + 1)th of its shard.
+    fn join(&mut self, party: Party, number: u64) -> Result<(), ReplayFault>
+        ensures { Joins self.old self.new number party result }
+    {
+        if !has_party(&self.opening.cluster, party) {
+            return Err(ReplayFault::BadInput {
+                line: number,
+                reason: 3,
+            });
+        }
+        if !self.faulty.add(party, &self.opening.cluster) {
+            return Err(ReplayFault::BadInput {
+                line: number,
+                reason: 5,
+            });
+        }
+        Ok(())
+    }
+
+    /// The replay before its first line.
+    fn run(self, alloc: Global) -> Result<Replay, NoMemory>
+        ensures stands { IfOk result (λ replay.
+            Stands replay.course.value (first_replay (opening_of self.opening) self.faulty.value)) }
+        ensures going { IfOk result (λ replay. replay.ended ≡ false) }
+    {
+        let faulty = Box::into_inner(self.faulty);
+        Replay::new(alloc, &self.opening, faulty)
+    }
+
+    /// What a line does behind the header and lines that name faulty parties.
+    fn line(self, alloc: Global, line: &Line, number: u64) -> Result<Schedule, ReplayFault>
+        ensures { Took result (stages.opening_line (opening_of self.opening) self.faulty.value number line.now) }
+    {
+        match line {
+            Line::Faulty { party } => {
+                let mut opened = self;
+                opened.join(*party, number)?;
+                Ok(Schedule::Opens(opened))
+            }
+            Line::Skipped => Ok(Schedule::Opens(self)),
+            line => {
+                let mut replay = self.run(alloc)?;
+                replay.line(line, number)?;
+                Ok(Schedule::Runs(replay))
+            }
+        }
+    }
+}
+
+impl Schedule {
+    ghost use Rattle.schedule_replay.specs.Schedules.{Ends, IsAt, IsGoing, Took};
+
+    /// A schedule before its first line.
+    pub fn new() -> Schedule
+        ensures { result ≡ Schedule.Begins }
+    {
+        Schedule::Begins
+    }
+
+    /// What a header opens: a journal, and keys without a kit, are reason 10.
+    fn open(
+        alloc: Global,
+        number: u64,
+        cluster: Cluster,
+        clock: u64,
+        keys: KeysKind,
+        journal: bool,
+    ) -> Result<Schedule, ReplayFault>
+        ensures { Took result (stages.opened number cluster clock journal (kit_of cluster keys)) }
+    {
+        let reason = 10;
+        let line = number;
+        if journal {
+            return Err(ReplayFault::BadInput { line, reason });
+        }
+        let Some(keys) = KitKind::of(keys) else {
+            return Err(ReplayFault::BadInput { line, reason });
+        };
+        let opening = Opening {
+            cluster,
+            clock,
+            keys,
+        };
+        let faulty = Box::new(alloc, Faulty::new())?;
+        Ok(Schedule::Opens(Opened { opening, faulty }))
+    }
+
+    /// What a line does where no header came before it.
+    fn first_line(alloc: Global, line: &Line, number: u64) -> Result<Schedule, ReplayFault>
+        ensures { Took result (stages.first_line number line.now) }
+    {
+        match line {
+            Line::Header {
+                cluster,
+                clock,
+                keys,
+                journal,
+            } => Schedule::open(alloc, number, *cluster, *clock, *keys, *journal),
+            Line::Skipped => Ok(Schedule::Begins),
+            _ => Err(ReplayFault::BadInput {
+                line: number,
+                reason: 1,
+            }),
+        }
+    }
+
+    /// What a line of this value does.
+    fn value(self, alloc: Global, line: &Line, number: u64) -> Result<Schedule, ReplayFault>
+        requires { IsGoing self }
+        ensures { (stage : Stage) → IsAt self stage →
+            Took result (stages.read_line stage [] number (Ok line.now)) }
+    {
+        match self {
+            Schedule::Begins => Schedule::first_line(alloc, line, number),
+            Schedule::Opens(opened) => opened.line(alloc, line, number),
+            Schedule::Runs(replay) => {
+                let mut replay = replay;
+                replay.line(line, number)?;
+                Ok(Schedule::Runs(replay))
+            }
+        }
+    }
+
+    /// Why a line is refused that says nothing.
+    fn fault_of(&self, line: &[u8], number: u64, fault: LineFault) -> ReplayFault
+        ensures { (stage : Stage) → IsAt self.now stage →
+            stages.read_line stage line.now number (Err fault) ≡ Err result }
+    {
+        match self {
+            Schedule::Begins => bad_first(line, number, fault),
+            Schedule::Opens(_) => bad_line(line, number, fault),
+            Schedule::Runs(_) => bad_line(line, number, fault),
+        }
+    }
+
+    /// Does what the line of this number does. Whatever refuses it ends the schedule.
+    pub fn line(self, alloc: Global, line: &[u8], number: u64) -> Result<Schedule, ReplayFault>
+        requires { IsGoing self }
+        ensures took { (stage : Stage) → IsAt self stage → Took result (stages.stage_step stage line.now number) }
+        ensures lines { OnOk result (number ≤ most_lines) }
+    {
+        grammar_is_read();
+        match read_line(alloc, line, number) {
+            Ok(value) => self.value(alloc, &value, number),
+            Err(fault) => Err(self.fault_of(line, number, fault)),
+        }
+    }
+
+    /// The replay behind the last line. A schedule without a header is refused at line 1, for reason 1.
+    pub fn end(self, alloc: Global) -> Result<Replay, ReplayFault>
+        requires { IsGoing self }
+        ensures ends { (stage : Stage) → IsAt self stage → Ends result (stages.ended stage) }
+        ensures going { IfOk result (λ replay. replay.ended ≡ false) }
+    {
+        match self {
+            Schedule::Begins => Err(ReplayFault::BadInput { line: 1, reason: 1 }),
+            Schedule::Opens(opened) => {
+                let replay = opened.run(alloc)?;
+                Ok(replay)
+            }
+            Schedule::Runs(replay) => Ok(replay),
+        }
+    }
+}
