@@ -1,4 +1,6 @@
-pub mod Fitting
+pub mod LineEnds
 pub mod Settling
 pub mod Stopping
+pub mod Behind
 pub mod NeedLaws
+pub mod Ends

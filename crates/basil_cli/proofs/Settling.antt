@@ -1,42 +1,47 @@
--- Behind a line that is too long, and behind the line after the last one that may stand, nothing changes what a schedule
--- leads to.
-use Rattle.std.proofs.Common.{◌≡◌, ◌⊎◌, ℕ, ◌+◌, ◌<◌, ◌≤◌, List, [], ◌∷◌, ◌++◌, length, Bool, true, false, Option, Some, None, Result, Ok, Err, inl, inr, refl, sym, ap, subst, ◌∙◌, arith, cond}
-use Rattle.std.specs.Prelude.{◌==◌, nat_lt, nat_le, is_none, IfSome, ⊤, if◌then◌else◌}
-use Rattle.std.specs.Io.KnownBytes.{Consumes}
-use Rattle.std.specs.List.{slice_split, onto_first}
+-- Behind bytes that decide, nothing changes what a schedule leads to.
+use Rattle.std.proofs.Common.{◌≡◌, ◌⊎◌, ℕ, ◌+◌, ◌<◌, ◌≤◌, List, [], ◌∷◌, ◌++◌, length, Bool, true, false, Result, Ok, Err}
+use Rattle.std.proofs.Common.{inl, inr, refl, sym, ap, subst, ◌∙◌, arith, cond, append-nil, add-zero}
+use Rattle.std.specs.Prelude.{◌==◌, ◌||◌, nat_lt, nat_le, is_err}
 use Rattle.std.proofs.lemmas.Grind.{common_steps}
-use Rattle.std.proofs.lemmas.List.Splits.{slice_split-cons_yes, slice_split-cons_no}
-use Rattle.basil_types.specs.Setting.{Setting}
-use Rattle.schedule_text.specs.Complaints.{reason_of}
-use Rattle.schedule_text.specs.Limits.{longest_line, most_lines}
-use Rattle.schedule_text.specs.Reading.{line_at, line_value, numbered, answered, is_header, is_skipped}
-use Rattle.schedule_text.specs.declared.complaint.Complaint.{Complaint}
-use Rattle.schedule_text.specs.declared.complaint.Complaint.TheVariants.{OutOfSize}
-use Rattle.schedule_text.specs.declared.line.Line.{Line}
-use Rattle.schedule_text.specs.declared.line.LineFault.{LineFault}
+use Rattle.basil_types.specs.Steps.{◌>>=◌}
+use Rattle.schedule_replay.specs.Lines.{later_reason}
+use Rattle.schedule_replay.specs.Outcomes.{outcome_of}
+use Rattle.schedule_replay.specs.Reports.{report}
+use Rattle.schedule_replay.specs.Stages.{Stage, Begins, Opens, Runs, ended, read_line, run_lines, stage_step}
+use Rattle.schedule_replay.specs.declared.fault.ReplayFault.{ReplayFault}
+use Rattle.schedule_replay.specs.declared.fault.ReplayFault.TheVariants.{BadInput}
+use Rattle.schedule_text.specs.Limits.{longest_line}
+use Rattle.schedule_text.specs.Reading.{is_skipped, line_at}
+use Rattle.schedule_text.specs.TextLines.{but_empty_last, lines_of}
 use Rattle.schedule_text.specs.declared.line.LineFault.TheVariants.{BadLine}
-use Rattle.schedule_text.specs.TextLines.{lines_of, but_empty_last}
-use Rattle.schedule_text.proofs.LineCuts.{pieces}
-use Rattle.basil_cli.specs.Outcome.{longest_input, is_too_long}
-use Rattle.basil_cli.specs.Reading.{IsRead, IsReadThrough, beginning, is_settled, passed, reached}
-use Rattle.basil_cli.specs.Replay.{Ended, Refusal, ReplayState, ended_lines, ended_of, ended_with, first_replay, first_said, go_on, later_reason, opened, run_lines, step, step_said}
-use Rattle.basil_cli.specs.declared.place.Place.{Place}
+use Rattle.basil_cli.specs.Reading.{ended_lines, has_newline, is_settled, open_line, pieces_of}
+use Rattle.basil_cli.proofs.LineEnds.{begun, grown, open_whole, pieces_ended, pieces_more, pieces_whole}
 
--- ---- lines that are refused whatever follows
+-- ---- lines, one after another
 
--- both are too long, or they are the same behind the last that may stand
-Stops : List ℕ → List ℕ → ℕ → Type 0
-Stops x y number =
-    ((longest_line < length x) × (longest_line < length y) × (is_skipped x ≡ is_skipped y)) ⊎ ((x ≡ y) × (most_lines < number))
+Rests : List (List ℕ) → ℕ → Result Stage ReplayFault → Result Stage ReplayFault
+Rests lines number r = r >>= run_lines lines number
 
--- the same lines up to one that is refused
-Alike : List (List ℕ) → List (List ℕ) → ℕ → Type 0
-Alike [] ys number = ⊥
-Alike (x ∷ xs) [] number = ⊥
-Alike (x ∷ xs) (y ∷ ys) number = Stops x y number ⊎ ((x ≡ y) × Alike xs ys (number + 1))
+pub run_append : (xs ys : List (List ℕ)) (number : ℕ) (stage : Stage) →
+    run_lines (xs ++ ys) number stage ≡ (run_lines xs number stage >>= run_lines ys (number + length xs))
+run_append [] ys number stage = sym (ap (λ (n : ℕ). run_lines ys n stage) (add-zero number))
+run_append (x ∷ xs) ys number stage = by (stage_step stage x number) (λ t. run_append xs ys (number + 1) t)
+  where
+    by : (r : Result Stage ReplayFault) →
+        ((t : Stage) → run_lines (xs ++ ys) (number + 1) t ≡ (run_lines xs (number + 1) t >>= run_lines ys (number + 1 + length xs))) →
+        (r >>= run_lines (xs ++ ys) (number + 1)) ≡ ((r >>= run_lines xs (number + 1)) >>= run_lines ys (number + length (x ∷ xs)))
+    by (Ok t) rest =
+        let same : number + 1 + length xs ≡ number + length (x ∷ xs) = omega arith in
+        rest t ∙ ap (λ (n : ℕ). run_lines xs (number + 1) t >>= run_lines ys n) same
+    by (Err e) rest = refl
+
+-- ---- lines that are too long
 
 lt-yes : (m n : ℕ) → m < n → nat_lt m n ≡ true
 lt-yes m n h = grind (arith, common_steps)
+
+lt-of : (m n : ℕ) → nat_lt m n ≡ true → m < n
+lt-of m n e = grind (arith, common_steps)
 
 le-no : (m n : ℕ) → n < m → nat_le m n ≡ false
 le-no m n h = grind (arith, common_steps)
@@ -45,264 +50,218 @@ too_long : (line : List ℕ) (number : ℕ) → longest_line < length line → l
 unfolding line_at
 too_long line number h = rw (lt-yes longest_line (length line) h) refl
 
--- a line is refused for this reason
-record Refused (line : List ℕ) (number : ℕ) : Type 0 where
-  reason : ℕ
-  is : line_at line number ≡ Err (BadLine number reason)
-
-numbered-late : (number : ℕ) → most_lines < number → (value : Result Line Complaint) → (reason : ℕ) × (answered number (numbered number value) ≡ Err (BadLine number reason))
-numbered-late number late (Ok line) = (reason_of OutOfSize, rw (le-no number most_lines late) refl)
-numbered-late number late (Err c) = (reason_of c, refl)
-
-late : (line : List ℕ) (number : ℕ) → most_lines < number → Refused line number
-unfolding line_at
-late line number behind = by (nat_lt longest_line (length line)) refl
-  where
-    by : (long : Bool) → nat_lt longest_line (length line) ≡ long → Refused line number
-    by true e = record { reason = 8; is = rw e refl }
-    by false e =
-        let n = numbered-late number behind (line_value line) in
-        record { reason = n.0; is = rw e n.1 }
-
 later-long : (line : List ℕ) → longest_line < length line → later_reason line 8 ≡ 8
 later-long line h = rw (le-no (length line) longest_line h) refl
 
-step-long : (s : Setting) (r : ReplayState) (line : List ℕ) (number : ℕ) → longest_line < length line → step s r line number ≡ Err 8
-step-long s r line number h = ap (step_said s r line) (too_long line number h) ∙ ap (λ (n : ℕ). Err n) (later-long line h)
+-- why such a line is refused: whether it is skipped shows in its first byte
+long_fault : Stage → (skipped : Bool) → ℕ → ReplayFault
+long_fault Begins skipped number = BadInput number (cond skipped 8 1)
+long_fault stage skipped number = BadInput number 8
 
-step-late : (s : Setting) (r : ReplayState) (line : List ℕ) (number : ℕ) (refused : Refused line number) → step s r line number ≡ Err (later_reason line refused.reason)
-step-late s r line number refused = ap (step_said s r line) refused.is
+step_long : (stage : Stage) (line : List ℕ) (number : ℕ) → longest_line < length line →
+    stage_step stage line number ≡ Err (long_fault stage (is_skipped line) number)
+unfolding long_fault
+step_long Begins line number h = ap (read_line Begins line number) (too_long line number h)
+step_long (Opens o faulty) line number h =
+    ap (read_line (Opens o faulty) line number) (too_long line number h)
+    ∙ ap (λ (reason : ℕ). Err (BadInput number reason)) (later-long line h)
+step_long (Runs r) line number h =
+    ap (read_line (Runs r) line number) (too_long line number h)
+    ∙ ap (λ (reason : ℕ). Err (BadInput number reason)) (later-long line h)
 
-first-long : (line : List ℕ) (number : ℕ) → longest_line < length line → first_said line (line_at line number) ≡ first_said line (Err (BadLine number 8))
-first-long line number h = ap (first_said line) (too_long line number h)
+-- what lines lead to where one that is too long stands behind them
+Refused : Result Stage ReplayFault → (skipped : Bool) → ℕ → Result Stage ReplayFault
+Refused r skipped number = r >>= λ stage. Err (long_fault stage skipped number)
 
--- ---- the replay of lines that are alike
+run_long : (xs : List (List ℕ)) (line : List ℕ) (ys : List (List ℕ)) → longest_line < length line →
+    run_lines (xs ++ line ∷ ys) 1 Begins ≡ Refused (run_lines xs 1 Begins) (is_skipped line) (1 + length xs)
+unfolding Refused
+run_long xs line ys h = run_append xs (line ∷ ys) 1 Begins ∙ by (run_lines xs 1 Begins)
+  where
+    by : (r : Result Stage ReplayFault) →
+        (r >>= run_lines (line ∷ ys) (1 + length xs)) ≡ (r >>= λ stage. Err (long_fault stage (is_skipped line) (1 + length xs)))
+    by (Ok stage) =
+        ap (λ (x : Result Stage ReplayFault). x >>= run_lines ys (1 + length xs + 1)) (step_long stage line (1 + length xs) h)
+    by (Err e) = refl
 
-on_step : (number : ℕ) (s : Setting) (xs ys : List (List ℕ)) (a b : Result ReplayState ℕ) (reason : ℕ) → a ≡ Err reason → b ≡ Err reason
-    → go_on number a (λ next. run_lines s xs (number + 1) next) ≡ go_on number b (λ next. run_lines s ys (number + 1) next)
-on_step number s xs ys a b reason ea eb =
-    ap (λ t. go_on number t (λ next. run_lines s xs (number + 1) next)) ea ∙ sym (ap (λ t. go_on number t (λ next. run_lines s ys (number + 1) next)) eb)
+refused_err : (r : Result Stage ReplayFault) (skipped : Bool) (number : ℕ) → is_err (Refused r skipped number) ≡ true
+unfolding Refused
+refused_err (Ok stage) skipped number = refl
+refused_err (Err e) skipped number = refl
 
-run_alike : (s : Setting) (xs ys : List (List ℕ)) (number : ℕ) → Alike xs ys number → (r : ReplayState) → run_lines s xs number r ≡ run_lines s ys number r
-unfolding Alike Stops
-run_alike s [] ys number h r = absurd h
-run_alike s (x ∷ xs) [] number h r = absurd h
-run_alike s (x ∷ xs) (y ∷ ys) number (inl (inl long)) r =
-    on_step number s xs ys (step s r x number) (step s r y number) 8 (step-long s r x number long.0) (step-long s r y number long.1)
-run_alike s (x ∷ xs) (y ∷ ys) number (inl (inr same)) r =
-    let n = late x number same.1 in
-    let e = step-late s r x number n in
-    on_step number s xs ys (step s r x number) (step s r y number) (later_reason x n.reason) e (subst (λ z. step s r z number ≡ Err (later_reason x n.reason)) same.0 e)
-run_alike s (x ∷ xs) (y ∷ ys) number (inr same) r =
-    λ i. go_on number (step s r (same.0 i) number) (λ next. run_alike s xs ys (number + 1) same.1 next i)
+pub no_long : (xs : List (List ℕ)) (line : List ℕ) (stage : Stage) → longest_line < length line →
+    run_lines (xs ++ line ∷ []) 1 Begins ≡ Ok stage → ⊥
+no_long xs line stage h e =
+    let err : is_err (run_lines (xs ++ line ∷ []) 1 Begins) ≡ true =
+    ap is_err (run_long xs line [] h) ∙ refused_err (run_lines xs 1 Begins) (is_skipped line) (1 + length xs) in
+    let ok : is_err (run_lines (xs ++ line ∷ []) 1 Begins) ≡ false = ap is_err e in
+    absurd cc
 
-fails_alike : (number : ℕ) (x y : List ℕ) (reason : ℕ) (others more : Result Ended Refusal) (f g : Setting → ℕ → Result Ended Refusal) → is_skipped x ≡ is_skipped y
-    → opened (first_said x (Err (BadLine number reason))) number others f ≡ opened (first_said y (Err (BadLine number reason))) number more g
-fails_alike number x y reason others more f g e = ap (λ b. Err (record { line = number; reason = if b then reason else 1 })) e
+-- ---- the lines of a whole schedule
 
-ended_stop : (xs ys : List (List ℕ)) (x y : List ℕ) (number reason : ℕ) → is_skipped x ≡ is_skipped y → line_at x number ≡ Err (BadLine number reason) → line_at y number ≡ Err (BadLine number reason)
-    → ended_lines (x ∷ xs) number ≡ ended_lines (y ∷ ys) number
-ended_stop xs ys x y number reason e ex ey =
-    let f = λ (s : Setting) (clock : ℕ). ended_with s clock (run_lines s xs (number + 1) (first_replay clock)) in
-    let g = λ (s : Setting) (clock : ℕ). ended_with s clock (run_lines s ys (number + 1) (first_replay clock)) in
-    ap (λ t. opened (first_said x t) number (ended_lines xs (number + 1)) f) ex
-    ∙ fails_alike number x y reason (ended_lines xs (number + 1)) (ended_lines ys (number + 1)) f g e
-    ∙ sym (ap (λ t. opened (first_said y t) number (ended_lines ys (number + 1)) g) ey)
+by_last : (es : List (List ℕ)) (p : List ℕ) (ps : List (List ℕ)) → but_empty_last (es ++ p ∷ ps) ≡ es ++ but_empty_last (p ∷ ps)
+by_last [] p ps = refl
+by_last (e ∷ []) p ps = refl
+by_last (e ∷ f ∷ es) p ps = ap (λ (ls : List (List ℕ)). e ∷ ls) (by_last (f ∷ es) p ps)
 
-ended_alike : (xs ys : List (List ℕ)) (number : ℕ) → Alike xs ys number → ended_lines xs number ≡ ended_lines ys number
-unfolding Alike Stops
-ended_alike [] ys number h = absurd h
-ended_alike (x ∷ xs) [] number h = absurd h
-ended_alike (x ∷ xs) (y ∷ ys) number (inl (inl long)) =
-    ended_stop xs ys x y number 8 long.2 (too_long x number long.0) (too_long y number long.1)
-ended_alike (x ∷ xs) (y ∷ ys) number (inl (inr same)) =
-    let n = late x number same.1 in
-    ended_stop xs ys x y number n.reason (ap is_skipped same.0) n.is (subst (λ z. line_at z number ≡ Err (BadLine number n.reason)) same.0 n.is)
-ended_alike (x ∷ xs) (y ∷ ys) number (inr same) =
-    λ i. opened (first_said (same.0 i) (line_at (same.0 i) number)) number (ended_alike xs ys (number + 1) same.1 i)
-    (λ s clock. ended_with s clock (run_alike s xs ys (number + 1) same.1 (first_replay clock) i))
-
--- ---- the lines of bytes that begin with an open line
-
--- no newline is among the bytes
-Free : List ℕ → Type 0
-Free [] = ⊤
-Free (b ∷ bs) = ((b == 10) ≡ false) × Free bs
-
-free-longer : (q : List ℕ) (b : ℕ) → Free q → (b == 10) ≡ false → Free (q ++ b ∷ [])
-unfolding Free
-free-longer [] b h e = (e, tt)
-free-longer (c ∷ q) b h e = (h.0, free-longer q b h.1 e)
-
-onto : List ℕ → List (List ℕ) → List (List ℕ)
-onto w [] = w ∷ []
-onto w (p ∷ ps) = (w ++ p) ∷ ps
-
-onto-first : (x : ℕ) (w : List ℕ) (ps : List (List ℕ)) → onto_first x (onto w ps) ≡ onto (x ∷ w) ps
-unfolding onto
-onto-first x w [] = refl
-onto-first x w (p ∷ ps) = refl
-
-onto-none : (ps : List (List ℕ)) → 0 < length ps → onto [] ps ≡ ps
-unfolding onto
-onto-none [] some = absurd (omega (arith, some))
-onto-none (p ∷ ps) some = refl
-
-pieces-free : (w xs : List ℕ) → Free w → slice_split (λ b. b == 10) (w ++ xs) ≡ onto w (slice_split (λ b. b == 10) xs)
-unfolding Free
-pieces-free [] xs h = let p = pieces xs in ap (λ ps. ps) p.is ∙ sym (ap (onto []) p.is ∙ onto-none (p.first ∷ p.others) (omega arith))
-pieces-free (b ∷ w) xs h = slice_split-cons_no (λ b. b == 10) b (w ++ xs) h.0 ∙ ap (onto_first b) (pieces-free w xs h.1) ∙ onto-first b w (slice_split (λ b. b == 10) xs)
-
-nothing-behind : (q : List ℕ) → q ++ [] ≡ q
-nothing-behind q = grind (arith, common_steps)
-
--- a newline ends the open line
-line-ends : (q bs : List ℕ) → Free q → lines_of (q ++ 10 ∷ bs) ≡ q ∷ lines_of bs
-unfolding onto
-line-ends q bs h =
-    let p = pieces bs in
-    ap but_empty_last (pieces-free q (10 ∷ bs) h ∙ ap (onto q) (slice_split-cons_yes (λ b. b == 10) 10 bs refl) ∙ ap (λ ps. (q ++ []) ∷ ps) p.is)
-    ∙ ap (λ z. z ∷ but_empty_last (p.first ∷ p.others)) (nothing-behind q)
-    ∙ ap (λ ps. q ∷ but_empty_last ps) (sym p.is)
-
--- the first line begins with the open one
-record First (w : List ℕ) (lines : List (List ℕ)) : Type 0 where
-  more : List ℕ
-  others : List (List ℕ)
-  is : lines ≡ (w ++ more) ∷ others
+pub lines_more : (read more : List ℕ) → lines_of (read ++ more) ≡ ended_lines read ++ lines_of (open_line read ++ more)
+lines_more read more =
+    let b = begun (open_line read) more (open_whole read) in
+    ap but_empty_last (pieces_more read more ∙ ap (λ (ps : List (List ℕ)). ended_lines read ++ ps) b.is)
+    ∙ by_last (ended_lines read) (open_line read ++ b.more) b.others
+    ∙ ap (λ (ps : List (List ℕ)). ended_lines read ++ but_empty_last ps) (sym b.is)
 
 not-empty : (w more : List ℕ) → 0 < length w → (length (w ++ more) == 0) ≡ false
 not-empty w more some = grind (arith, common_steps)
 
-first-shown : (w more : List ℕ) (others : List (List ℕ)) → 0 < length w → First w (but_empty_last ((w ++ more) ∷ others))
-first-shown w more [] some = record { more = more; others = []; is = ap (λ b. cond b [] ((w ++ more) ∷ [])) (not-empty w more some) }
-first-shown w more (p ∷ ps) some = record { more = more; others = but_empty_last (p ∷ ps); is = refl }
+-- the first line begins with the open one
+record First (w xs : List ℕ) : Type 0 where
+  more : List ℕ
+  others : List (List ℕ)
+  is : lines_of (w ++ xs) ≡ (w ++ more) ∷ others
 
-first-line : (w xs : List ℕ) → Free w → 0 < length w → First w (lines_of (w ++ xs))
-unfolding onto
-first-line w xs h some =
-    let p = pieces xs in
-    let f = first-shown w p.first p.others some in
-    record { more = f.more; others = f.others; is = ap but_empty_last (pieces-free w xs h ∙ ap (onto w) p.is) ∙ f.is }
-
-skipped-alike : (q : List ℕ) (b : ℕ) (xs ys : List ℕ) → is_skipped ((q ++ b ∷ []) ++ xs) ≡ is_skipped ((q ++ b ∷ []) ++ ys)
-skipped-alike [] b xs ys = refl
-skipped-alike (c ∷ q) b xs ys = refl
-
-longer : (q : List ℕ) (b : ℕ) (xs : List ℕ) → longest_line ≤ length q → longest_line < length ((q ++ b ∷ []) ++ xs)
-longer q b xs h = grind (arith, common_steps)
-
-joined : (q : List ℕ) (b : ℕ) (bs : List ℕ) → (q ++ b ∷ []) ++ bs ≡ q ++ b ∷ bs
-joined q b bs = grind (arith, common_steps)
-
-alike-long : (q : List ℕ) (b : ℕ) (bs more : List ℕ) (number : ℕ) → Free q → (b == 10) ≡ false → longest_line ≤ length q → Alike (lines_of (q ++ b ∷ bs)) (lines_of (q ++ (b ∷ (bs ++ more)))) number
-unfolding Alike Stops
-alike-long q b bs more number h e long =
-    let w = q ++ b ∷ [] in
-    let some : 0 < length w = grind (arith, common_steps) in
-    let f = first-line w bs (free-longer q b h e) some in
-    let g = first-line w (bs ++ more) (free-longer q b h e) some in
-    let fl : lines_of (q ++ b ∷ bs) ≡ (w ++ f.more) ∷ f.others = ap lines_of (sym (joined q b bs)) ∙ f.is in
-    let gl : lines_of (q ++ (b ∷ (bs ++ more))) ≡ (w ++ g.more) ∷ g.others = ap lines_of (sym (joined q b (bs ++ more))) ∙ g.is in
-    let alike : Alike ((w ++ f.more) ∷ f.others) ((w ++ g.more) ∷ g.others) number = inl (inl (longer q b f.more long, longer q b g.more long, skipped-alike q b f.more g.more)) in
-    subst (λ ls. Alike ls (lines_of (q ++ (b ∷ (bs ++ more)))) number) (sym fl) (subst (λ ls. Alike ((w ++ f.more) ∷ f.others) ls number) (sym gl) alike)
-
-alike-ended : (q bs more : List ℕ) (number : ℕ) → Free q → (most_lines < number) ⊎ Alike (lines_of bs) (lines_of (bs ++ more)) (number + 1) → Alike (lines_of (q ++ 10 ∷ bs)) (lines_of (q ++ (10 ∷ (bs ++ more)))) number
-unfolding Alike Stops
-alike-ended q bs more number h why =
-    let alike : Alike (q ∷ lines_of bs) (q ∷ lines_of (bs ++ more)) number = by why in
-    subst (λ ls. Alike ls (lines_of (q ++ (10 ∷ (bs ++ more)))) number) (sym (line-ends q bs h)) (subst (λ ls. Alike (q ∷ lines_of bs) ls number) (sym (line-ends q (bs ++ more) h)) alike)
+first_line : (w xs : List ℕ) → has_newline w ≡ false → 0 < length w → First w xs
+first_line w xs h some = let b = begun w xs h in by b.more b.others b.is
   where
-    by : (most_lines < number) ⊎ Alike (lines_of bs) (lines_of (bs ++ more)) (number + 1) → Alike (q ∷ lines_of bs) (q ∷ lines_of (bs ++ more)) number
-    by (inl behind) = inl (inr (refl, behind))
-    by (inr others) = inr (refl, others)
+    by : (more : List ℕ) (others : List (List ℕ)) → pieces_of (w ++ xs) ≡ (w ++ more) ∷ others → First w xs
+    by more [] e = record {
+      more = more;
+      others = [];
+      is = ap but_empty_last e ∙ ap (λ (b : Bool). cond b [] ((w ++ more) ∷ [])) (not-empty w more some);
+    }
+    by more (p ∷ ps) e = record { more = more; others = but_empty_last (p ∷ ps); is = ap but_empty_last e }
 
-is-newline : (b : ℕ) → (b == 10) ≡ true → b ≡ 10
-is-newline b e = grind (arith, common_steps)
+one_ended : (w : List ℕ) → has_newline w ≡ false → lines_of (w ++ 10 ∷ []) ≡ w ∷ []
+one_ended w h = ap but_empty_last (pieces_ended w h)
 
-not-lt : (m n : ℕ) → nat_lt m n ≡ false → n ≤ m
-not-lt m n e = grind (arith, common_steps)
+one_open : (w : List ℕ) → has_newline w ≡ false → 0 < length w → lines_of w ≡ w ∷ []
+one_open w h some =
+    ap but_empty_last (pieces_whole w h)
+    ∙ ap (λ (v : List ℕ). cond (length v == 0) [] (w ∷ [])) (sym (append-nil w))
+    ∙ ap (λ (b : Bool). cond b [] (w ∷ [])) (not-empty w [] some)
 
-one-longer : (q : List ℕ) (b many : ℕ) → many ≡ length q → many + 1 ≡ length (q ++ b ∷ [])
-one-longer q b many l = grind (arith, common_steps, l)
+-- the lines of bytes that end with a newline
+pub whole_line : (read : List ℕ) → open_line read ≡ [] → lines_of read ≡ ended_lines read
+whole_line read o =
+    ap lines_of (sym (append-nil read)) ∙ lines_more read []
+    ∙ ap (λ (w : List ℕ). ended_lines read ++ lines_of (w ++ [])) o
+    ∙ append-nil (ended_lines read)
 
--- the place behind a byte
-behind-newline : (b ended many : ℕ) (bs : List ℕ) → (b == 10) ≡ true → nat_lt ended most_lines ≡ true → reached (Some (record { ended = ended; bytes = many })) (b ∷ bs) ≡ None
-    → reached (Some (record { ended = ended + 1; bytes = 0 })) bs ≡ None
-behind-newline b ended many bs n f e =
-    let p : passed (record { ended = ended; bytes = many }) b ≡ Some (record { ended = ended + 1; bytes = 0 }) = rw (n, f) refl in
-    sym (ap (λ t. reached t bs) p) ∙ e
+-- behind an open line a newline changes nothing
+pub one_line : (read : List ℕ) → 0 < length (open_line read) → lines_of (read ++ 10 ∷ []) ≡ lines_of read
+one_line read some =
+    lines_more read (10 ∷ [])
+    ∙ ap (λ (ls : List (List ℕ)). ended_lines read ++ ls)
+    (one_ended (open_line read) (open_whole read) ∙ sym (one_open (open_line read) (open_whole read) some)
+    ∙ ap lines_of (sym (append-nil (open_line read))))
+    ∙ sym (ap lines_of (sym (append-nil read)) ∙ lines_more read [])
 
-behind-other : (b ended many : ℕ) (bs : List ℕ) → (b == 10) ≡ false → nat_lt many longest_line ≡ true → reached (Some (record { ended = ended; bytes = many })) (b ∷ bs) ≡ None
-    → reached (Some (record { ended = ended; bytes = many + 1 })) bs ≡ None
-behind-other b ended many bs n s e =
-    let p : passed (record { ended = ended; bytes = many }) b ≡ Some (record { ended = ended; bytes = many + 1 }) = rw (n, s) refl in
-    sym (ap (λ t. reached t bs) p) ∙ e
+-- ---- outcomes
 
-alike-next : (b : ℕ) (bs q : List ℕ) (ended many : ℕ) (more : List ℕ) → Free q → many ≡ length q
-    → (nat_lt ended most_lines ≡ true → (b == 10) ≡ true → Alike (lines_of bs) (lines_of (bs ++ more)) (ended + 1 + 1))
-    → ((b == 10) ≡ false → nat_lt many longest_line ≡ true → Alike (lines_of ((q ++ b ∷ []) ++ bs)) (lines_of ((q ++ b ∷ []) ++ (bs ++ more))) (ended + 1))
-    → (newline : Bool) → (b == 10) ≡ newline → (fits : Bool) → nat_lt ended most_lines ≡ fits → (short : Bool) → nat_lt many longest_line ≡ short
-    → Alike (lines_of (q ++ b ∷ bs)) (lines_of (q ++ (b ∷ (bs ++ more)))) (ended + 1)
-alike-next b bs q ended many more h l ends grows true n false f short s =
-    subst (λ z. Alike (lines_of (q ++ z ∷ bs)) (lines_of (q ++ (z ∷ (bs ++ more)))) (ended + 1)) (sym (is-newline b n)) (alike-ended q bs more (ended + 1) h (inl (omega (arith, not-lt ended most_lines f))))
-alike-next b bs q ended many more h l ends grows true n true f short s =
-    subst (λ z. Alike (lines_of (q ++ z ∷ bs)) (lines_of (q ++ (z ∷ (bs ++ more)))) (ended + 1)) (sym (is-newline b n)) (alike-ended q bs more (ended + 1) h (inr (ends f n)))
-alike-next b bs q ended many more h l ends grows false n fits f false s = alike-long q b bs more (ended + 1) h n (omega (arith, l, not-lt many longest_line s))
-alike-next b bs q ended many more h l ends grows false n fits f true s =
-    subst (λ z. Alike (lines_of z) (lines_of (q ++ (b ∷ (bs ++ more)))) (ended + 1)) (joined q b bs) (subst (λ z. Alike (lines_of ((q ++ b ∷ []) ++ bs)) (lines_of z) (ended + 1)) (joined q b (bs ++ more)) (grows n s))
+Outcome_of : Result Stage ReplayFault → Result (List ℕ) ReplayFault
+Outcome_of r = (r >>= ended) >>= λ r. Ok (report r)
 
-alike : (bytes q : List ℕ) (ended many : ℕ) (more : List ℕ) → Free q → many ≡ length q → reached (Some (record { ended = ended; bytes = many })) bytes ≡ None
-    → Alike (lines_of (q ++ bytes)) (lines_of (q ++ (bytes ++ more))) (ended + 1)
-unfolding Free
-alike [] q ended many more h l e = absurd cc
-alike (b ∷ bs) q ended many more h l e =
-    alike-next b bs q ended many more h l
-    (λ f n. alike bs [] (ended + 1) 0 more tt refl (behind-newline b ended many bs n f e))
-    (λ n s. alike bs (q ++ b ∷ []) ended (many + 1) more (free-longer q b h n) (one-longer q b many l) (behind-other b ended many bs n s e))
-    (b == 10) refl (nat_lt ended most_lines) refl (nat_lt many longest_line) refl
+-- a line that ended and led to a fault decides
+pub faulty_outcome : (read more : List ℕ) (f : ReplayFault) → run_lines (ended_lines read) 1 Begins ≡ Err f →
+    outcome_of (read ++ more) ≡ Err f
+unfolding Outcome_of
+faulty_outcome read more f h =
+    let others = lines_of (open_line read ++ more) in
+    ap (λ (lines : List (List ℕ)). Outcome_of (run_lines lines 1 Begins)) (lines_more read more)
+    ∙ ap Outcome_of (run_append (ended_lines read) others 1 Begins)
+    ∙ ap (λ (r : Result Stage ReplayFault). Outcome_of (r >>= run_lines others (1 + length (ended_lines read)))) h
 
-pub none : (o : Option Place) → is_none o ≡ true → o ≡ None
-none None e = refl
-none (Some place) e = absurd cc
+skipped_alike : (w more : List ℕ) → 0 < length w → is_skipped (w ++ more) ≡ is_skipped w
+skipped_alike [] more some = absurd (omega (arith, some))
+skipped_alike (b ∷ w) more some = refl
 
-pub settled : (read rest : List ℕ) → is_settled read ≡ true → ended_of read ≡ ended_of (read ++ rest)
-unfolding Free
-settled read rest e = ended_alike (lines_of read) (lines_of (read ++ rest)) 1 (alike read [] 0 0 rest tt refl (none (reached (Some beginning) read) e))
+-- so does an open line that is too long
+pub long_outcome : (read more : List ℕ) → longest_line < length (open_line read) → outcome_of (read ++ more) ≡ outcome_of (read ++ 10 ∷ [])
+unfolding Outcome_of
+long_outcome read more h =
+    let w = open_line read in
+    let some : 0 < length (open_line read) = omega arith in
+    let f = first_line (open_line read) more (open_whole read) some in
+    let longer : longest_line < length (open_line read ++ f.more) = grind (arith, common_steps) in
+    let here : lines_of (read ++ more) ≡ ended_lines read ++ (open_line read ++ f.more) ∷ f.others =
+    lines_more read more ∙ ap (λ (ls : List (List ℕ)). ended_lines read ++ ls) f.is in
+    let there : lines_of (read ++ 10 ∷ []) ≡ ended_lines read ++ open_line read ∷ [] =
+    lines_more read (10 ∷ []) ∙ ap (λ (ls : List (List ℕ)). ended_lines read ++ ls) (one_ended (open_line read) (open_whole read)) in
+    let number = 1 + length (ended_lines read) in
+    let one : run_lines (lines_of (read ++ more)) 1 Begins
+    ≡ Refused (run_lines (ended_lines read) 1 Begins) (is_skipped (open_line read ++ f.more)) number =
+    ap (λ (ls : List (List ℕ)). run_lines ls 1 Begins) here ∙ run_long (ended_lines read) (open_line read ++ f.more) f.others longer in
+    let two : run_lines (lines_of (read ++ 10 ∷ [])) 1 Begins
+    ≡ Refused (run_lines (ended_lines read) 1 Begins) (is_skipped (open_line read)) number =
+    ap (λ (ls : List (List ℕ)). run_lines ls 1 Begins) there ∙ run_long (ended_lines read) (open_line read) [] h in
+    ap Outcome_of one
+    ∙ ap (λ (b : Bool). Outcome_of (Refused (run_lines (ended_lines read) 1 Begins) b number)) (skipped_alike (open_line read) f.more some)
+    ∙ sym (ap Outcome_of two)
 
--- ---- what was read of the source
+-- ---- bytes that decide
 
-pub reached-more : (place : Option Place) (xs ys : List ℕ) → reached place (xs ++ ys) ≡ reached (reached place xs) ys
-reached-more None xs ys = refl
-reached-more (Some place) [] ys = refl
-reached-more (Some place) (x ∷ xs) ys = reached-more (passed place x) xs ys
+or_left : (a b : Bool) → a ≡ true → (a || b) ≡ true
+or_left a b e = ap (λ (x : Bool). x || b) e
 
-pub consumes-more : (old mid new : Option (List ℕ)) (all piece more : List ℕ) → more ≡ all ++ piece → Consumes old mid all → Consumes mid new piece → Consumes old new more
-consumes-more None mid new all piece more e a b = tt
-consumes-more (Some xs) None new all piece more e a b = absurd a
-consumes-more (Some xs) (Some ys) None all piece more e a b = absurd b
-consumes-more (Some xs) (Some ys) (Some zs) all piece more e a b = grind (arith, common_steps, e, a, b)
+or_right : (a b : Bool) → b ≡ true → (a || b) ≡ true
+or_right true b e = refl
+or_right false b e = e
 
-pub place-more : (all piece more : List ℕ) (place : Place) (next : Option Place) → more ≡ all ++ piece → reached (Some beginning) all ≡ Some place → reached (Some place) piece ≡ next → reached (Some beginning) more ≡ next
-place-more all piece more place next e a b = ap (reached (Some beginning)) e ∙ reached-more (Some beginning) all piece ∙ ap (λ t. reached t piece) a ∙ b
+or_either : (a b : Bool) → (a || b) ≡ true → (a ≡ true) ⊎ (b ≡ true)
+or_either true b e = inl refl
+or_either false b e = inr e
 
-pub settled_same : (old new : Option (List ℕ)) (read : List ℕ) → Consumes old new read → is_settled read ≡ true → IfSome old (λ bytes. ended_of read ≡ ended_of bytes)
-settled_same None new read c e = tt
-settled_same (Some bytes) None read c e = absurd c
-settled_same (Some bytes) (Some rest) read c e = settled read rest e ∙ ap ended_of (sym c)
+settled_err : (read : List ℕ) → is_err (run_lines (ended_lines read) 1 Begins) ≡ true → is_settled read ≡ true
+settled_err read h = or_left (is_err (run_lines (ended_lines read) 1 Begins)) (nat_lt longest_line (length (open_line read))) h
 
-pub enough_read : (enough : List ℕ → Bool) (old new : Option (List ℕ)) (read : List ℕ) → Consumes old new read → enough read ≡ true → IfSome old (λ bytes. IsRead enough bytes read new)
-enough_read enough None new read c e = tt
-enough_read enough (Some bytes) None read c e = absurd c
-enough_read enough (Some bytes) (Some rest) read c e = record { rest = rest; is = c; left_is = refl; far = inr e }
+pub settled_fault : (read : List ℕ) (f : ReplayFault) → run_lines (ended_lines read) 1 Begins ≡ Err f → is_settled read ≡ true
+settled_fault read f h = settled_err read (ap is_err h)
 
-pub settled-more : (all piece more : List ℕ) (place : Place) → more ≡ all ++ piece → reached (Some beginning) all ≡ Some place → reached (Some place) piece ≡ None → is_settled more ≡ true
-settled-more all piece more place e a b = ap is_none (place-more all piece more place None e a b)
+pub settled_long : (read : List ℕ) → longest_line < length (open_line read) → is_settled read ≡ true
+settled_long read h =
+    or_right (is_err (run_lines (ended_lines read) 1 Begins)) (nat_lt longest_line (length (open_line read)))
+    (lt-yes longest_line (length (open_line read)) h)
 
-pub enough_through : (enough : List ℕ → Bool) (old new : Option (List ℕ)) (read : List ℕ) → Consumes old new read → enough read ≡ true → IfSome old (λ bytes. IsReadThrough enough bytes new)
-enough_through enough None new read c e = tt
-enough_through enough (Some bytes) None read c e = absurd c
-enough_through enough (Some bytes) (Some rest) read c e = record { read = read; is = record { rest = rest; is = c; left_is = refl; far = inr e } }
+still_err : (r : Result Stage ReplayFault) (f : Stage → Result Stage ReplayFault) → is_err r ≡ true → is_err (r >>= f) ≡ true
+still_err (Ok stage) f h = absurd cc
+still_err (Err e) f h = refl
 
-pub too-long : (read : List ℕ) → longest_input < length read → is_too_long read ≡ true
-too-long read h = lt-yes longest_input (length read) h
+goes_err : (read : List ℕ) (lines : List (List ℕ)) (more : List ℕ) → ended_lines (read ++ more) ≡ ended_lines read ++ lines →
+    is_err (run_lines (ended_lines read) 1 Begins) ≡ true → is_err (run_lines (ended_lines (read ++ more)) 1 Begins) ≡ true
+goes_err read lines more e h =
+    ap (λ (ls : List (List ℕ)). is_err (run_lines ls 1 Begins)) e
+    ∙ ap is_err (run_append (ended_lines read) lines 1 Begins)
+    ∙ still_err (run_lines (ended_lines read) 1 Begins) (run_lines lines (1 + length (ended_lines read))) h
+
+-- what decides does so whatever follows
+pub settled_more : (read more : List ℕ) → is_settled read ≡ true → is_settled (read ++ more) ≡ true
+settled_more read more h =
+    let g = grown read more in
+    by g.some g.others g.is (or_either (is_err (run_lines (ended_lines read) 1 Begins)) (nat_lt longest_line (length (open_line read))) h)
+  where
+    by : (some : List ℕ) (others : List (List ℕ)) →
+        ((ended_lines (read ++ more) ≡ ended_lines read) × (open_line (read ++ more) ≡ open_line read ++ some))
+        ⊎ (ended_lines (read ++ more) ≡ ended_lines read ++ (open_line read ++ some) ∷ others) →
+        (is_err (run_lines (ended_lines read) 1 Begins) ≡ true) ⊎ (nat_lt longest_line (length (open_line read)) ≡ true) →
+        is_settled (read ++ more) ≡ true
+    by some others (inl same) (inl err) =
+        settled_err (read ++ more) (ap (λ (ls : List (List ℕ)). is_err (run_lines ls 1 Begins)) same.0 ∙ err)
+    by some others (inl same) (inr long) =
+        let l : longest_line < length (open_line read) = lt-of longest_line (length (open_line read)) long in
+        let longer : longest_line < length (open_line read ++ some) = grind (arith, common_steps) in
+        settled_long (read ++ more) (subst (λ (line : List ℕ). longest_line < length line) (sym same.1) longer)
+    by some others (inr e) (inl err) =
+        settled_err (read ++ more) (goes_err read ((open_line read ++ some) ∷ others) more e err)
+    by some others (inr e) (inr long) =
+        let l : longest_line < length (open_line read) = lt-of longest_line (length (open_line read)) long in
+        let longer : longest_line < length (open_line read ++ some) = grind (arith, common_steps) in
+        settled_err (read ++ more)
+        (ap (λ (ls : List (List ℕ)). is_err (run_lines ls 1 Begins)) e
+        ∙ ap is_err (run_long (ended_lines read) (open_line read ++ some) others longer)
+        ∙ refused_err (run_lines (ended_lines read) 1 Begins) (is_skipped (open_line read ++ some)) (1 + length (ended_lines read)))
+
+pub unsettled : (read : List ℕ) (stage : Stage) → run_lines (ended_lines read) 1 Begins ≡ Ok stage →
+    length (open_line read) ≤ longest_line → is_settled read ≡ false
+unsettled read stage e l =
+    let short : nat_lt longest_line (length (open_line read)) ≡ false = grind (arith, common_steps) in
+    ap (λ (r : Result Stage ReplayFault). is_err r || nat_lt longest_line (length (open_line read))) e ∙ short

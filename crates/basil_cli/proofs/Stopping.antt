@@ -2,25 +2,23 @@
 use Rattle.std.proofs.Common.{◌≡◌, ◌⊎◌, ℕ, ◌+◌, ◌<◌, ◌≤◌, List, [], ◌++◌, length, take, drop, Bool, true, false}
 use Rattle.std.proofs.Common.{Option, Some, None, inl, inr, refl, sym, ap, ◌∙◌, arith}
 use Rattle.std.specs.Prelude.{nat_lt, IfSome}
-use Rattle.std.specs.Io.KnownBytes.{Consumes, Keeps}
+use Rattle.std.specs.Io.KnownBytes.{Consumes, IsAtEnd, Keeps}
 use Rattle.std.proofs.Math.Seq.{take-append_seam}
 use Rattle.std.proofs.lemmas.Grind.{common_steps}
 use Rattle.std.proofs.lemmas.List.{append_cancel_right, length-append, length-take, take-append-drop, take-append-le}
 use Rattle.basil_cli.specs.Outcome.{longest_input, is_too_long}
-use Rattle.basil_cli.specs.Reading.{StopsSoon, StopsSoonFor, beginning, is_enough, is_settled, longest_piece, reached}
+use Rattle.basil_cli.specs.Reading.{IsReadThrough, StopsSoon, StopsSoonFor, is_enough, is_settled, longest_piece}
 use Rattle.basil_cli.specs.declared.command.Command.{Command}
-use Rattle.basil_cli.specs.declared.place.Place.{Place}
-use Rattle.basil_cli.proofs.Settling.{none, reached-more}
+use Rattle.basil_cli.proofs.Settling.{settled_more}
 
 -- no front of the bytes decides
 abbrev pub NotYet : (List ℕ → Bool) → List ℕ → Type 0
 NotYet enough before = (decided more : List ℕ) → before ≡ decided ++ more → enough decided ≡ true → ⊥
 
-pub unsettled : (all : List ℕ) (place : Place) → reached (Some beginning) all ≡ Some place → NotYet is_settled all
-unsettled all place e decided more is h =
-    let n : reached (Some beginning) all ≡ None =
-    ap (reached (Some beginning)) is ∙ reached-more (Some beginning) decided more
-    ∙ ap (λ t. reached t more) (none (reached (Some beginning) decided) h) in
+-- bytes that don't decide have no front that does
+pub not_settled : (read : List ℕ) → is_settled read ≡ false → NotYet is_settled read
+not_settled read e decided more is h =
+    let all : is_settled read ≡ true = ap is_settled is ∙ settled_more decided more h in
     absurd cc
 
 lt-of : (m n : ℕ) → nat_lt m n ≡ true → m < n
@@ -113,3 +111,31 @@ pub untaken_for : (command : Option Command) (left : Option (List ℕ)) → IfSo
 untaken_for command None = tt
 untaken_for None (Some bytes) = tt
 untaken_for (Some command) (Some bytes) = untaken (is_enough command) (Some bytes)
+
+-- ---- how far was read
+
+pub consumes-more : (old mid new : Option (List ℕ)) (all piece more : List ℕ) → more ≡ all ++ piece → Consumes old mid all →
+    Consumes mid new piece → Consumes old new more
+consumes-more None mid new all piece more e a b = tt
+consumes-more (Some xs) None new all piece more e a b = absurd a
+consumes-more (Some xs) (Some ys) None all piece more e a b = absurd b
+consumes-more (Some xs) (Some ys) (Some zs) all piece more e a b = grind (arith, common_steps, e, a, b)
+
+-- enough of the bytes were read
+pub enough_through : (enough : List ℕ → Bool) (old new : Option (List ℕ)) (read : List ℕ) → Consumes old new read →
+    enough read ≡ true → IfSome old (λ bytes. IsReadThrough enough bytes new)
+enough_through enough None new read c e = tt
+enough_through enough (Some bytes) None read c e = absurd c
+enough_through enough (Some bytes) (Some rest) read c e =
+    record { read = read; is = record { rest = rest; is = c; left_is = refl; far = inr e } }
+
+-- or all of them
+pub all_through : (enough : List ℕ → Bool) (old new : Option (List ℕ)) (read : List ℕ) → Consumes old new read → IsAtEnd new →
+    IfSome old (λ bytes. IsReadThrough enough bytes new)
+all_through enough None new read c e = tt
+all_through enough (Some bytes) None read c e = absurd c
+all_through enough (Some bytes) (Some rest) read c e =
+    record { read = read; is = record { rest = rest; is = c; left_is = refl; far = inl e } }
+
+pub too-long : (read : List ℕ) → longest_input < length read → is_too_long read ≡ true
+too-long read h = grind (arith, common_steps)

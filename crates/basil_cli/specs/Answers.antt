@@ -1,10 +1,14 @@
 -- What a status says of the outcome, and of what was written.
 use Rattle.std.specs.Prelude.{◌≡◌, ◌⊎◌, ℕ, Bool, true, false, List, Option, Result, Ok, Err, ⊤}
 use Rattle.basil_types.specs.Causes.{Rose, TookAll, TookPrefix}
-use Rattle.thin_world.specs.Safe.{IsSafe}
-use Rattle.basil_cli.specs.Outcome.{Outcome, Usage, BadLine, Written, Refused, Stray, TooLong, text_of, read_fault_text}
-use Rattle.basil_cli.specs.Replay as replay
-use Rattle.basil_cli.specs.Replay.{Ended}
+use Rattle.cluster_run.specs.Headline.{IsSafe}
+use Rattle.premise_watch.specs.declared.broken.Broken as premise
+use Rattle.schedule_replay.specs.Laws.{IsReplayed, IsRealBreak}
+use Rattle.schedule_replay.specs.Outcomes as schedules
+use Rattle.schedule_replay.specs.Replays.{ReplayValue}
+use Rattle.schedule_replay.specs.declared.fault.ReplayFault.{ReplayFault}
+use Rattle.schedule_replay.specs.declared.fault.ReplayFault.TheVariants as fault
+use Rattle.basil_cli.specs.Outcome.{Outcome, Usage, BadLine, Written, Broken, Refused, Stray, Full, TooLong, text_of, read_fault_text}
 use Rattle.basil_cli.specs.declared.status.Status.{Status}
 use Rattle.basil_cli.specs.declared.status.Status.TheVariants as ends
 
@@ -14,8 +18,10 @@ status_number ends.BadWords = 2
 status_number (ends.BadInput line reason) = 3
 status_number ends.ReadFault = 4
 status_number ends.WriteFault = 5
+status_number ends.Broken = 7
 status_number (ends.Refused reason) = 8
 status_number ends.NoMemory = 9
+status_number (ends.Full messages bytes) = 10
 status_number ends.TooLong = 12
 
 -- the status of an outcome
@@ -23,8 +29,10 @@ abbrev pub status_of : Outcome → Status
 status_of Usage = ends.BadWords
 status_of (BadLine line reason) = ends.BadInput line reason
 status_of (Written text) = ends.Done
+status_of (Broken broken) = ends.Broken
 status_of (Refused reason) = ends.Refused reason
 status_of (Stray line) = ends.Refused 0
+status_of (Full messages bytes) = ends.Full messages bytes
 status_of TooLong = ends.TooLong
 
 -- the source's count rose, and some of the text of its fault was written
@@ -49,8 +57,10 @@ Answers ends.BadWords outcome before now old new = Tells ends.BadWords outcome o
 Answers (ends.BadInput line reason) outcome before now old new = Tells (ends.BadInput line reason) outcome old new
 Answers ends.ReadFault outcome before now old new = TookAll old new read_fault_text
 Answers ends.WriteFault outcome before now old new = TookSome outcome before now old new
+Answers ends.Broken outcome before now old new = Tells ends.Broken outcome old new
 Answers (ends.Refused reason) outcome before now old new = Tells (ends.Refused reason) outcome old new
 Answers ends.NoMemory outcome before now old new = new ≡ old
+Answers (ends.Full messages bytes) outcome before now old new = Tells (ends.Full messages bytes) outcome old new
 Answers ends.TooLong outcome before now old new = Tells ends.TooLong outcome old new
 
 -- the outcome's status, or want of memory
@@ -64,11 +74,29 @@ is_outcomes ends.BadWords = true
 is_outcomes (ends.BadInput line reason) = true
 is_outcomes ends.ReadFault = false
 is_outcomes ends.WriteFault = false
+is_outcomes ends.Broken = true
 is_outcomes (ends.Refused reason) = true
 is_outcomes ends.NoMemory = false
+is_outcomes (ends.Full messages bytes) = true
 is_outcomes ends.TooLong = true
 
--- the run that a schedule leads to has no transaction with certificates of both kinds
-abbrev pub IsSafeEnd : Result Ended replay.Refusal → Type 0
-IsSafeEnd (Ok e) = IsSafe e.cluster e.replay.state
-IsSafeEnd (Err refusal) = ⊤
+-- ---- what holds of a schedule
+
+-- a replay comes to what it shows by a run of events with at most f faulty replicas of each shard; no transaction has
+-- both certificates there, and each committed transaction of a correct client read, per key, what the latest committed
+-- writer before it wrote
+pub record IsSafeReplay (r : ReplayValue) : Type 0 where
+  pub ran : IsReplayed r
+  pub safe : IsSafe r.setup r.state
+
+-- the replay that a schedule leads to is safe
+abbrev pub IsSafeEnd : Result ReplayValue ReplayFault → Type 0
+IsSafeEnd (Ok r) = IsSafeReplay r
+IsSafeEnd (Err refused) = ⊤
+
+-- a schedule leads to a breach, whose text was written; it is real
+pub record IsBrokenEnd (bytes : List ℕ) (old new : Option (List ℕ)) : Type 0 where
+  pub broken : premise.Broken
+  pub leads : schedules.outcome_of bytes ≡ Err (fault.Broken broken)
+  pub text : TookAll old new (text_of (Broken broken))
+  pub real : IsRealBreak broken

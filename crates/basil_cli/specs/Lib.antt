@@ -1,5 +1,3 @@
-pub mod Replay
-pub mod Report
 pub mod Commands
 pub mod Outcome
 pub mod Signatures
@@ -9,3 +7,4 @@ pub mod Output
 pub mod Answers
 pub mod Reading
 pub mod Parts
+pub mod Behind

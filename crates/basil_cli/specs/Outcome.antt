@@ -1,5 +1,10 @@
 -- What a command leads to, and what is written.
 use Rattle.std.specs.Prelude.{ℕ, List, [], ◌∷◌, ◌++◌, length, Bool, nat_lt, codes, decimal, if◌then◌else◌}
+use Rattle.std.specs.List.{join_with_byte}
+use Rattle.hex.specs.Hex.{encode_lower}
+use Rattle.premise_watch.specs.declared.broken.Broken as premise
+use Rattle.premise_watch.specs.declared.broken.Broken.TheVariants.{Forged, Collision}
+use Rattle.schedule_text.specs.Spelling.{party_words}
 
 pub data Outcome : Type 0 where
   -- the words are no command
@@ -8,20 +13,34 @@ pub data Outcome : Type 0 where
   BadLine : (line reason : ℕ) → Outcome
   -- the command's output
   Written : (text : List ℕ) → Outcome
+  -- a premise of the run is broken
+  Broken : (broken : premise.Broken) → Outcome
   -- the definition that the command tests is false of the input
   Refused : (reason : ℕ) → Outcome
   -- the same, told in a line of its own
   Stray : (line : List ℕ) → Outcome
+  -- the messages of an event would pass a limit of the pool, which holds so many messages and bytes
+  Full : (messages bytes : ℕ) → Outcome
   -- the input has more than 16,777,216 bytes
   TooLong : Outcome
+
+-- `broken forged PARTY WORDS SIGNATURE`, or `broken collision BYTES BYTES`: the party as a schedule says it, the rest in hex
+abbrev pub broken_text : premise.Broken → List ℕ
+broken_text (Forged party words signature) =
+    codes "broken forged " ++ join_with_byte 32 (party_words party) ++ 32 ∷ encode_lower words
+    ++ 32 ∷ encode_lower signature ++ 10 ∷ []
+broken_text (Collision first second) =
+    codes "broken collision " ++ encode_lower first ++ 32 ∷ encode_lower second ++ 10 ∷ []
 
 -- what is written
 abbrev pub text_of : Outcome → List ℕ
 text_of Usage = codes "usage" ++ 10 ∷ []
 text_of (BadLine line reason) = codes "line " ++ decimal line ++ codes " reason " ++ decimal reason ++ 10 ∷ []
 text_of (Written text) = text
+text_of (Broken broken) = broken_text broken
 text_of (Refused reason) = codes "refused " ++ decimal reason ++ 10 ∷ []
 text_of (Stray line) = line
+text_of (Full messages bytes) = codes "full " ++ decimal messages ++ 32 ∷ decimal bytes ++ 10 ∷ []
 text_of TooLong = codes "too long 16777216" ++ 10 ∷ []
 
 abbrev pub read_fault_text : List ℕ

@@ -1,32 +1,37 @@
 -- How far an input is read.
-use Rattle.std.specs.Prelude.{◌≡◌, ◌⊎◌, ℕ, ◌+◌, ◌<◌, ◌==◌, nat_lt, Bool, true, List, [], ◌∷◌, ◌++◌, length}
-use Rattle.std.specs.Prelude.{Option, Some, None, is_none, ⊤, if◌then◌else◌}
-use Rattle.schedule_text.specs.Limits.{longest_line, most_lines}
+use Rattle.std.specs.Prelude.{◌≡◌, ◌⊎◌, ℕ, ◌-◌, ◌<◌, ◌==◌, nat_lt, Bool, true, ◌||◌, List, [], ◌++◌, length, take, slice_index_or}
+use Rattle.std.specs.Prelude.{Option, Some, None, is_err, ⊤}
+use Rattle.std.specs.List.{list_any, slice_split}
+use Rattle.schedule_replay.specs.Stages.{Begins, run_lines}
+use Rattle.schedule_text.specs.Limits.{longest_line}
 use Rattle.basil_cli.specs.Outcome.{is_too_long}
 use Rattle.basil_cli.specs.declared.command.Command.{Command}
 use Rattle.basil_cli.specs.declared.command.Command.TheVariants.{Replay, Keys, Sign, Verify, Check, Audit}
-use Rattle.basil_cli.specs.declared.place.Place.{Place}
 
--- no byte is read yet
-abbrev pub beginning : Place
-beginning = record { ended = 0; bytes = 0 }
+-- ---- the lines of bytes
 
--- a newline ends a line, and another byte makes the last one longer; there is no place behind the end of the line behind
--- the last one that may stand, nor in a line past its length
-abbrev pub passed : Place → ℕ → Option Place
-passed place byte =
-    if byte == 10 then (if nat_lt place.ended most_lines then Some (record { ended = place.ended + 1; bytes = 0 }) else None)
-    else if nat_lt place.bytes longest_line then Some (record { ended = place.ended; bytes = place.bytes + 1 }) else None
+-- whether a newline is among the bytes
+abbrev pub has_newline : List ℕ → Bool
+has_newline bytes = list_any (λ b. b == 10) bytes
 
--- the place behind these bytes
-abbrev pub reached : Option Place → List ℕ → Option Place
-reached None bytes = None
-reached (Some place) [] = Some place
-reached (Some place) (byte ∷ bytes) = reached (passed place byte) bytes
+-- the pieces between newlines: one at least
+abbrev pub pieces_of : List ℕ → List (List ℕ)
+pieces_of bytes = slice_split (λ b. b == 10) bytes
 
--- whether no byte behind these changes what a schedule leads to
+-- the lines that a newline ends: all pieces but the last
+abbrev pub ended_lines : List ℕ → List (List ℕ)
+ended_lines bytes = take (length (pieces_of bytes) - 1) (pieces_of bytes)
+
+-- the bytes of the line that no newline ends: the last piece
+abbrev pub open_line : List ℕ → List ℕ
+open_line bytes = slice_index_or (pieces_of bytes) (length (pieces_of bytes) - 1) []
+
+-- ---- which bytes decide
+
+-- whether no byte behind these changes what a schedule leads to: a line that ended leads to a fault, or the open one is
+-- too long
 abbrev pub is_settled : List ℕ → Bool
-is_settled bytes = is_none (reached (Some beginning) bytes)
+is_settled bytes = is_err (run_lines (ended_lines bytes) 1 Begins) || nat_lt longest_line (length (open_line bytes))
 
 -- whether these bytes decide for a command, whatever follows
 abbrev pub is_enough : Command → List ℕ → Bool

@@ -4,10 +4,8 @@ ghost use Rattle.std.specs.Prelude.{◌≡◌, ◌<◌, IfOk, IfSome, IsErrOf};
 ghost use Rattle.basil_types.specs.Causes.{Rose};
 ghost use Rattle.basil_cli.specs.Outcome.{is_too_long};
 ghost use Rattle.basil_cli.specs.Parts.{IsWhole, IsShort};
-ghost use Rattle.basil_cli.specs.Reading.{IsRead, IsReadThrough, StopsSoon, is_settled};
-ghost use Rattle.basil_cli.specs.Replay.{ended_of};
+ghost use Rattle.basil_cli.specs.Reading.{IsReadThrough, StopsSoon};
 
-use crate::place::Place;
 use basil_types::bytes::Bytes;
 use basil_types::memory::NoMemory;
 use basil_types::source::{Failed, Source};
@@ -17,7 +15,7 @@ use std::alloc::Global;
 const LONGEST_INPUT: usize = 16_777_216;
 
 /// The most bytes that are read at once.
-const PIECE: usize = 4096;
+pub(crate) const PIECE: usize = 4096;
 
 /// Why a source was not read to its end.
 #[derive(Clone, Copy)]
@@ -37,36 +35,6 @@ impl From<NoMemory> for InputFail {
     fn from(_refused: NoMemory) -> InputFail {
         InputFail::NoMemory
     }
-}
-
-/// Reads a schedule to its end, or as far as what it leads to is settled.
-pub(crate) fn read_schedule<S: Source>(alloc: Global, source: &mut S) -> Result<Vec<u8>, InputFail>
-    ensures same { IfOk result (λ v. IfSome (S.left source.old) (λ bytes. ended_of v.items ≡ ended_of bytes)) }
-    ensures through { IfOk result (λ v. IfSome (S.left source.old) (λ bytes.
-        IsRead is_settled bytes v.items (S.left source.new))) }
-    ensures soon { IfSome (S.left source.old) (λ bytes. StopsSoon is_settled bytes (S.left source.new)) }
-    ensures failed { IsErrOf result InputFail.Failed → Rose (S.faults source.old) (S.faults source.new) }
-    ensures told { S.faults source.old < S.faults source.new → IsErrOf result InputFail.Failed }
-{
-    let mut all = Vec::new(alloc);
-    let mut buf = [0u8; PIECE];
-    let mut place = Place::beginning();
-    'turns: for _ in 0..u64::MAX {
-        let count = match source.read(&mut buf) {
-            Ok(0) => return Ok(all),
-            Ok(count) => count,
-            Err(_) => return Err(InputFail::Failed),
-        };
-        let piece = &buf[..count];
-        if all.extend_from_slice(piece).is_err() {
-            return Err(InputFail::NoMemory);
-        }
-        match place.reach(piece) {
-            Some(next) => place = next,
-            None => return Ok(all),
-        }
-    }
-    Err(InputFail::NoMemory)
 }
 
 /// An input that is read whole.

@@ -3,73 +3,31 @@
 ghost use Rattle.std.specs.Prelude.{◌≡◌, ◌⊎◌, ◌<◌, ℕ, true, false, Some, None, [], IfSome, IfOk, map, string_bytes};
 ghost use Rattle.std.specs.Result.{IsErrOf};
 ghost use Rattle.basil_types.specs.Causes.{Rose, TookPrefix};
-ghost use Rattle.basil_cli.specs.Answers.{Answers, IsSafeEnd, IsTold, TookFault, is_outcomes, status_of};
+ghost use Rattle.schedule_replay.specs.Outcomes.{replay_of};
+ghost use Rattle.basil_cli.specs.Answers.{Answers, IsBrokenEnd, IsSafeEnd, IsTold, TookFault, is_outcomes, status_of};
 ghost use Rattle.basil_cli.specs.Commands as commands;
 ghost use Rattle.basil_cli.specs.Commands.{command_of, words_read, reads, HasLeaf};
 ghost use Rattle.basil_cli.specs.Outcome.{text_of, Usage, BadLine, Refused};
 ghost use Rattle.basil_cli.specs.Output.{outcome_of, output_of};
 ghost use Rattle.basil_cli.specs.Parts.{outcome_is};
-ghost use Rattle.basil_cli.specs.Reading.{IsReadFor, IsReadThrough, StopsSoon, StopsSoonFor, is_enough, is_settled};
-ghost use Rattle.basil_cli.specs.Replay.{ended_of};
+ghost use Rattle.basil_cli.specs.Reading.{IsReadFor, IsReadThrough, StopsSoon, StopsSoonFor, is_enough};
 
 use crate::audit::audit;
 use crate::check::check;
 use crate::command::{Command, read_command};
-use crate::ending::{Ending, ending_of};
-use crate::input::{InputFail, Whole, read_schedule, read_whole};
+use crate::ending::Ending;
+use crate::input::{InputFail, Whole, read_whole};
+use crate::replay::replay;
 use crate::signatures::{keys, sign, verify};
 use crate::status::Status;
+use crate::texts::{status_of_ending, text_of_ending};
 use basil_types::clock::Clock;
 use basil_types::links::Links;
 use basil_types::memory::NoMemory;
 use basil_types::sink::Sink;
 use basil_types::source::Source;
+use schedule_replay::laws::{breaks_are_real, reports_are_safe};
 use std::alloc::Global;
-
-/// `line N reason R`
-fn bad_line_text(alloc: Global, line: u64, reason: u8) -> Result<Vec<u8>, NoMemory>
-    ensures { IfOk result (λ text. text.items ≡ text_of (BadLine line reason)) }
-{
-    let text = format!(in alloc; "line {line} reason {reason}\n")?;
-    Ok(Vec::from_slice(alloc, text.as_bytes())?)
-}
-
-/// `refused R`
-fn refused_text(alloc: Global, reason: u8) -> Result<Vec<u8>, NoMemory>
-    ensures { IfOk result (λ text. text.items ≡ text_of (Refused reason)) }
-{
-    let text = format!(in alloc; "refused {reason}\n")?;
-    Ok(Vec::from_slice(alloc, text.as_bytes())?)
-}
-
-/// The text of an ending.
-fn text_of_ending(alloc: Global, ending: &Ending) -> Result<Vec<u8>, NoMemory>
-    ensures { IfOk result (λ text. text.items ≡ text_of (outcome_is ending.now)) }
-{
-    match ending {
-        Ending::BadLine { line, reason } => bad_line_text(alloc, *line, *reason),
-        Ending::Written(text) => Ok(Vec::from_slice(alloc, text.as_slice())?),
-        Ending::Stray(line) => Ok(Vec::from_slice(alloc, line.as_slice())?),
-        Ending::Refused { reason } => refused_text(alloc, *reason),
-        Ending::TooLong => Ok(Vec::from_slice(alloc, b"too long 16777216\n")?),
-    }
-}
-
-/// The status of an ending.
-fn status_of_ending(ending: &Ending) -> Status
-    ensures { result ≡ status_of (outcome_is ending.now) }
-{
-    match ending {
-        Ending::BadLine { line, reason } => Status::BadInput {
-            line: *line,
-            reason: *reason,
-        },
-        Ending::Written(_) => Status::Done,
-        Ending::Refused { reason } => Status::Refused { reason: *reason },
-        Ending::Stray(_) => Status::Refused { reason: 0 },
-        Ending::TooLong => Status::TooLong,
-    }
-}
 
 /// Writes the text of an ending, and tells its status.
 fn write_ending<K: Sink>(alloc: Global, ending: &Ending, sink: &mut K) -> Status
@@ -104,24 +62,6 @@ fn write_usage<K: Sink>(sink: &mut K) -> Status
     }
 }
 
-/// What a schedule leads to; the run that its lines describe is safe.
-fn replay<S: Source>(alloc: Global, source: &mut S) -> Result<Ending, InputFail>
-    ensures outcome { IfOk result (λ e. IfSome (S.left source.old) (λ bytes.
-        outcome_is e ≡ output_of Command.Replay bytes)) }
-    ensures safe { IfOk result (λ _. IfSome (S.left source.old) (λ bytes. IsSafeEnd (ended_of bytes))) }
-    ensures through { IfOk result (λ _. IfSome (S.left source.old) (λ bytes.
-        IsReadThrough is_settled bytes (S.left source.new))) }
-    ensures soon { IfSome (S.left source.old) (λ bytes. StopsSoon is_settled bytes (S.left source.new)) }
-    ensures failed { IsErrOf result InputFail.Failed → Rose (S.faults source.old) (S.faults source.new) }
-    ensures told { S.faults source.old < S.faults source.new → IsErrOf result InputFail.Failed }
-{
-    let bytes = read_schedule(alloc, source)?;
-    match ending_of(alloc, &bytes) {
-        Ok(ending) => Ok(ending),
-        Err(NoMemory) => Err(InputFail::NoMemory),
-    }
-}
-
 /// What the command leads to.
 fn ending_for<S: Source>(
     alloc: Global,
@@ -137,8 +77,6 @@ fn ending_for<S: Source>(
         IsReadThrough (is_enough command.now) bytes (S.left source.new))) }
     ensures soon { IfSome (S.left source.old) (λ bytes.
         StopsSoon (is_enough command.now) bytes (S.left source.new)) }
-    ensures safe { command.now ≡ Command.Replay → IfOk result (λ _.
-        IfSome (S.left source.old) (λ bytes. IsSafeEnd (ended_of bytes))) }
     ensures failed { IsErrOf result InputFail.Failed → Rose (S.faults source.old) (S.faults source.new) }
     ensures told { S.faults source.old < S.faults source.new → IsErrOf result InputFail.Failed }
 {
@@ -191,12 +129,6 @@ fn run_command<S: Source, K: Sink>(
     ensures complete { (Rose (S.faults source.old) (S.faults source.new) → ⊥) →
         (Rose (K.faults sink.old) (K.faults sink.new) → ⊥) →
         IfSome (S.left source.old) (λ bytes. IsTold result (output_of command.now bytes)) }
-    ensures safe { IfSome (S.left source.old) (λ bytes.
-        command.now ≡ Command.Replay → result ≡ Status.Done → IsSafeEnd (ended_of bytes)) }
-    ensures safe_in_part { IfSome (S.left source.old) (λ bytes.
-        command.now ≡ Command.Replay → result ≡ Status.WriteFault →
-        IsSafeEnd (ended_of bytes)
-        ⊎ TookFault (S.faults source.old) (S.faults source.new) (K.taken sink.old) (K.taken sink.new)) }
     ensures words { result ≡ Status.BadWords → ⊥ }
     ensures read { result ≡ Status.ReadFault → Rose (S.faults source.old) (S.faults source.new) }
     ensures write { result ≡ Status.WriteFault → Rose (K.faults sink.old) (K.faults sink.new) }
@@ -237,15 +169,23 @@ pub fn run<S: Source, K: Sink, L: Links, C: Clock>(
     ensures answers { IfSome (S.left source.old) (λ bytes.
         Answers result (outcome_of (map string_bytes words.now) bytes) (S.faults source.old) (S.faults source.new)
         (K.taken sink.old) (K.taken sink.new)) }
-    // Where a report was written, no transaction of the run has both a commit and an abort certificate.
+    // Where a report was written, it is that of a run with at most f faulty replicas of each shard. No transaction has
+    // both a commit and an abort certificate there, and each committed transaction of a correct client read, key by key,
+    // what the latest committed writer before it wrote.
     ensures safe { IfSome (S.left source.old) (λ bytes.
         command_of (map string_bytes words.now) ≡ Some Command.Replay → result ≡ Status.Done →
-        IsSafeEnd (ended_of bytes)) }
-    // Nor where any byte of a report was written before the sink failed.
+        IsSafeEnd (replay_of bytes)) }
+    // So it is where any byte of a report was written before the sink failed.
     ensures safe_in_part { IfSome (S.left source.old) (λ bytes.
         command_of (map string_bytes words.now) ≡ Some Command.Replay → result ≡ Status.WriteFault →
-        IsSafeEnd (ended_of bytes)
+        IsSafeEnd (replay_of bytes)
         ⊎ TookFault (S.faults source.old) (S.faults source.new) (K.taken sink.old) (K.taken sink.new)) }
+    // Where a breach was told, it is the first of such a run, and real: of a correct party a signature that its key
+    // accepts on words that it had not signed, or two texts that differ and have one SHA-256. Until there the run is
+    // safe.
+    ensures broken { IfSome (S.left source.old) (λ bytes.
+        command_of (map string_bytes words.now) ≡ Some Command.Replay → result ≡ Status.Broken →
+        IsBrokenEnd bytes (K.taken sink.old) (K.taken sink.new)) }
     // Where no count rose, the status is that of the words and the bytes, or memory is wanting: a valid schedule gives
     // its whole report, and every other command its output or its refusal.
     ensures complete { (Rose (S.faults source.old) (S.faults source.new) → ⊥) →
@@ -278,6 +218,8 @@ pub fn run<S: Source, K: Sink, L: Links, C: Clock>(
     ensures links { links.new ≡ links.old }
     ensures clock { clock.new ≡ clock.old }
 {
+    reports_are_safe();
+    breaks_are_real();
     match read_command(alloc, words) {
         Ok(Some(command)) => run_command(alloc, &command, source, sink),
         Ok(None) => write_usage(sink),

@@ -16,11 +16,16 @@ pub enum Status {
     ReadFault,
     /// 5: the sink failed; a prefix of a text was written.
     WriteFault,
+    /// 7: a premise of the run is broken: a signature is accepted for a correct party on words that it never signed, or two
+    /// transactions have one id; `broken forged PARTY WORDS SIGNATURE` or `broken collision BYTES BYTES` was written.
+    Broken,
     /// 8: what the command tests is false of its input, and why; `refused R` was written, or for `audit`, with the reason
     /// 0, a line `stray`.
     Refused { reason: u8 },
     /// 9: memory is wanting; nothing was written.
     NoMemory,
+    /// 10: the messages of an event would pass a limit of the pool, which holds this; `full MESSAGES BYTES` was written.
+    Full { messages: u64, bytes: u64 },
     /// 12: an input that is read whole has more than 16,777,216 bytes; `too long 16777216` was written.
     TooLong,
 }
@@ -36,8 +41,10 @@ impl Status {
             Status::BadInput { .. } => 3,
             Status::ReadFault => 4,
             Status::WriteFault => 5,
+            Status::Broken => 7,
             Status::Refused { .. } => 8,
             Status::NoMemory => 9,
+            Status::Full { .. } => 10,
             Status::TooLong => 12,
         }
     }

@@ -4,6 +4,10 @@
 #[cfg(test)]
 mod audited;
 #[cfg(test)]
+mod broken;
+#[cfg(test)]
+mod causes;
+#[cfg(test)]
 mod checked;
 #[cfg(test)]
 mod lines;
@@ -17,5 +21,3 @@ mod signatures;
 mod sizes;
 #[cfg(test)]
 mod support;
-#[cfg(test)]
-mod worlds;

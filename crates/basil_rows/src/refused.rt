@@ -2,8 +2,8 @@
 
 mod forms;
 mod headers;
-mod later;
 mod sizes;
+mod unbuilt;
 
 use crate::support::{is_answer, replay};
 use basil_cli::status::Status;

@@ -446,8 +446,16 @@ const CODES: &[(Status, u8)] = &[
     (Status::BadInput { line: 5, reason: 9 }, 3),
     (Status::ReadFault, 4),
     (Status::WriteFault, 5),
+    (Status::Broken, 7),
     (Status::Refused { reason: 7 }, 8),
     (Status::NoMemory, 9),
+    (
+        Status::Full {
+            messages: 2,
+            bytes: 124,
+        },
+        10,
+    ),
     (Status::TooLong, 12),
 ];
 

@@ -1,13 +1,17 @@
-use Rattle.std.proofs.Common.{rules, map, string_bytes}
+use Rattle.std.proofs.Common.{rules, ◌≡◌, Some, map, string_bytes}
 use Rattle.basil_cli.specs.Commands.{command_of}
+use Rattle.basil_cli.proofs.Ends.{answers_for, broken_ends, safe_ends, safe_in_part}
 use Rattle.basil_cli.proofs.Stopping.{untaken_for}
 use Rattle.basil_cli.proofs.run.run.Goals as goal
 
 pub returns-in-Ok-Some-clause-answers : goal.returns-in-Ok-Some-clause-answers
-returns-in-Ok-Some-clause-answers g c = search rules
+returns-in-Ok-Some-clause-answers g c =
+    let said : command_of (map string_bytes c.args.words.now) ≡ Some c.in-Ok-Some.command = search rules in
+    answers_for (g.S.Source.left c.args.source.now) c.run_command.result _ c.in-Ok-Some.command _ _ _ _ said c.run_command.ensures.answers
 
 pub returns-in-Ok-Some-clause-safe_in_part : goal.returns-in-Ok-Some-clause-safe_in_part
-returns-in-Ok-Some-clause-safe_in_part g c = search rules
+returns-in-Ok-Some-clause-safe_in_part g c =
+    safe_in_part c.reports_are_safe.ensures (g.S.Source.left c.args.source.now) _ _ _
 
 pub returns-in-Ok-Some-clause-complete : goal.returns-in-Ok-Some-clause-complete
 returns-in-Ok-Some-clause-complete g c = search rules
@@ -32,3 +36,12 @@ returns-in-Err-clause-soon g c = untaken_for (command_of (map string_bytes c.arg
 
 pub returns-in-Err-clause-links : goal.returns-in-Err-clause-links
 returns-in-Err-clause-links g c = search rules
+
+pub returns-in-Ok-Some-clause-safe : goal.returns-in-Ok-Some-clause-safe
+returns-in-Ok-Some-clause-safe g c = safe_ends c.reports_are_safe.ensures (g.S.Source.left c.args.source.now) _ _
+
+pub returns-in-Ok-Some-clause-broken : goal.returns-in-Ok-Some-clause-broken
+returns-in-Ok-Some-clause-broken g c =
+    let said : command_of (map string_bytes c.args.words.now) ≡ Some c.in-Ok-Some.command = search rules in
+    broken_ends c.breaks_are_real.ensures (g.S.Source.left c.args.source.now) c.run_command.result _ c.in-Ok-Some.command _ _ _ _ said
+    c.run_command.ensures.answers

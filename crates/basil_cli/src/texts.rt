@@ -1,0 +1,111 @@
+//! What is written of an ending.
+
+ghost use Rattle.std.specs.Prelude.{◌≡◌, IfOk, string_bytes};
+ghost use Rattle.std.specs.List.{join_with_byte};
+ghost use Rattle.basil_cli.specs.Answers.{status_of};
+ghost use Rattle.basil_cli.specs.Outcome as outcomes;
+ghost use Rattle.basil_cli.specs.Outcome.{text_of};
+ghost use Rattle.basil_cli.specs.Parts.{outcome_is};
+ghost use Rattle.schedule_text.specs.Spelling.{party_words};
+
+use crate::ending::Ending;
+use crate::status::Status;
+use basil_types::memory::NoMemory;
+use basil_types::party::Party;
+use hex::encode;
+use premise_watch::broken::Broken;
+use std::alloc::Global;
+
+/// `line N reason R`
+fn bad_line_text(alloc: Global, line: u64, reason: u8) -> Result<Vec<u8>, NoMemory>
+    ensures { IfOk result (λ text. text.items ≡ text_of (outcomes.BadLine line reason)) }
+{
+    let text = format!(in alloc; "line {line} reason {reason}\n")?;
+    Ok(Vec::from_slice(alloc, text.as_bytes())?)
+}
+
+/// `refused R`
+fn refused_text(alloc: Global, reason: u8) -> Result<Vec<u8>, NoMemory>
+    ensures { IfOk result (λ text. text.items ≡ text_of (outcomes.Refused reason)) }
+{
+    let text = format!(in alloc; "refused {reason}\n")?;
+    Ok(Vec::from_slice(alloc, text.as_bytes())?)
+}
+
+/// `full MESSAGES BYTES`
+fn full_text(alloc: Global, messages: u64, bytes: u64) -> Result<Vec<u8>, NoMemory>
+    ensures { IfOk result (λ text. text.items ≡ text_of (outcomes.Full messages bytes)) }
+{
+    let text = format!(in alloc; "full {messages} {bytes}\n")?;
+    Ok(Vec::from_slice(alloc, text.as_bytes())?)
+}
+
+/// `replica S R` or `client C`
+fn party_text(alloc: Global, party: Party) -> Result<String, NoMemory>
+    ensures { IfOk result (λ text. string_bytes text ≡ join_with_byte 32 (party_words party)) }
+{
+    match party {
+        Party::Replica { shard, index } => Ok(format!(in alloc; "replica {shard} {index}")?),
+        Party::Client { number } => Ok(format!(in alloc; "client {number}")?),
+    }
+}
+
+/// `broken forged PARTY WORDS SIGNATURE`, or `broken collision BYTES BYTES`
+fn broken_text(alloc: Global, broken: &Broken) -> Result<Vec<u8>, NoMemory>
+    ensures { IfOk result (λ text. text.items ≡ text_of (outcomes.Broken broken.now)) }
+{
+    let text = match broken {
+        Broken::Forged {
+            party,
+            words,
+            signature,
+        } => {
+            let party = party_text(alloc, *party)?;
+            let words = encode(alloc, words.bytes())?;
+            let signature = encode(alloc, signature.as_slice())?;
+            format!(in alloc; "broken forged {party} {words} {signature}\n")?
+        }
+        Broken::Collision { first, second } => {
+            let first = encode(alloc, first.as_slice())?;
+            let second = encode(alloc, second.as_slice())?;
+            format!(in alloc; "broken collision {first} {second}\n")?
+        }
+    };
+    Ok(Vec::from_slice(alloc, text.as_bytes())?)
+}
+
+/// The text of an ending.
+pub(crate) fn text_of_ending(alloc: Global, ending: &Ending) -> Result<Vec<u8>, NoMemory>
+    ensures { IfOk result (λ text. text.items ≡ text_of (outcome_is ending.now)) }
+{
+    match ending {
+        Ending::BadLine { line, reason } => bad_line_text(alloc, *line, *reason),
+        Ending::Written(text) => Ok(Vec::from_slice(alloc, text.as_slice())?),
+        Ending::Broken(broken) => broken_text(alloc, broken),
+        Ending::Stray(line) => Ok(Vec::from_slice(alloc, line.as_slice())?),
+        Ending::Refused { reason } => refused_text(alloc, *reason),
+        Ending::Full { messages, bytes } => full_text(alloc, *messages, *bytes),
+        Ending::TooLong => Ok(Vec::from_slice(alloc, b"too long 16777216\n")?),
+    }
+}
+
+/// The status of an ending.
+pub(crate) fn status_of_ending(ending: &Ending) -> Status
+    ensures { result ≡ status_of (outcome_is ending.now) }
+{
+    match ending {
+        Ending::BadLine { line, reason } => Status::BadInput {
+            line: *line,
+            reason: *reason,
+        },
+        Ending::Written(_) => Status::Done,
+        Ending::Broken(_) => Status::Broken,
+        Ending::Refused { reason } => Status::Refused { reason: *reason },
+        Ending::Stray(_) => Status::Refused { reason: 0 },
+        Ending::Full { messages, bytes } => Status::Full {
+            messages: *messages,
+            bytes: *bytes,
+        },
+        Ending::TooLong => Status::TooLong,
+    }
+}

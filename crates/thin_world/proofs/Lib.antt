@@ -1,6 +1,0 @@
-pub mod OneReplica
-pub mod PlacingLaws
-pub mod Votes
-pub mod Safety
-pub mod Runs
-pub mod Committed
