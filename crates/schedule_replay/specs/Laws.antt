@@ -1,5 +1,5 @@
 -- What holds of every schedule.
-use Rattle.std.specs.Prelude.{◌≡◌, ℕ, List, Result, Ok, Err}
+use Rattle.std.specs.Prelude.{◌≡◌, ℕ, List, Ok, Err}
 use Rattle.cluster_run.specs.Breaking.{IsSafeUntil}
 use Rattle.cluster_run.specs.Events.{EventValue, run}
 use Rattle.cluster_run.specs.Headline.{IsSafe}

@@ -1,7 +1,7 @@
 -- Kinds of lines that have one event alone.
 use Rattle.std.specs.Prelude.{⊤}
 use Rattle.schedule_text.specs.declared.line.Line.{Line}
-use Rattle.schedule_text.specs.declared.line.Line.TheVariants.{Header, Skipped, Faulty, Begin, Read, Write, Delete, Claim, Prepare, Settle}
+use Rattle.schedule_text.specs.declared.line.Line.TheVariants.{Begin, Read, Write, Delete, Claim, Prepare, Settle}
 use Rattle.schedule_text.specs.declared.line.Line.TheVariants.{Recover, Invoke, Vote, Second, Logged, Elect, Decide}
 
 -- it begins a transaction, or reads or writes in one

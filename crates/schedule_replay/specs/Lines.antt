@@ -1,11 +1,11 @@
 -- What a line does.
-use Rattle.std.specs.Prelude.{ℕ, List, Option, Result, Ok, Err, option_map, ◌&&◌, length, nat_le, if◌then◌else◌}
+use Rattle.std.specs.Prelude.{ℕ, List, Result, Ok, Err, option_map, ◌&&◌, length, nat_le, if◌then◌else◌}
 use Rattle.cluster_run.specs.States.{State}
 use Rattle.cluster_run.specs.declared.fault.WorldFault.{WorldFault}
 use Rattle.cluster_run.specs.declared.fault.WorldFault.TheVariants as world
 use Rattle.node_steps.specs.Refusing.{unless_refused}
 use Rattle.schedule_text.specs.Limits.{longest_line}
-use Rattle.schedule_text.specs.Reading.{line_at, is_header}
+use Rattle.schedule_text.specs.Reading.{is_header}
 use Rattle.schedule_text.specs.declared.line.Line.{Line}
 use Rattle.schedule_text.specs.declared.line.Line.TheVariants.{Begin, Read}
 use Rattle.schedule_text.specs.declared.line.LineFault.{LineFault}

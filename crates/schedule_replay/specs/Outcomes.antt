@@ -1,5 +1,5 @@
 -- What the bytes of a schedule lead to.
-use Rattle.std.specs.Prelude.{ℕ, List, Result, Ok, Err}
+use Rattle.std.specs.Prelude.{ℕ, List, Result, Ok}
 use Rattle.basil_types.specs.Steps.{◌>>=◌}
 use Rattle.schedule_text.specs.TextLines.{lines_of}
 use Rattle.schedule_replay.specs.Replays.{ReplayValue}

@@ -1,6 +1,5 @@
 -- Why a line is refused before its events, where its own words are in the grammar.
-use Rattle.std.specs.Prelude.{ℕ, ◌*◌, ◌+◌, List, Bool, true, false, not, ◌&&◌, ◌||◌, Option, Some, None, length, nat_le, nat_lt}
-use Rattle.std.specs.Option.{option_map_or}
+use Rattle.std.specs.Prelude.{ℕ, Bool, true, false, not, ◌&&◌, ◌||◌, Option, Some, None, length, nat_le, nat_lt}
 use Rattle.basil_types.specs.Built.{or_else}
 use Rattle.basil_types.specs.Setting.{Setting}
 use Rattle.basil_types.specs.declared.party.Party.TheVariants.{Replica, Client}

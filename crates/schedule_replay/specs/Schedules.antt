@@ -1,5 +1,5 @@
 -- At which stage a schedule is.
-use Rattle.std.specs.Prelude.{◌≡◌, ℕ, List, [], ◌∷◌, ◌++◌, false, ⊤, Option, Some, None, Result, Ok, Err}
+use Rattle.std.specs.Prelude.{◌≡◌, ℕ, [], ◌∷◌, ◌++◌, false, ⊤, Some, None, Result, Ok, Err}
 use Rattle.basil_types.specs.declared.party.Party.{Party}
 use Rattle.schedule_replay.specs.declared.fault.ReplayFault.{ReplayFault}
 use Rattle.schedule_replay.specs.declared.fault.ReplayFault.TheVariants.{BadInput, Broken, Full, LinkFault, WriteFault, NoMemory}

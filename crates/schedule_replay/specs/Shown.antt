@@ -1,6 +1,5 @@
 -- What a replay shows.
-use Rattle.std.specs.Prelude.{◌≡◌, ℕ, List, [], map, slice_get, Vec, Bool, true, false, ⊤, Result, Ok, Err}
-use Rattle.std.specs.Option.{option_map_or}
+use Rattle.std.specs.Prelude.{◌≡◌, ℕ, Bool, true, false, ⊤, Result, Ok, Err}
 use Rattle.cluster_run.specs.States.{State}
 use Rattle.cluster_run.specs.declared.fault.WorldFault.{WorldFault}
 use Rattle.cluster_run.specs.declared.fault.WorldFault.TheVariants as world
