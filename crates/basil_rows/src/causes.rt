@@ -146,11 +146,11 @@ const OUT_OF_SIZE: &[&str] = &[
 /// The header, and these lines.
 fn schedule_of(alloc: Global, lines: &str) -> Result<(Vec<u8>, u64), Fail> {
     let mut text = Vec::from_slice(alloc, HEADER.as_bytes())?;
-    let mut count = 1;
+    let mut count = 1u64;
     for line in lines.split(';') {
         text.extend_from_slice(line.trim_start().as_bytes())?;
         text.push(b'\n')?;
-        count += 1;
+        count = count.saturating_add(1);
     }
     Ok((text, count))
 }
