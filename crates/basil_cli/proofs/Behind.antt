@@ -1,17 +1,20 @@
 -- What is read of a schedule, and what it leads to.
-use Rattle.std.proofs.Common.{◌≡◌, ℕ, ◌+◌, ◌<◌, ◌≤◌, List, [], ◌∷◌, ◌++◌, length, false, Result, Ok, Err, Option, Some, None}
+use Rattle.std.proofs.Common.{◌≡◌, ℕ, ◌+◌, ◌<◌, ◌≤◌, List, [], ◌∷◌, ◌++◌, length, true, false, Result, Ok, Err, Option, Some, None}
 use Rattle.std.proofs.Common.{refl, sym, ap, subst, ◌∙◌, arith, append_assoc, append-nil}
 use Rattle.std.specs.Prelude.{IfOk, IfSome}
 use Rattle.std.specs.Io.KnownBytes.{Consumes}
 use Rattle.std.proofs.lemmas.Grind.{common_steps}
 use Rattle.std.proofs.lemmas.List.{length-append, length_push}
+use Rattle.basil_types.specs.Links.{LinkState}
 use Rattle.basil_types.specs.Steps.{◌>>=◌}
 use Rattle.schedule_replay.specs.Outcomes.{outcome_of, replay_of}
 use Rattle.schedule_replay.specs.Replays.{ReplayValue}
 use Rattle.schedule_replay.specs.Reports.{report}
-use Rattle.schedule_replay.specs.Schedules.{Faults, IsAt, IsGoing}
+use Rattle.schedule_replay.specs.Roads.{Road, Direct}
+use Rattle.schedule_replay.specs.Schedules.{ByRoads, Faults, IsAt, IsGoing, Took}
+use Rattle.schedule_replay.specs.Shown.{is_link_fault}
 use Rattle.schedule_replay.specs.declared.stages.Schedule.{Schedule}
-use Rattle.schedule_replay.specs.Stages.{Stage, Begins, ended, run_lines, stage_step}
+use Rattle.schedule_replay.specs.Stages.{Stage, Begins, Opens, Runs, ended, on_road, road_of, run_lines, stage_step}
 use Rattle.schedule_replay.specs.declared.fault.ReplayFault.{ReplayFault}
 use Rattle.schedule_replay.specs.declared.fault.ReplayFault.TheVariants.{BadInput, Broken, Full, LinkFault, WriteFault, NoMemory}
 use Rattle.schedule_text.specs.Limits.{longest_line}
@@ -31,13 +34,13 @@ use Rattle.basil_cli.proofs.Stopping.{NotYet, enough_through, not_settled}
 
 -- the line that ends with these bytes leads to this
 pub ran_on : (read last line : List ℕ) (number : ℕ) (stage : Stage) (r : Result Stage ReplayFault) →
-    run_lines (ended_lines read) 1 Begins ≡ Ok stage → number ≡ length (ended_lines read) + 1 → line ≡ open_line read ++ last →
+    run_lines (ended_lines read) 1 (Begins Direct) ≡ Ok stage → number ≡ length (ended_lines read) + 1 → line ≡ open_line read ++ last →
     has_newline last ≡ false → stage_step stage line number ≡ r →
-    run_lines (ended_lines (read ++ (last ++ 10 ∷ []))) 1 Begins ≡ r
+    run_lines (ended_lines (read ++ (last ++ 10 ∷ []))) 1 (Begins Direct) ≡ r
 ran_on read last line number stage r ran n l whole step =
     let same : 1 + length (ended_lines read) ≡ number = omega (arith, n) in
-    ap (λ (lines : List (List ℕ)). run_lines lines 1 Begins) (ended_line read last whole)
-    ∙ run_append (ended_lines read) ((open_line read ++ last) ∷ []) 1 Begins
+    ap (λ (lines : List (List ℕ)). run_lines lines 1 (Begins Direct)) (ended_line read last whole)
+    ∙ run_append (ended_lines read) ((open_line read ++ last) ∷ []) 1 (Begins Direct)
     ∙ ap (λ (s : Result Stage ReplayFault). s >>= run_lines ((open_line read ++ last) ∷ []) (1 + length (ended_lines read))) ran
     ∙ ap (λ (x : List ℕ). stage_step stage x (1 + length (ended_lines read)) >>= run_lines [] (1 + length (ended_lines read) + 1)) (sym l)
     ∙ ap (λ (k : ℕ). stage_step stage line k >>= run_lines [] (k + 1)) same
@@ -50,12 +53,14 @@ ran_on read last line number stage r ran n l whole step =
 
 -- the schedule is behind that line
 pub line_ended : (old new : Reading) (read last line : List ℕ) (b : IsBehind old read) (stage : Stage) →
-    line ≡ old.line.items ++ last → has_newline last ≡ false → stage_step b.stage line old.number ≡ Ok stage → IsAt new.schedule stage →
-    IsGoing new.schedule → new.number ≡ old.number + 1 → new.line.items ≡ [] → IsBehind new (read ++ (last ++ 10 ∷ []))
-line_ended old new read last line b stage l whole step shown going number empty = record {
+    line ≡ old.line.items ++ last → has_newline last ≡ false → stage_step b.stage line old.number ≡ Ok stage →
+    road_of stage ≡ Direct → IsAt new.schedule stage → IsGoing new.schedule → new.number ≡ old.number + 1 →
+    new.line.items ≡ [] → IsBehind new (read ++ (last ++ 10 ∷ []))
+line_ended old new read last line b stage l whole step direct shown going number empty = record {
   stage = stage;
   ran =
       ran_on read last line old.number b.stage (Ok stage) b.ran b.number (l ∙ ap (λ (x : List ℕ). x ++ last) b.line) whole step;
+  direct = direct;
   shown = shown;
   going = going;
   number =
@@ -72,7 +77,8 @@ pub line_held : (old new : Reading) (read piece : List ℕ) → IsBehind old rea
     length old.line.items + length piece ≤ longest_line → IsBehind new (read ++ piece)
 line_held old new read piece b whole same number items fits = record {
   stage = b.stage;
-  ran = ap (λ (lines : List (List ℕ)). run_lines lines 1 Begins) (same_ended read piece whole) ∙ b.ran;
+  ran = ap (λ (lines : List (List ℕ)). run_lines lines 1 (Begins Direct)) (same_ended read piece whole) ∙ b.ran;
+  direct = b.direct;
   shown = subst (λ (s : Schedule). IsAt s b.stage) (sym same) b.shown;
   going = subst IsGoing (sym same) b.going;
   number = number ∙ b.number ∙ sym (ap (λ (lines : List (List ℕ)). length lines + 1) (same_ended read piece whole));
@@ -84,18 +90,31 @@ line_held old new read piece b whole same number items fits = record {
       omega (arith, sizes, fits);
 }
 
-decides : (read : List ℕ) (f : ReplayFault) → run_lines (ended_lines read) 1 Begins ≡ Err f → IsDecided read f
+decides : (read : List ℕ) (f : ReplayFault) → run_lines (ended_lines read) 1 (Begins Direct) ≡ Err f → IsDecided read f
 decides read f e = record { settled = settled_fault read f e; leads = λ more. faulty_outcome read more f e }
 
 -- a fault of the last line that ended
-pub faults : (read : List ℕ) (should : Result Stage ReplayFault) → run_lines (ended_lines read) 1 Begins ≡ should →
-    (f : ReplayFault) → Faults should f → Reads (Err f) read
-faults read should e (BadInput line reason) h = decides read (BadInput line reason) (e ∙ h)
-faults read should e (Broken b) h = decides read (Broken b) (e ∙ h)
-faults read should e (Full messages bytes) h = decides read (Full messages bytes) (e ∙ h)
-faults read should e LinkFault h = h
-faults read should e WriteFault h = h
-faults read should e NoMemory h = tt
+pub faults : (read : List ℕ) (should : Result Stage ReplayFault) → run_lines (ended_lines read) 1 (Begins Direct) ≡ should →
+    (f : ReplayFault) → (is_link_fault {A = Schedule} (Err f) ≡ true → ⊥) → Took (Err f) should Direct → Reads (Err f) read
+faults read should e (BadInput line reason) link h = decides read (BadInput line reason) (e ∙ h)
+faults read should e (Broken b) link h = decides read (Broken b) (e ∙ h)
+faults read should e (Full messages bytes) link h = decides read (Full messages bytes) (e ∙ h)
+faults read should e LinkFault link h = absurd (link refl)
+faults read should e WriteFault link h = h
+faults read should e NoMemory link h = tt
+
+-- ---- where nothing is carried
+
+own_road : (stage : Stage) (road : Road) → road_of stage ≡ road → on_road road stage ≡ stage
+own_road (Begins other) road h = ap Begins (sym h)
+own_road (Opens o faulty other) road h = ap (Opens o faulty) (sym h)
+own_road (Runs r) road h = ap (λ x. Runs (record r { road = x })) (sym h)
+
+pub took_direct : {old new : Option LinkState} (schedule : Schedule) (result : Result Schedule ReplayFault)
+    (should : Stage → Result Stage ReplayFault) (stage : Stage) → road_of stage ≡ Direct → IsAt schedule stage →
+    ByRoads false old new schedule (λ stage road. Took result (should stage) road) → Took result (should stage) Direct
+took_direct schedule result should stage direct at by =
+    subst (λ s. Took result (should s) Direct) (own_road stage Direct direct) (by.should stage [] at)
 
 -- ---- faults
 
@@ -136,7 +155,7 @@ pub holds_long : (result : Result Reading ReplayFault) (read piece : List ℕ) �
 holds_long (Ok reading) read piece whole h b =
     absurd
     (no_long (ended_lines read) (open_line read ++ piece) b.stage h
-    (ap (λ (lines : List (List ℕ)). run_lines lines 1 Begins) (sym (ended_line read piece whole)) ∙ b.ran))
+    (ap (λ (lines : List (List ℕ)). run_lines lines 1 (Begins Direct)) (sym (ended_line read piece whole)) ∙ b.ran))
 holds_long (Err f) read piece whole h d =
     let long : longest_line < length (open_line (read ++ piece)) =
     subst (λ (line : List ℕ). longest_line < length line) (sym (longer_line read piece whole)) h in
@@ -150,16 +169,16 @@ replay_fault (Ok x) f e = absurd cc
 replay_fault (Err g) f e = let same : g ≡ f = cc in ap (λ (h : ReplayFault). Err h) same
 
 -- where no line is open
-pub replay_is : (read : List ℕ) (stage : Stage) → run_lines (ended_lines read) 1 Begins ≡ Ok stage → open_line read ≡ [] →
+pub replay_is : (read : List ℕ) (stage : Stage) → run_lines (ended_lines read) 1 (Begins Direct) ≡ Ok stage → open_line read ≡ [] →
     replay_of read ≡ ended stage
 replay_is read stage e o =
-    ap (λ (lines : List (List ℕ)). run_lines lines 1 Begins >>= ended) (whole_line read o)
+    ap (λ (lines : List (List ℕ)). run_lines lines 1 (Begins Direct) >>= ended) (whole_line read o)
     ∙ ap (λ (r : Result Stage ReplayFault). r >>= ended) e
 
 -- where one is open, it ends with the bytes
 pub replay_ends : (read : List ℕ) → 0 < length (open_line read) → replay_of (read ++ 10 ∷ []) ≡ replay_of read
 replay_ends read some =
-    ap (λ (lines : List (List ℕ)). run_lines lines 1 Begins >>= ended) (one_line read some)
+    ap (λ (lines : List (List ℕ)). run_lines lines 1 (Begins Direct) >>= ended) (one_line read some)
 
 faulty_end : (read : List ℕ) (f : ReplayFault) → 0 < length (open_line read) → IsDecided (read ++ 10 ∷ []) f → replay_of read ≡ Err f
 faulty_end read f some d =

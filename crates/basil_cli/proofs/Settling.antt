@@ -16,6 +16,7 @@ use Rattle.schedule_text.specs.TextLines.{but_empty_last, lines_of}
 use Rattle.schedule_text.specs.declared.line.LineFault.TheVariants.{BadLine}
 use Rattle.basil_cli.specs.Reading.{ended_lines, has_newline, is_settled, open_line, pieces_of}
 use Rattle.basil_cli.proofs.LineEnds.{begun, grown, open_whole, pieces_ended, pieces_more, pieces_whole}
+use Rattle.schedule_replay.specs.Roads.{Direct}
 
 -- ---- lines, one after another
 
@@ -55,15 +56,15 @@ later-long line h = rw (le-no (length line) longest_line h) refl
 
 -- why such a line is refused: whether it is skipped shows in its first byte
 long_fault : Stage → (skipped : Bool) → ℕ → ReplayFault
-long_fault Begins skipped number = BadInput number (cond skipped 8 1)
+long_fault (Begins road) skipped number = BadInput number (cond skipped 8 1)
 long_fault stage skipped number = BadInput number 8
 
 step_long : (stage : Stage) (line : List ℕ) (number : ℕ) → longest_line < length line →
     stage_step stage line number ≡ Err (long_fault stage (is_skipped line) number)
 unfolding long_fault
-step_long Begins line number h = ap (read_line Begins line number) (too_long line number h)
-step_long (Opens o faulty) line number h =
-    ap (read_line (Opens o faulty) line number) (too_long line number h)
+step_long (Begins road) line number h = ap (read_line (Begins road) line number) (too_long line number h)
+step_long (Opens o faulty road) line number h =
+    ap (read_line (Opens o faulty road) line number) (too_long line number h)
     ∙ ap (λ (reason : ℕ). Err (BadInput number reason)) (later-long line h)
 step_long (Runs r) line number h =
     ap (read_line (Runs r) line number) (too_long line number h)
@@ -74,9 +75,9 @@ Refused : Result Stage ReplayFault → (skipped : Bool) → ℕ → Result Stage
 Refused r skipped number = r >>= λ stage. Err (long_fault stage skipped number)
 
 run_long : (xs : List (List ℕ)) (line : List ℕ) (ys : List (List ℕ)) → longest_line < length line →
-    run_lines (xs ++ line ∷ ys) 1 Begins ≡ Refused (run_lines xs 1 Begins) (is_skipped line) (1 + length xs)
+    run_lines (xs ++ line ∷ ys) 1 (Begins Direct) ≡ Refused (run_lines xs 1 (Begins Direct)) (is_skipped line) (1 + length xs)
 unfolding Refused
-run_long xs line ys h = run_append xs (line ∷ ys) 1 Begins ∙ by (run_lines xs 1 Begins)
+run_long xs line ys h = run_append xs (line ∷ ys) 1 (Begins Direct) ∙ by (run_lines xs 1 (Begins Direct))
   where
     by : (r : Result Stage ReplayFault) →
         (r >>= run_lines (line ∷ ys) (1 + length xs)) ≡ (r >>= λ stage. Err (long_fault stage (is_skipped line) (1 + length xs)))
@@ -90,11 +91,11 @@ refused_err (Ok stage) skipped number = refl
 refused_err (Err e) skipped number = refl
 
 pub no_long : (xs : List (List ℕ)) (line : List ℕ) (stage : Stage) → longest_line < length line →
-    run_lines (xs ++ line ∷ []) 1 Begins ≡ Ok stage → ⊥
+    run_lines (xs ++ line ∷ []) 1 (Begins Direct) ≡ Ok stage → ⊥
 no_long xs line stage h e =
-    let err : is_err (run_lines (xs ++ line ∷ []) 1 Begins) ≡ true =
-    ap is_err (run_long xs line [] h) ∙ refused_err (run_lines xs 1 Begins) (is_skipped line) (1 + length xs) in
-    let ok : is_err (run_lines (xs ++ line ∷ []) 1 Begins) ≡ false = ap is_err e in
+    let err : is_err (run_lines (xs ++ line ∷ []) 1 (Begins Direct)) ≡ true =
+    ap is_err (run_long xs line [] h) ∙ refused_err (run_lines xs 1 (Begins Direct)) (is_skipped line) (1 + length xs) in
+    let ok : is_err (run_lines (xs ++ line ∷ []) 1 (Begins Direct)) ≡ false = ap is_err e in
     absurd cc
 
 -- ---- the lines of a whole schedule
@@ -162,13 +163,13 @@ Outcome_of : Result Stage ReplayFault → Result (List ℕ) ReplayFault
 Outcome_of r = (r >>= ended) >>= λ r. Ok (report r)
 
 -- a line that ended and led to a fault decides
-pub faulty_outcome : (read more : List ℕ) (f : ReplayFault) → run_lines (ended_lines read) 1 Begins ≡ Err f →
+pub faulty_outcome : (read more : List ℕ) (f : ReplayFault) → run_lines (ended_lines read) 1 (Begins Direct) ≡ Err f →
     outcome_of (read ++ more) ≡ Err f
 unfolding Outcome_of
 faulty_outcome read more f h =
     let others = lines_of (open_line read ++ more) in
-    ap (λ (lines : List (List ℕ)). Outcome_of (run_lines lines 1 Begins)) (lines_more read more)
-    ∙ ap Outcome_of (run_append (ended_lines read) others 1 Begins)
+    ap (λ (lines : List (List ℕ)). Outcome_of (run_lines lines 1 (Begins Direct))) (lines_more read more)
+    ∙ ap Outcome_of (run_append (ended_lines read) others 1 (Begins Direct))
     ∙ ap (λ (r : Result Stage ReplayFault). Outcome_of (r >>= run_lines others (1 + length (ended_lines read)))) h
 
 skipped_alike : (w more : List ℕ) → 0 < length w → is_skipped (w ++ more) ≡ is_skipped w
@@ -188,14 +189,14 @@ long_outcome read more h =
     let there : lines_of (read ++ 10 ∷ []) ≡ ended_lines read ++ open_line read ∷ [] =
     lines_more read (10 ∷ []) ∙ ap (λ (ls : List (List ℕ)). ended_lines read ++ ls) (one_ended (open_line read) (open_whole read)) in
     let number = 1 + length (ended_lines read) in
-    let one : run_lines (lines_of (read ++ more)) 1 Begins
-    ≡ Refused (run_lines (ended_lines read) 1 Begins) (is_skipped (open_line read ++ f.more)) number =
-    ap (λ (ls : List (List ℕ)). run_lines ls 1 Begins) here ∙ run_long (ended_lines read) (open_line read ++ f.more) f.others longer in
-    let two : run_lines (lines_of (read ++ 10 ∷ [])) 1 Begins
-    ≡ Refused (run_lines (ended_lines read) 1 Begins) (is_skipped (open_line read)) number =
-    ap (λ (ls : List (List ℕ)). run_lines ls 1 Begins) there ∙ run_long (ended_lines read) (open_line read) [] h in
+    let one : run_lines (lines_of (read ++ more)) 1 (Begins Direct)
+    ≡ Refused (run_lines (ended_lines read) 1 (Begins Direct)) (is_skipped (open_line read ++ f.more)) number =
+    ap (λ (ls : List (List ℕ)). run_lines ls 1 (Begins Direct)) here ∙ run_long (ended_lines read) (open_line read ++ f.more) f.others longer in
+    let two : run_lines (lines_of (read ++ 10 ∷ [])) 1 (Begins Direct)
+    ≡ Refused (run_lines (ended_lines read) 1 (Begins Direct)) (is_skipped (open_line read)) number =
+    ap (λ (ls : List (List ℕ)). run_lines ls 1 (Begins Direct)) there ∙ run_long (ended_lines read) (open_line read) [] h in
     ap Outcome_of one
-    ∙ ap (λ (b : Bool). Outcome_of (Refused (run_lines (ended_lines read) 1 Begins) b number)) (skipped_alike (open_line read) f.more some)
+    ∙ ap (λ (b : Bool). Outcome_of (Refused (run_lines (ended_lines read) 1 (Begins Direct)) b number)) (skipped_alike (open_line read) f.more some)
     ∙ sym (ap Outcome_of two)
 
 -- ---- bytes that decide
@@ -211,15 +212,15 @@ or_either : (a b : Bool) → (a || b) ≡ true → (a ≡ true) ⊎ (b ≡ true)
 or_either true b e = inl refl
 or_either false b e = inr e
 
-settled_err : (read : List ℕ) → is_err (run_lines (ended_lines read) 1 Begins) ≡ true → is_settled read ≡ true
-settled_err read h = or_left (is_err (run_lines (ended_lines read) 1 Begins)) (nat_lt longest_line (length (open_line read))) h
+settled_err : (read : List ℕ) → is_err (run_lines (ended_lines read) 1 (Begins Direct)) ≡ true → is_settled read ≡ true
+settled_err read h = or_left (is_err (run_lines (ended_lines read) 1 (Begins Direct))) (nat_lt longest_line (length (open_line read))) h
 
-pub settled_fault : (read : List ℕ) (f : ReplayFault) → run_lines (ended_lines read) 1 Begins ≡ Err f → is_settled read ≡ true
+pub settled_fault : (read : List ℕ) (f : ReplayFault) → run_lines (ended_lines read) 1 (Begins Direct) ≡ Err f → is_settled read ≡ true
 settled_fault read f h = settled_err read (ap is_err h)
 
 pub settled_long : (read : List ℕ) → longest_line < length (open_line read) → is_settled read ≡ true
 settled_long read h =
-    or_right (is_err (run_lines (ended_lines read) 1 Begins)) (nat_lt longest_line (length (open_line read)))
+    or_right (is_err (run_lines (ended_lines read) 1 (Begins Direct))) (nat_lt longest_line (length (open_line read)))
     (lt-yes longest_line (length (open_line read)) h)
 
 still_err : (r : Result Stage ReplayFault) (f : Stage → Result Stage ReplayFault) → is_err r ≡ true → is_err (r >>= f) ≡ true
@@ -227,25 +228,25 @@ still_err (Ok stage) f h = absurd cc
 still_err (Err e) f h = refl
 
 goes_err : (read : List ℕ) (lines : List (List ℕ)) (more : List ℕ) → ended_lines (read ++ more) ≡ ended_lines read ++ lines →
-    is_err (run_lines (ended_lines read) 1 Begins) ≡ true → is_err (run_lines (ended_lines (read ++ more)) 1 Begins) ≡ true
+    is_err (run_lines (ended_lines read) 1 (Begins Direct)) ≡ true → is_err (run_lines (ended_lines (read ++ more)) 1 (Begins Direct)) ≡ true
 goes_err read lines more e h =
-    ap (λ (ls : List (List ℕ)). is_err (run_lines ls 1 Begins)) e
-    ∙ ap is_err (run_append (ended_lines read) lines 1 Begins)
-    ∙ still_err (run_lines (ended_lines read) 1 Begins) (run_lines lines (1 + length (ended_lines read))) h
+    ap (λ (ls : List (List ℕ)). is_err (run_lines ls 1 (Begins Direct))) e
+    ∙ ap is_err (run_append (ended_lines read) lines 1 (Begins Direct))
+    ∙ still_err (run_lines (ended_lines read) 1 (Begins Direct)) (run_lines lines (1 + length (ended_lines read))) h
 
 -- what decides does so whatever follows
 pub settled_more : (read more : List ℕ) → is_settled read ≡ true → is_settled (read ++ more) ≡ true
 settled_more read more h =
     let g = grown read more in
-    by g.some g.others g.is (or_either (is_err (run_lines (ended_lines read) 1 Begins)) (nat_lt longest_line (length (open_line read))) h)
+    by g.some g.others g.is (or_either (is_err (run_lines (ended_lines read) 1 (Begins Direct))) (nat_lt longest_line (length (open_line read))) h)
   where
     by : (some : List ℕ) (others : List (List ℕ)) →
         ((ended_lines (read ++ more) ≡ ended_lines read) × (open_line (read ++ more) ≡ open_line read ++ some))
         ⊎ (ended_lines (read ++ more) ≡ ended_lines read ++ (open_line read ++ some) ∷ others) →
-        (is_err (run_lines (ended_lines read) 1 Begins) ≡ true) ⊎ (nat_lt longest_line (length (open_line read)) ≡ true) →
+        (is_err (run_lines (ended_lines read) 1 (Begins Direct)) ≡ true) ⊎ (nat_lt longest_line (length (open_line read)) ≡ true) →
         is_settled (read ++ more) ≡ true
     by some others (inl same) (inl err) =
-        settled_err (read ++ more) (ap (λ (ls : List (List ℕ)). is_err (run_lines ls 1 Begins)) same.0 ∙ err)
+        settled_err (read ++ more) (ap (λ (ls : List (List ℕ)). is_err (run_lines ls 1 (Begins Direct))) same.0 ∙ err)
     by some others (inl same) (inr long) =
         let l : longest_line < length (open_line read) = lt-of longest_line (length (open_line read)) long in
         let longer : longest_line < length (open_line read ++ some) = grind (arith, common_steps) in
@@ -256,11 +257,11 @@ settled_more read more h =
         let l : longest_line < length (open_line read) = lt-of longest_line (length (open_line read)) long in
         let longer : longest_line < length (open_line read ++ some) = grind (arith, common_steps) in
         settled_err (read ++ more)
-        (ap (λ (ls : List (List ℕ)). is_err (run_lines ls 1 Begins)) e
+        (ap (λ (ls : List (List ℕ)). is_err (run_lines ls 1 (Begins Direct))) e
         ∙ ap is_err (run_long (ended_lines read) (open_line read ++ some) others longer)
-        ∙ refused_err (run_lines (ended_lines read) 1 Begins) (is_skipped (open_line read ++ some)) (1 + length (ended_lines read)))
+        ∙ refused_err (run_lines (ended_lines read) 1 (Begins Direct)) (is_skipped (open_line read ++ some)) (1 + length (ended_lines read)))
 
-pub unsettled : (read : List ℕ) (stage : Stage) → run_lines (ended_lines read) 1 Begins ≡ Ok stage →
+pub unsettled : (read : List ℕ) (stage : Stage) → run_lines (ended_lines read) 1 (Begins Direct) ≡ Ok stage →
     length (open_line read) ≤ longest_line → is_settled read ≡ false
 unsettled read stage e l =
     let short : nat_lt longest_line (length (open_line read)) ≡ false = grind (arith, common_steps) in

@@ -1,11 +1,10 @@
 -- What a status says of the outcome, and of what was written.
 use Rattle.std.specs.Prelude.{◌≡◌, ◌⊎◌, ℕ, Bool, true, false, List, Option, Result, Ok, Err, ⊤}
 use Rattle.basil_types.specs.Causes.{Rose, TookAll, TookPrefix}
-use Rattle.cluster_run.specs.Headline.{IsSafe}
 use Rattle.premise_watch.specs.declared.broken.Broken as premise
-use Rattle.schedule_replay.specs.Laws.{IsReplayed, IsRealBreak}
+use Rattle.schedule_replay.specs.Laws.{IsRealBreak, IsSafeReport}
 use Rattle.schedule_replay.specs.Outcomes as schedules
-use Rattle.schedule_replay.specs.Replays.{ReplayValue}
+use Rattle.schedule_replay.specs.Roads.{Direct}
 use Rattle.schedule_replay.specs.declared.fault.ReplayFault.{ReplayFault}
 use Rattle.schedule_replay.specs.declared.fault.ReplayFault.TheVariants as fault
 use Rattle.basil_cli.specs.Outcome.{Outcome, Usage, BadLine, Written, Broken, Refused, Stray, Full, TooLong, text_of, read_fault_text}
@@ -82,17 +81,18 @@ is_outcomes ends.TooLong = true
 
 -- ---- what holds of a schedule
 
--- a replay comes to what it shows by a run of events with at most f faulty replicas of each shard; no transaction has
--- both certificates there, and each committed transaction of a correct client read, per key, what the latest committed
--- writer before it wrote
-pub record IsSafeReplay (r : ReplayValue) : Type 0 where
-  pub ran : IsReplayed r
-  pub safe : IsSafe r.setup r.state
+-- what was written is the report of a run by the schedule's lines with at most f faulty replicas of each shard; no
+-- transaction has both certificates there, and each committed transaction of a correct client read, per key, what the
+-- latest committed writer before it wrote
+pub record WroteSafely (bytes : List ℕ) (old new : Option (List ℕ)) : Type 0 where
+  pub text : List ℕ
+  pub safe : IsSafeReport Direct bytes text
+  pub written : TookAll old new text
 
--- the replay that a schedule leads to is safe
-abbrev pub IsSafeEnd : Result ReplayValue ReplayFault → Type 0
-IsSafeEnd (Ok r) = IsSafeReplay r
-IsSafeEnd (Err refused) = ⊤
+-- where a schedule leads to a report, it is such a one, and some of it was written
+abbrev pub WroteSome : Result (List ℕ) ReplayFault → (bytes : List ℕ) → (old new : Option (List ℕ)) → Type 0
+WroteSome (Ok text) bytes old new = IsSafeReport Direct bytes text × TookPrefix old new text
+WroteSome (Err refused) bytes old new = ⊤
 
 -- a schedule leads to a breach, whose text was written; it is real
 pub record IsBrokenEnd (bytes : List ℕ) (old new : Option (List ℕ)) : Type 0 where

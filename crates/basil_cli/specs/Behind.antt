@@ -2,12 +2,13 @@
 use Rattle.std.specs.Prelude.{◌≡◌, ◌≤◌, ℕ, ◌+◌, List, ◌∷◌, ◌++◌, length, false, true, Result, Ok, Err, ⊤}
 use Rattle.schedule_replay.specs.Outcomes.{outcome_of}
 use Rattle.schedule_replay.specs.Schedules.{IsAt, IsGoing}
-use Rattle.schedule_replay.specs.Stages.{Stage, Begins, run_lines}
+use Rattle.schedule_replay.specs.Stages.{Stage, Begins, road_of, run_lines}
 use Rattle.schedule_replay.specs.declared.fault.ReplayFault.{ReplayFault}
 use Rattle.schedule_replay.specs.declared.fault.ReplayFault.TheVariants.{BadInput, Broken, Full, LinkFault, WriteFault, NoMemory}
 use Rattle.schedule_text.specs.Limits.{longest_line}
 use Rattle.basil_cli.specs.Reading.{ended_lines, has_newline, is_settled, open_line}
 use Rattle.basil_cli.specs.declared.replay.Reading.{Reading}
+use Rattle.schedule_replay.specs.Roads.{Direct}
 
 -- bytes are a line, its newline, and the rest
 pub record IsCut (bytes line rest : List ℕ) : Type 0 where
@@ -17,7 +18,8 @@ pub record IsCut (bytes line rest : List ℕ) : Type 0 where
 -- of these bytes the lines that ended are run, and the open one is kept
 pub record IsBehind (reading : Reading) (read : List ℕ) : Type 0 where
   pub stage : Stage
-  pub ran : run_lines (ended_lines read) 1 Begins ≡ Ok stage
+  pub ran : run_lines (ended_lines read) 1 (Begins Direct) ≡ Ok stage
+  pub direct : road_of stage ≡ Direct
   pub shown : IsAt reading.schedule stage
   pub going : IsGoing reading.schedule
   pub number : reading.number ≡ length (ended_lines read) + 1

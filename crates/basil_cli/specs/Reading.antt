@@ -7,6 +7,7 @@ use Rattle.schedule_text.specs.Limits.{longest_line}
 use Rattle.basil_cli.specs.Outcome.{is_too_long}
 use Rattle.basil_cli.specs.declared.command.Command.{Command}
 use Rattle.basil_cli.specs.declared.command.Command.TheVariants.{Replay, Keys, Sign, Verify, Check, Audit}
+use Rattle.schedule_replay.specs.Roads.{Direct}
 
 -- ---- the lines of bytes
 
@@ -31,7 +32,8 @@ open_line bytes = slice_index_or (pieces_of bytes) (length (pieces_of bytes) - 1
 -- whether no byte behind these changes what a schedule leads to: a line that ended leads to a fault, or the open one is
 -- too long
 abbrev pub is_settled : List ℕ → Bool
-is_settled bytes = is_err (run_lines (ended_lines bytes) 1 Begins) || nat_lt longest_line (length (open_line bytes))
+is_settled bytes =
+    is_err (run_lines (ended_lines bytes) 1 (Begins Direct)) || nat_lt longest_line (length (open_line bytes))
 
 -- whether these bytes decide for a command, whatever follows
 abbrev pub is_enough : Command → List ℕ → Bool

@@ -14,6 +14,7 @@ ghost use Rattle.basil_cli.specs.declared.command.Command.{Command};
 use crate::ending::Ending;
 use crate::input::{InputFail, PIECE};
 use basil_types::bytes::Bytes;
+use basil_types::links::Links;
 use basil_types::source::Source;
 use schedule_replay::fault::ReplayFault;
 use schedule_replay::replay::Replay;
@@ -66,10 +67,11 @@ impl Reading {
     }
 
     /// The line ends with these bytes, and is run.
-    fn end_line(self, last: &[u8]) -> Result<Reading, ReplayFault>
+    fn end_line<L: Links>(self, last: &[u8], links: &mut L) -> Result<Reading, ReplayFault>
         requires on { IsOn self }
         requires whole { has_newline last.now ≡ false }
-        ensures { (read : List ℕ) → IsBehind self read → Reads result (read ++ (last.now ++ 10 ∷ [])) }
+        ensures unlinked { links.new ≡ links.old }
+        ensures reads { (read : List ℕ) → IsBehind self read → Reads result (read ++ (last.now ++ 10 ∷ [])) }
     {
         let Reading {
             alloc,
@@ -81,7 +83,7 @@ impl Reading {
         if line.extend_from_slice(last).is_err() {
             return Err(ReplayFault::NoMemory);
         }
-        match schedule.line(alloc, &line, number) {
+        match schedule.line(alloc, &line, number, links, false) {
             Ok(schedule) => {
                 line.clear();
                 Ok(Reading {
@@ -96,13 +98,14 @@ impl Reading {
     }
 
     /// These bytes were read of the line, which hasn't ended. One that is too long is refused, whatever follows.
-    fn hold(self, bytes: &[u8]) -> Result<Reading, ReplayFault>
+    fn hold<L: Links>(self, bytes: &[u8], links: &mut L) -> Result<Reading, ReplayFault>
         requires on { IsOn self }
         requires whole { has_newline bytes.now ≡ false }
-        ensures { (read : List ℕ) → IsBehind self read → Reads result (read ++ bytes.now) }
+        ensures unlinked { links.new ≡ links.old }
+        ensures reads { (read : List ℕ) → IsBehind self read → Reads result (read ++ bytes.now) }
     {
         if bytes.len() > LONGEST_LINE - self.line.len() {
-            return self.end_line(bytes);
+            return self.end_line(bytes, links);
         }
         let mut reading = self;
         match reading.line.extend_from_slice(bytes) {
@@ -112,31 +115,33 @@ impl Reading {
     }
 
     /// A piece was read: its lines are run.
-    fn take(self, piece: &[u8]) -> Result<Reading, ReplayFault>
+    fn take<L: Links>(self, piece: &[u8], links: &mut L) -> Result<Reading, ReplayFault>
         requires { IsOn self }
-        ensures { (read : List ℕ) → IsBehind self read → Reads result (read ++ piece.now) }
+        ensures unlinked { links.new ≡ links.old }
+        ensures reads { (read : List ℕ) → IsBehind self read → Reads result (read ++ piece.now) }
     {
         let mut reading = self;
         let mut rest = piece;
         'lines: while let Some((line, more)) = ended_line(rest) {
-            match reading.end_line(line) {
+            match reading.end_line(line, links) {
                 Ok(next) => reading = next,
                 Err(fault) => return Err(fault),
             }
             rest = more;
         }
-        reading.hold(rest)
+        reading.hold(rest, links)
     }
 
     /// All was read: a last line without a newline is run too.
-    fn end(self) -> Result<Replay, ReplayFault>
+    fn end<L: Links>(self, links: &mut L) -> Result<Replay, ReplayFault>
         requires { IsOn self }
-        ensures { (read : List ℕ) → IsBehind self read → Ends result (replay_of read) }
+        ensures unlinked { links.new ≡ links.old }
+        ensures ends { (read : List ℕ) → IsBehind self read → Ends result (replay_of read) }
     {
         if self.line.is_empty() {
             return self.schedule.end(self.alloc);
         }
-        match self.end_line(b"") {
+        match self.end_line(b"", links) {
             Ok(reading) => reading.schedule.end(reading.alloc),
             Err(fault) => Err(fault),
         }
@@ -161,13 +166,14 @@ fn ending_of(fault: ReplayFault) -> Result<Ending, InputFail>
 }
 
 /// What the whole of a schedule leads to.
-fn ended(reading: Reading) -> Result<Ending, InputFail>
+fn ended<L: Links>(reading: Reading, links: &mut L) -> Result<Ending, InputFail>
     requires { IsOn reading }
+    ensures unlinked { links.new ≡ links.old }
     ensures outcome { IfOk result (λ e. (read : List ℕ) → IsBehind reading read →
         outcome_is e ≡ output_of Command.Replay read) }
     ensures sure { IsErrOf result InputFail.Failed → ⊥ }
 {
-    match reading.end() {
+    match reading.end(links) {
         Ok(replay) => {
             let text = replay.text()?;
             Ok(Ending::Written(Bytes::from_vec(text)))
@@ -177,7 +183,12 @@ fn ended(reading: Reading) -> Result<Ending, InputFail>
 }
 
 /// What a schedule leads to. A line is run before the next is read, and let go.
-pub(crate) fn replay<S: Source>(alloc: Global, source: &mut S) -> Result<Ending, InputFail>
+pub(crate) fn replay<S: Source, L: Links>(
+    alloc: Global,
+    source: &mut S,
+    links: &mut L,
+) -> Result<Ending, InputFail>
+    ensures unlinked { links.new ≡ links.old }
     ensures outcome { IfOk result (λ e. IfSome (S.left source.old) (λ bytes.
         outcome_is e ≡ output_of Command.Replay bytes)) }
     ensures through { IfOk result (λ _. IfSome (S.left source.old) (λ bytes.
@@ -190,11 +201,11 @@ pub(crate) fn replay<S: Source>(alloc: Global, source: &mut S) -> Result<Ending,
     let mut buf = [0u8; PIECE];
     'turns: for _ in 0..u64::MAX {
         let count = match source.read(&mut buf) {
-            Ok(0) => return ended(reading),
+            Ok(0) => return ended(reading, links),
             Ok(count) => count,
             Err(_) => return Err(InputFail::Failed),
         };
-        match reading.take(&buf[..count]) {
+        match reading.take(&buf[..count], links) {
             Ok(next) => reading = next,
             Err(fault) => return ending_of(fault),
         }

@@ -3,8 +3,9 @@
 ghost use Rattle.std.specs.Prelude.{◌≡◌, ◌⊎◌, ◌<◌, ℕ, true, false, Some, None, [], IfSome, IfOk, map, string_bytes};
 ghost use Rattle.std.specs.Result.{IsErrOf};
 ghost use Rattle.basil_types.specs.Causes.{Rose, TookPrefix};
-ghost use Rattle.schedule_replay.specs.Outcomes.{replay_of};
-ghost use Rattle.basil_cli.specs.Answers.{Answers, IsBrokenEnd, IsSafeEnd, IsTold, TookFault, is_outcomes, status_of};
+ghost use Rattle.schedule_replay.specs.Outcomes as schedules;
+ghost use Rattle.basil_cli.specs.Answers.{Answers, IsBrokenEnd, IsTold, TookFault, WroteSafely, WroteSome};
+ghost use Rattle.basil_cli.specs.Answers.{is_outcomes, status_of};
 ghost use Rattle.basil_cli.specs.Commands as commands;
 ghost use Rattle.basil_cli.specs.Commands.{command_of, words_read, reads, HasLeaf};
 ghost use Rattle.basil_cli.specs.Outcome.{text_of, Usage, BadLine, Refused};
@@ -63,10 +64,11 @@ fn write_usage<K: Sink>(sink: &mut K) -> Status
 }
 
 /// What the command leads to.
-fn ending_for<S: Source>(
+fn ending_for<S: Source, L: Links>(
     alloc: Global,
     command: &Command,
     source: &mut S,
+    links: &mut L,
 ) -> Result<Ending, InputFail>
     requires { HasLeaf command.now }
     ensures outcome { IfOk result (λ e. IfSome (S.left source.old) (λ bytes.
@@ -79,9 +81,10 @@ fn ending_for<S: Source>(
         StopsSoon (is_enough command.now) bytes (S.left source.new)) }
     ensures failed { IsErrOf result InputFail.Failed → Rose (S.faults source.old) (S.faults source.new) }
     ensures told { S.faults source.old < S.faults source.new → IsErrOf result InputFail.Failed }
+    ensures unlinked { links.new ≡ links.old }
 {
     match command {
-        Command::Replay => replay(alloc, source),
+        Command::Replay => replay(alloc, source, links),
         Command::Keys { material } => Ok(keys(alloc, material)?),
         Command::Sign { material, leaf } => match read_whole(alloc, source)? {
             Whole::Bytes(message) => Ok(sign(alloc, material, *leaf, message.as_slice())?),
@@ -108,13 +111,15 @@ fn ending_for<S: Source>(
 }
 
 /// Does what the command asks, and writes what comes of it.
-fn run_command<S: Source, K: Sink>(
+fn run_command<S: Source, K: Sink, L: Links>(
     alloc: Global,
     command: &Command,
     source: &mut S,
     sink: &mut K,
+    links: &mut L,
 ) -> Status
     requires { HasLeaf command.now }
+    ensures unlinked { links.new ≡ links.old }
     ensures answers { IfSome (S.left source.old) (λ bytes.
         Answers result (output_of command.now bytes) (S.faults source.old) (S.faults source.new)
         (K.taken sink.old) (K.taken sink.new)) }
@@ -136,7 +141,7 @@ fn run_command<S: Source, K: Sink>(
         (result ≡ Status.ReadFault) ⊎ (result ≡ Status.WriteFault) }
     ensures write_told { K.faults sink.old < K.faults sink.new → result ≡ Status.WriteFault }
 {
-    match ending_for(alloc, command, source) {
+    match ending_for(alloc, command, source, links) {
         Ok(ending) => write_ending(alloc, &ending, sink),
         Err(InputFail::Failed) => match sink.write(b"read fault\n") {
             Ok(()) => Status::ReadFault,
@@ -174,11 +179,11 @@ pub fn run<S: Source, K: Sink, L: Links, C: Clock>(
     // what the latest committed writer before it wrote.
     ensures safe { IfSome (S.left source.old) (λ bytes.
         command_of (map string_bytes words.now) ≡ Some Command.Replay → result ≡ Status.Done →
-        IsSafeEnd (replay_of bytes)) }
+        WroteSafely bytes (K.taken sink.old) (K.taken sink.new)) }
     // So it is where any byte of a report was written before the sink failed.
     ensures safe_in_part { IfSome (S.left source.old) (λ bytes.
         command_of (map string_bytes words.now) ≡ Some Command.Replay → result ≡ Status.WriteFault →
-        IsSafeEnd (replay_of bytes)
+        WroteSome (schedules.outcome_of bytes) bytes (K.taken sink.old) (K.taken sink.new)
         ⊎ TookFault (S.faults source.old) (S.faults source.new) (K.taken sink.old) (K.taken sink.new)) }
     // Where a breach was told, it is the first of such a run, and real: of a correct party a signature that its key
     // accepts on words that it had not signed, or two texts that differ and have one SHA-256. Until there the run is
@@ -221,7 +226,7 @@ pub fn run<S: Source, K: Sink, L: Links, C: Clock>(
     reports_are_safe();
     breaks_are_real();
     match read_command(alloc, words) {
-        Ok(Some(command)) => run_command(alloc, &command, source, sink),
+        Ok(Some(command)) => run_command(alloc, &command, source, sink, links),
         Ok(None) => write_usage(sink),
         Err(NoMemory) => Status::NoMemory,
     }

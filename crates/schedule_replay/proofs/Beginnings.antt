@@ -8,16 +8,17 @@ use Rattle.cluster_world.specs.declared.building.Beginning.{Beginning}
 use Rattle.message_pool.specs.declared.pool.Room.{Room}
 use Rattle.replay_kit.specs.Values.{replay_value}
 use Rattle.schedule_replay.specs.Replays.{first_replay, most_bytes, most_messages, no_names, setup_of}
+use Rattle.schedule_replay.specs.Roads.{Road}
 use Rattle.schedule_replay.specs.Shown.{Stands, opening_of}
 use Rattle.schedule_replay.specs.declared.course.Course.{Course}
 use Rattle.schedule_replay.specs.declared.replay.Opening as code
 
-pub first_stands : (course : Course) (o : code.Opening) (faulty : List Party) (limits : Room) (kit : KitValue) →
+pub first_stands : (course : Course) (o : code.Opening) (faulty : List Party) (limits : Room) (kit : KitValue) (road : Road) →
     course.cluster ≡ o.cluster → course.names ≡ no_names → limits.messages ≡ most_messages → limits.bytes ≡ most_bytes →
     kit ≡ replay_value o.cluster o.keys →
     (let s = world.setup_of (record { cluster = o.cluster; clock = o.clock; limits = limits }) faulty kit in
-    Shows s course.world.core (start s)) → Stands course (first_replay (opening_of o) faulty)
-first_stands course o faulty limits kit cluster names messages bytes made shows =
+    Shows s course.world.core (start s)) → Stands course (first_replay (opening_of o) faulty road)
+first_stands course o faulty limits kit road cluster names messages bytes made shows =
     let from : Beginning = record { cluster = o.cluster; clock = o.clock; limits = limits } in
     let same : world.setup_of from faulty kit ≡ setup_of (opening_of o) faulty =
     λ i. record { cluster = o.cluster; faulty = faulty; clock = o.clock; messages = messages i; bytes = bytes i; kit = made i } in

@@ -1,93 +1,216 @@
 -- How far a course came.
-use Rattle.std.proofs.Common.{◌≡◌, ℕ, ◌+◌, ◌<◌, List, ◌∷◌, length, drop, drop-cons, get_or, suc, None, add-one, ap, subst, sym, ◌∙◌}
+use Rattle.std.proofs.Common.{◌≡◌, ℕ, ◌+◌, ◌≤◌, ◌<◌, List, [], ◌∷◌, ◌++◌, length, take, drop, drop-cons, get_or, suc, Bool, true, Some, None, refl, add-one, ap, subst, sym, ◌∙◌}
 use Rattle.std.specs.Prelude.{Result, Ok, Err, option_map}
-use Rattle.std.specs.Result.{IsErrAnd}
+use Rattle.std.proofs.Math.Seq.{take-suc}
+use Rattle.std.proofs.lemmas.List.{take_all, take-append-drop}
 use Rattle.basil_types.specs.Steps.{◌>>=◌}
 use Rattle.cluster_run.specs.Events as events
 use Rattle.cluster_run.specs.Events.{happens}
 use Rattle.cluster_run.specs.States.{State}
 use Rattle.cluster_run.specs.declared.fault.WorldFault.{WorldFault}
 use Rattle.cluster_run.specs.declared.fault.WorldFault.TheVariants as world
-use Rattle.cluster_world.specs.declared.fault.StepFault.{StepFault}
-use Rattle.cluster_world.specs.declared.fault.StepFault.TheVariants as step
 use Rattle.node_steps.specs.Refusing.{unless_refused}
 use Rattle.schedule_text.specs.declared.line.Line.{Line}
 use Rattle.schedule_replay.proofs.Deliveries.{IsHanded, delivered}
-use Rattle.schedule_replay.specs.Events.{deliver_all, frame_at, line_does}
+use Rattle.schedule_replay.specs.Events.{deliver, deliver_all, frame_at, line_does, waiting}
 use Rattle.schedule_replay.specs.Lines.{answered, line_step, names_after}
 use Rattle.schedule_replay.specs.Reasons.{reason_of}
-use Rattle.schedule_replay.specs.Replays.{ReplayValue}
-use Rattle.schedule_replay.specs.Shown.{Did, Goes, Stands}
+use Rattle.schedule_replay.proofs.RoadLaws.{along_own, two_gifts}
+use Rattle.schedule_replay.specs.Replays.{ReplayValue, along}
+use Rattle.schedule_replay.specs.Roads.{Road, behind_one, handed, road_with}
+use Rattle.schedule_replay.specs.Shown.{Did, Does, Stands, failed_by_link, fault_by}
 use Rattle.schedule_replay.specs.declared.course.Course.{Course}
+use Rattle.schedule_replay.specs.declared.fault.Halt.{Halt}
+use Rattle.schedule_replay.specs.declared.fault.Halt.TheVariants as halt
 use Rattle.schedule_replay.specs.declared.fault.ReplayFault.TheVariants.{BadInput}
 
--- from the state that a course shows these messages come to what all of them should
-pub record Reached (r : ReplayValue) (course : Course) (messages : List ℕ) (should : Result State WorldFault) : Type 0 where
-  pub state : State
-  pub same : should ≡ deliver_all r.setup messages state
-  pub stands : Stands course (record r { state = state })
+-- a course shows what a replay comes to when these messages are delivered, with this road left
+pub record Reached (r : ReplayValue) (course : Course) (done : List ℕ) (road : Road) : Type 0 where
+  pub now : ReplayValue
+  pub comes : deliver_all done r ≡ Ok now
+  pub stands : Stands course now
+  pub goes : now.road ≡ road
+
+-- ---- lists of deliveries
+
+all_append : (xs ys : List ℕ) (r : ReplayValue) → deliver_all (xs ++ ys) r ≡ (deliver_all xs r >>= deliver_all ys)
+all_append [] ys r = refl
+all_append (x ∷ xs) ys r = by (deliver r x) (λ q. all_append xs ys q)
+  where
+    by : (a : Result ReplayValue WorldFault) →
+        ((q : ReplayValue) → deliver_all (xs ++ ys) q ≡ (deliver_all xs q >>= deliver_all ys)) →
+        (a >>= deliver_all (xs ++ ys)) ≡ ((a >>= deliver_all xs) >>= deliver_all ys)
+    by (Ok q) rest = rest q
+    by (Err e) rest = refl
+
+only_one : (r : ReplayValue) (m : ℕ) → deliver_all (m ∷ []) r ≡ deliver r m
+only_one r m = by (deliver r m)
+  where
+    by : (a : Result ReplayValue WorldFault) → (a >>= deliver_all []) ≡ a
+    by (Ok q) = refl
+    by (Err e) = refl
+
+one_more : (r : ReplayValue) (done : List ℕ) (m : ℕ) (q : ReplayValue) → deliver_all done r ≡ Ok q →
+    deliver_all (done ++ m ∷ []) r ≡ deliver q m
+one_more r done m q h = all_append done (m ∷ []) r ∙ (ap (λ x. x >>= deliver_all (m ∷ [])) h ∙ only_one q m)
+
+all_of : (r : ReplayValue) (done left : List ℕ) (m : ℕ) (q : ReplayValue) → deliver_all done r ≡ Ok q →
+    deliver_all (done ++ m ∷ left) r ≡ (deliver q m >>= deliver_all left)
+all_of r done left m q h = all_append done (m ∷ left) r ∙ ap (λ x. x >>= deliver_all (m ∷ left)) h
+
+-- ---- one more delivery
+
+pub reached_one : (r : ReplayValue) (mid new : Course) (done : List ℕ) (m : ℕ) (here there : Road) (a : Reached r mid done here) →
+    Does (deliver a.now m) a.now new (Ok tt) there → Reached r new (done ++ m ∷ []) there
+reached_one r mid new done m here there a does = record {
+  now = does.0;
+  comes = one_more r done m a.now a.comes ∙ does.1;
+  stands = does.2;
+  goes = does.3;
+}
 
 -- a delivery is refused as a party's matter by no world
-not_refused : (a : Result State WorldFault) (w : WorldFault) → IsHanded a → a ≡ Err w → IsHanded (Err w)
-not_refused a w h e = subst IsHanded e h
+is_handed : (a : Result State WorldFault) (f : State → ReplayValue) (w : WorldFault) → IsHanded a → (a >>= λ st. Ok (f st)) ≡ Err w →
+    IsHanded (Err w)
+is_handed (Ok st) f w h e = absurd cc
+is_handed (Err x) f w h e = let same : x ≡ w = cc in subst (λ z. IsHanded (Err z)) same h
 
-pub next_reached : (r : ReplayValue) (mid new : Course) (m : ℕ) (ms : List ℕ) (should : Result State WorldFault)
-    (a : Reached r mid (m ∷ ms) should) →
-    Goes (happens r.setup (events.Deliver m (frame_at a.state m)) a.state) (record r { state = a.state }) new (Ok tt) →
-    Reached r new ms should
-next_reached r mid new m ms should a goes =
-    record { state = goes.0; same = a.same ∙ ap (λ x. x >>= deliver_all r.setup ms) goes.1; stands = goes.2 }
+not_refused : (q : ReplayValue) (m : ℕ) (w : WorldFault) → deliver q m ≡ Err w → IsHanded (Err w)
+not_refused q m w e =
+    is_handed (happens q.setup (events.Deliver m (handed q.road (frame_at q.state m))) q.state)
+    (λ st. record q { state = st; road = behind_one q.road }) w (delivered q.setup m (handed q.road (frame_at q.state m)) q.state) e
 
-pub not_reached : (r : ReplayValue) (mid new : Course) (m : ℕ) (ms : List ℕ) (should : Result State WorldFault)
-    (a : Reached r mid (m ∷ ms) should) (x : StepFault) →
-    Goes (happens r.setup (events.Deliver m (frame_at a.state m)) a.state) (record r { state = a.state }) new (Err x) →
-    Goes should r new (Err x)
-not_reached r mid new m ms should a (step.World (world.Broken b)) goes = a.same ∙ ap (λ x. x >>= deliver_all r.setup ms) goes
-not_reached r mid new m ms should a (step.World (world.PoolFull messages bytes)) goes =
-    a.same ∙ ap (λ x. x >>= deliver_all r.setup ms) goes
-not_reached r mid new m ms should a (step.World (world.Call f)) goes =
-    absurd (not_refused _ (world.Call f) (delivered r.setup m (frame_at a.state m) a.state) goes.0)
-not_reached r mid new m ms should a (step.World (world.Exhausted party)) goes =
-    absurd (not_refused _ (world.Exhausted party) (delivered r.setup m (frame_at a.state m) a.state) goes.0)
-not_reached r mid new m ms should a step.NoMemory goes = tt
+pub stopped_at : (r : ReplayValue) (mid new : Course) (done left : List ℕ) (m : ℕ) (here there : Road) (a : Reached r mid done here)
+    (x : Halt) → waiting r.state ≡ done ++ m ∷ left → Does (deliver a.now m) a.now new (Err x) there →
+    (failed_by_link {A = Unit {0}} (Err x) ≡ true → new ≡ mid) → Does (deliver_all (waiting r.state) r) r new (Err x) there
+stopped_at r mid new done left m here there a x w does stays = by x does stays
+  where
+    fails : (f : WorldFault) → deliver a.now m ≡ Err f → deliver_all (waiting r.state) r ≡ Err f
+    fails f e = ap (λ ms. deliver_all ms r) w ∙ (all_of r done left m a.now a.comes ∙ ap (λ x. x >>= deliver_all left) e)
+
+    by : (x : Halt) → Does (deliver a.now m) a.now new (Err x) there → (failed_by_link {A = Unit {0}} (Err x) ≡ true → new ≡ mid) →
+        Does (deliver_all (waiting r.state) r) r new (Err x) there
+    by (halt.World (world.Broken b)) does stays = fails (world.Broken b) does
+    by (halt.World (world.PoolFull messages bytes)) does stays = fails (world.PoolFull messages bytes) does
+    by (halt.World (world.Call f)) does stays = absurd (not_refused a.now m (world.Call f) does.0)
+    by (halt.World (world.Exhausted party)) does stays = absurd (not_refused a.now m (world.Exhausted party) does.0)
+    by halt.Link does stays = record {
+      done = done;
+      left = m ∷ left;
+      of_waiting = w;
+      reached = a.now;
+      comes = a.comes;
+      stands = subst (λ c. Stands c a.now) (sym (stays refl)) a.stands;
+    }
+    by halt.NoMemory does stays = tt
 
 -- ---- the message at a place
 
--- a delivery from every replay that a course shows
-abbrev pub Delivers : (mid new : Course) (message : ℕ) → Result (Unit {0}) StepFault → Type 0
-Delivers mid new message x =
-    (q : ReplayValue) → Stands mid q → Goes (happens q.setup (events.Deliver message (frame_at q.state message)) q.state) q new x
+module _ (r : ReplayValue) (ms : List ℕ) (i : ℕ) (below : i < length ms) (all : waiting r.state ≡ ms) where
+  parted : waiting r.state ≡ take i ms ++ get_or ms i 0 ∷ drop (suc i) ms
+  parted = all ∙ (sym (take-append-drop i ms) ∙ ap (λ xs. take i ms ++ xs) (drop-cons ms i 0 below))
 
-module _ (r : ReplayValue) (mid new : Course) (ms : List ℕ) (i : ℕ) (should : Result State WorldFault) (below : i < length ms)
-    (a : Reached r mid (drop i ms) should) where
-  here : Reached r mid (get_or ms i 0 ∷ drop (suc i) ms) should
-  here = subst (λ xs. Reached r mid xs should) (drop-cons ms i 0 below) a
+  pub reached_on : (mid new : Course) (here there : Road) (a : Reached r mid (take i ms) here) →
+      Does (deliver a.now (get_or ms i 0)) a.now new (Ok tt) there → Reached r new (take (i + 1) ms) there
+  reached_on mid new here there a does =
+      rw add-one
+      (subst (λ xs. Reached r new xs there) (sym (take-suc ms i 0 below))
+      (reached_one r mid new (take i ms) (get_or ms i 0) here there a does))
 
-  pub reached_on : Delivers mid new (get_or ms i 0) (Ok tt) → Reached r new (drop (i + 1) ms) should
-  reached_on goes =
-      rw add-one (next_reached r mid new (get_or ms i 0) (drop (suc i) ms) should here (goes (record r { state = here.state }) here.stands))
+  pub stopped_on : (mid new : Course) (here there : Road) (a : Reached r mid (take i ms) here) (x : Halt) →
+      Does (deliver a.now (get_or ms i 0)) a.now new (Err x) there →
+      (failed_by_link {A = Unit {0}} (Err x) ≡ true → new ≡ mid) → Does (deliver_all (waiting r.state) r) r new (Err x) there
+  stopped_on mid new here there a x does stays =
+      stopped_at r mid new (take i ms) (drop (suc i) ms) (get_or ms i 0) here there a x parted does stays
 
-  refused : (x : StepFault) → Delivers mid new (get_or ms i 0) (Err x) → Goes should r new (Err x)
-  refused x goes =
-      not_reached r mid new (get_or ms i 0) (drop (suc i) ms) should here x (goes (record r { state = here.state }) here.stands)
+pub reached_all : (r : ReplayValue) (course : Course) (ms : List ℕ) (i : ℕ) (road : Road) → length ms ≤ i → waiting r.state ≡ ms →
+    Reached r course (take i ms) road → Does (deliver_all (waiting r.state) r) r course (Ok tt) road
+reached_all r course ms i road past all a =
+    (a.now, ap (λ xs. deliver_all xs r) (all ∙ sym (take_all i ms past)) ∙ a.comes, a.stands, a.goes)
 
-  pub ends_refused : (result : Result (Unit {0}) StepFault) (x : StepFault) → IsErrAnd result (λ y. y ≡ x) →
-      Delivers mid new (get_or ms i 0) (Err x) → Goes should r new result
-  ends_refused (Ok done) x h goes = absurd h
-  ends_refused (Err y) x h goes = subst (λ z. Goes should r new (Err z)) (sym h) (refused x goes)
+-- ---- the whole road of a round
+
+-- what was delivered so far, by every road that begins with what links gave so far
+abbrev pub Sofar : (start mid : Course) (ms : List ℕ) (carried : Bool) → List (List ℕ) → Type 0
+Sofar start mid ms carried gave = (r : ReplayValue) (later : List (List ℕ)) → Stands start r →
+    Reached (along (road_with carried (gave ++ later)) r) mid ms (road_with carried later)
+
+-- a delivery comes to what it should
+abbrev pub Delivers : (mid new : Course) (message : ℕ) (carried : Bool) → Result (Unit {0}) Halt → List (List ℕ) → Type 0
+Delivers mid new message carried result gave = (r : ReplayValue) (later : List (List ℕ)) → Stands mid r →
+    Does (deliver (along (road_with carried (gave ++ later)) r) message) (along (road_with carried (gave ++ later)) r) new result
+    (road_with carried later)
+
+module _ (start mid new : Course) (ms : List ℕ) (i : ℕ) (carried : Bool) (below : i < length ms)
+    (all : (r : ReplayValue) → Stands start r → waiting r.state ≡ ms) (g h : List (List ℕ))
+    (so_far : Sofar start mid (take i ms) carried g) where
+  module _ (r : ReplayValue) (later : List (List ℕ)) (stands : Stands start r) where
+    abbrev whole : ReplayValue
+    whole = along (road_with carried ((g ++ h) ++ later)) r
+
+    -- how far it came, on that road
+    reached : Reached whole mid (take i ms) (road_with carried (h ++ later))
+    reached = subst (λ x. Reached (along x r) mid (take i ms) (road_with carried (h ++ later))) (sym (two_gifts carried g h later))
+        (so_far r (h ++ later) stands)
+
+    -- and the next delivery from there
+    next : (result : Result (Unit {0}) Halt) → Delivers mid new (get_or ms i 0) carried result h →
+        Does (deliver reached.now (get_or ms i 0)) reached.now new result (road_with carried later)
+    next result d =
+        subst (λ q. Does (deliver q (get_or ms i 0)) q new result (road_with carried later))
+        (along_own reached.now (road_with carried (h ++ later)) reached.goes) (d reached.now later reached.stands)
+
+  pub sofar_on : Delivers mid new (get_or ms i 0) carried (Ok tt) h → Sofar start new (take (i + 1) ms) carried (g ++ h)
+  sofar_on d r later stands =
+      reached_on (whole r later stands) ms i below (all r stands) mid new (road_with carried (h ++ later)) (road_with carried later)
+      (reached r later stands) (next r later stands (Ok tt) d)
+
+  pub sofar_stops : (x : Halt) → Delivers mid new (get_or ms i 0) carried (Err x) h →
+      (failed_by_link {A = Unit {0}} (Err x) ≡ true → new ≡ mid) → (r : ReplayValue) (later : List (List ℕ)) → Stands start r →
+      Does (deliver_all (waiting r.state) (along (road_with carried ((g ++ h) ++ later)) r))
+      (along (road_with carried ((g ++ h) ++ later)) r) new (Err x) (road_with carried later)
+  sofar_stops x d stays r later stands =
+      stopped_on (whole r later stands) ms i below (all r stands) mid new (road_with carried (h ++ later)) (road_with carried later)
+      (reached r later stands) x (next r later stands (Err x) d) stays
 
 -- ---- a line that is done
 
-pub line_done : (r : ReplayValue) (line : Line) (number : ℕ) (mid new : Course) → reason_of r line ≡ None →
-    Goes (line_does r line) r mid (Ok tt) → new.names ≡ names_after line mid.names → new.world ≡ mid.world →
-    new.cluster ≡ mid.cluster → Did (line_step r line number) r new (Ok tt)
-line_done r line number mid new none goes names world cluster = (
-  record r { names = names_after line r.names; state = goes.0 },
-  ap (λ o. unless_refused (option_map (BadInput number) o) (answered r line number (line_does r line))) none
-      ∙ ap (answered r line number) goes.1,
+pub line_done : (r : ReplayValue) (line : Line) (number : ℕ) (mid new : Course) (road : Road) → reason_of r line ≡ None →
+    Does (line_does r line) r mid (Ok tt) road → new.names ≡ names_after line mid.names → new.world ≡ mid.world →
+    new.cluster ≡ mid.cluster → Did (line_step r line number) r new (Ok tt) road
+line_done r line number mid new road none does names world cluster = let after = does.0 in (
+  record after { names = names_after line after.names },
+  ap (λ o. unless_refused (option_map (BadInput number) o) (answered line number (line_does r line))) none
+      ∙ ap (answered line number) does.1,
   record {
-    cluster = goes.2.cluster ∙ sym cluster;
-    names = ap (names_after line) goes.2.names ∙ sym names;
-    shows = rw world goes.2.shows;
+    cluster = does.2.cluster ∙ sym cluster;
+    names = ap (names_after line) does.2.names ∙ sym names;
+    shows = rw world does.2.shows;
   },
+  does.3,
 )
+
+-- a line that a reason refuses
+pub line_refused : (r : ReplayValue) (line : Line) (number reason : ℕ) (course : Course) (road : Road) → reason_of r line ≡ Some reason →
+    Stands course r → Did (line_step r line number) r course (Err (BadInput number reason)) road
+line_refused r line number reason course road is stands =
+    (ap (λ o. unless_refused (option_map (BadInput number) o) (answered line number (line_does r line))) is, stands)
+
+-- a line whose events halt
+pub line_halted : (r : ReplayValue) (line : Line) (number : ℕ) (course : Course) (road : Road) (x : Halt) → reason_of r line ≡ None →
+    Does (line_does r line) r course (Err x) road → Did (line_step r line number) r course (Err (fault_by number x)) road
+line_halted r line number course road x none does = by x does
+  where
+    answers : (f : WorldFault) → line_does r line ≡ Err f → line_step r line number ≡ answered line number (Err f)
+    answers f e =
+        ap (λ o. unless_refused (option_map (BadInput number) o) (answered line number (line_does r line))) none
+        ∙ ap (answered line number) e
+
+    by : (x : Halt) → Does (line_does r line) r course (Err x) road →
+        Did (line_step r line number) r course (Err (fault_by number x)) road
+    by (halt.World (world.Broken b)) does = answers (world.Broken b) does
+    by (halt.World (world.PoolFull messages bytes)) does = answers (world.PoolFull messages bytes) does
+    by (halt.World (world.Call f)) does = (answers (world.Call f) does.0, does.1)
+    by (halt.World (world.Exhausted party)) does = (answers (world.Exhausted party) does.0, does.1)
+    by halt.Link does = does
+    by halt.NoMemory does = tt

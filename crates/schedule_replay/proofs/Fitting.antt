@@ -4,7 +4,6 @@ use Rattle.std.specs.Prelude.{true, false, Ok, option_map, option_and_then}
 use Rattle.cluster_run.specs.Events as events
 use Rattle.cluster_run.specs.Events.{EventValue}
 use Rattle.cluster_run.specs.Safety.{IsEvent}
-use Rattle.cluster_run.specs.States.{State}
 use Rattle.schedule_text.specs.Fitting.{Fits, GrammarIsRead}
 use Rattle.schedule_text.specs.Reading.{line_at}
 use Rattle.schedule_text.specs.declared.line.Line.{Line}
@@ -52,38 +51,38 @@ claimed names name key None e h = named names name (λ tx. events.Claim tx key N
 claimed names name key (Some writer) e h = claims names name key (number_of writer names) e h
 
 -- the event of a line that fits is one whose time and bytes are in their ranges
-pub event_fits : (names : NamesValue) (st : State) (line : Line) (e : EventValue) → Fits line → event_of names st line ≡ Some e →
+pub event_fits : (names : NamesValue) (given : List ℕ) (line : Line) (e : EventValue) → Fits line → event_of names given line ≡ Some e →
     IsEvent e
-event_fits names st (Begin name client time) e f h = one (events.Begin client time) f.2 e h
-event_fits names st (Read name key) e f h = named names name (λ tx. events.Read tx key) (λ tx. f.1.2) e h
-event_fits names st (Write name key value) e f h =
+event_fits names given (Begin name client time) e f h = one (events.Begin client time) f.2 e h
+event_fits names given (Read name key) e f h = named names name (λ tx. events.Read tx key) (λ tx. f.1.2) e h
+event_fits names given (Write name key value) e f h =
     named names name (λ tx. events.Write tx (record { key = key; value = value; deletes = false }))
     (λ tx. (f.1.2, f.2.2)) e h
-event_fits names st (Delete name key) e f h =
+event_fits names given (Delete name key) e f h =
     named names name (λ tx. events.Write tx (record { key = key; value = []; deletes = true }))
     (λ tx. (f.1.2, λ i. omega arith)) e h
-event_fits names st (Claim name key writer) e f h = claimed names name key writer e h
-event_fits names st (Prepare name) e f h = named names name events.Prepare (λ tx. tt) e h
-event_fits names st (Settle name client) e f h = named names name (λ tx. events.Settle tx client) (λ tx. tt) e h
-event_fits names st (Recover name client) e f h = named names name (λ tx. events.Recover tx client) (λ tx. tt) e h
-event_fits names st (Invoke name client) e f h = named names name (λ tx. events.Invoke tx client) (λ tx. tt) e h
-event_fits names st (Deliver message) e f h = one _ tt e h
-event_fits names st (Lose message) e f h = one _ tt e h
-event_fits names st (Divert message to) e f h = one _ tt e h
-event_fits names st (Clock shard replica moment) e f h = one _ tt e h
-event_fits names st (Vote shard replica name decision client) e f h =
+event_fits names given (Claim name key writer) e f h = claimed names name key writer e h
+event_fits names given (Prepare name) e f h = named names name events.Prepare (λ tx. tt) e h
+event_fits names given (Settle name client) e f h = named names name (λ tx. events.Settle tx client) (λ tx. tt) e h
+event_fits names given (Recover name client) e f h = named names name (λ tx. events.Recover tx client) (λ tx. tt) e h
+event_fits names given (Invoke name client) e f h = named names name (λ tx. events.Invoke tx client) (λ tx. tt) e h
+event_fits names given (Deliver message) e f h = one _ tt e h
+event_fits names given (Lose message) e f h = one _ tt e h
+event_fits names given (Divert message to) e f h = one _ tt e h
+event_fits names given (Clock shard replica moment) e f h = one _ tt e h
+event_fits names given (Vote shard replica name decision client) e f h =
     named names name (λ tx. events.Vote shard replica tx decision client) (λ tx. tt) e h
-event_fits names st (Second name decision replica) e f h = named names name (λ tx. events.Second tx decision replica) (λ tx. tt) e h
-event_fits names st (Logged shard replica name decision decided current client) e f h =
+event_fits names given (Second name decision replica) e f h = named names name (λ tx. events.Second tx decision replica) (λ tx. tt) e h
+event_fits names given (Logged shard replica name decision decided current client) e f h =
     named names name (λ tx. events.Logged shard replica tx decision decided current client) (λ tx. tt) e h
-event_fits names st (Elect shard replica name decision view) e f h =
+event_fits names given (Elect shard replica name decision view) e f h =
     named names name (λ tx. events.Elect shard replica tx decision view) (λ tx. tt) e h
-event_fits names st (Decide shard replica name decision view to) e f h =
+event_fits names given (Decide shard replica name decision view to) e f h =
     named names name (λ tx. events.Decide shard replica tx decision view to) (λ tx. tt) e h
-event_fits names st (Raw from to frame) e f h = one _ tt e h
-event_fits names st (Show frame) e f h = one _ tt e h
-event_fits names st (Header cluster clock keys journal) e f h = absurd cc
-event_fits names st Skipped e f h = absurd cc
-event_fits names st (Faulty party) e f h = absurd cc
-event_fits names st Round e f h = absurd cc
-event_fits names st (Stop shard replica message write bytes) e f h = absurd cc
+event_fits names given (Raw from to frame) e f h = one _ tt e h
+event_fits names given (Show frame) e f h = one _ tt e h
+event_fits names given (Header cluster clock keys journal) e f h = absurd cc
+event_fits names given Skipped e f h = absurd cc
+event_fits names given (Faulty party) e f h = absurd cc
+event_fits names given Round e f h = absurd cc
+event_fits names given (Stop shard replica message write bytes) e f h = absurd cc

@@ -2,6 +2,7 @@ pub mod Beginnings
 pub mod ReasonLaws
 pub mod NameLaws
 pub mod StageLaws
+pub mod RoadLaws
 pub mod Fitting
 pub mod Joining
 pub mod Running

@@ -32,9 +32,10 @@ use Rattle.schedule_replay.proofs.Running.{between}
 use Rattle.schedule_replay.specs.Kits.{kit_of}
 use Rattle.schedule_replay.specs.Laws.{IsReplayed, ReportsAreSafe, IsRealBreak, BreaksAreReal}
 use Rattle.schedule_replay.specs.Lines.{bad_line, line_step}
-use Rattle.schedule_replay.specs.Outcomes.{replay_of}
+use Rattle.schedule_replay.specs.Outcomes.{replay_on}
 use Rattle.schedule_replay.specs.Replays.{Opening, ReplayValue, first_replay}
 use Rattle.schedule_replay.specs.Reports.{report}
+use Rattle.schedule_replay.specs.Roads.{Road}
 use Rattle.schedule_replay.specs.Stages.{Stage, Begins, Opens, Runs, opened, first_line, bad_first, faulty_reason, opening_line, read_line, stage_step, run_lines, ended}
 use Rattle.schedule_replay.specs.declared.fault.ReplayFault.{ReplayFault}
 use Rattle.schedule_replay.specs.declared.fault.ReplayFault.TheVariants as fault
@@ -52,15 +53,15 @@ record IsOpening (o : Opening) (faulty : List Party) : Type 0 where
   pub signed : AreSigned o.kit
 
 abbrev IsStage : Stage → Type 0
-IsStage Begins = Unit {0}
-IsStage (Opens o faulty) = IsOpening o faulty
+IsStage (Begins road) = Unit {0}
+IsStage (Opens o faulty road) = IsOpening o faulty
 IsStage (Runs r) = IsReplayed r
 
 module _ (laws : Laws) where
   -- ---- openings
 
-  begins_replayed : (o : Opening) (faulty : List Party) → IsOpening o faulty → IsReplayed (first_replay o faulty)
-  begins_replayed o faulty i = record {
+  begins_replayed : (o : Opening) (faulty : List Party) (road : Road) → IsOpening o faulty → IsReplayed (first_replay o faulty road)
+  begins_replayed o faulty road i = record {
     sound = record {
       setup = record { setting = i.setting; few = laws.few o.cluster faulty i.counted };
       signed = i.signed;
@@ -85,19 +86,20 @@ module _ (laws : Laws) where
   nobody : (f : ℕ) → AreCounted f []
   nobody f shard = omega arith
 
-  opens : (number : ℕ) (c : Setting) (clock : ℕ) (journal : Bool) (kit : Option KitValue) (stage : Stage) → IsSetting c →
-      ((k : KitValue) → kit ≡ Some k → AreSigned k) → opened number c clock journal kit ≡ Ok stage → IsStage stage
-  opens number c clock true kit stage i signs h = absurd cc
-  opens number c clock false None stage i signs h = absurd cc
-  opens number c clock false (Some kit) stage i signs h =
-      let same : Opens (record { cluster = c; clock = clock; kit = kit }) [] ≡ stage = cc in
+  opens : (road : Road) (number : ℕ) (c : Setting) (clock : ℕ) (journal : Bool) (kit : Option KitValue) (stage : Stage) → IsSetting c →
+      ((k : KitValue) → kit ≡ Some k → AreSigned k) → opened road number c clock journal kit ≡ Ok stage → IsStage stage
+  opens road number c clock true kit stage i signs h = absurd cc
+  opens road number c clock false None stage i signs h = absurd cc
+  opens road number c clock false (Some kit) stage i signs h =
+      let same : Opens (record { cluster = c; clock = clock; kit = kit }) [] road ≡ stage = cc in
       subst IsStage same (record { setting = i; counted = nobody c.f; signed = signs kit refl })
 
-  first_keeps : (number : ℕ) (line : Line) (stage : Stage) → Fits line → first_line number line ≡ Ok stage → IsStage stage
-  first_keeps number (Header c clock keys journal) stage f h =
-      opens number c clock journal (kit_of c keys) stage f.0 (λ k e. kit_signs c keys k e) h
-  first_keeps number Skipped stage f h = let same : Begins ≡ stage = cc in subst IsStage same tt
-  first_keeps number line stage f h = absurd cc
+  first_keeps : (road : Road) (number : ℕ) (line : Line) (stage : Stage) → Fits line →
+      first_line road number line ≡ Ok stage → IsStage stage
+  first_keeps road number (Header c clock keys journal) stage f h =
+      opens road number c clock journal (kit_of c keys) stage f.0 (λ k e. kit_signs c keys k e) h
+  first_keeps road number Skipped stage f h = let same : Begins road ≡ stage = cc in subst IsStage same tt
+  first_keeps road number line stage f h = absurd cc
 
   -- ---- faulty parties
 
@@ -110,15 +112,15 @@ module _ (laws : Laws) where
       by false true h = refl
       by false false h = absurd cc
 
-  joins : (o : Opening) (faulty : List Party) (number : ℕ) (party : Party) (stage : Stage) → IsOpening o faulty →
-      unless (option_map (fault.BadInput number) (faulty_reason o.cluster faulty party)) (Opens o (faulty ++ party ∷ [])) ≡ Ok stage →
+  joins : (o : Opening) (faulty : List Party) (road : Road) (number : ℕ) (party : Party) (stage : Stage) → IsOpening o faulty →
+      unless (option_map (fault.BadInput number) (faulty_reason o.cluster faulty party)) (Opens o (faulty ++ party ∷ []) road) ≡ Ok stage →
       IsStage stage
-  joins o faulty number party stage i h = by (faulty_reason o.cluster faulty party) refl h
+  joins o faulty road number party stage i h = by (faulty_reason o.cluster faulty party) refl h
     where
       by : (reason : Option ℕ) → faulty_reason o.cluster faulty party ≡ reason →
-          unless (option_map (fault.BadInput number) reason) (Opens o (faulty ++ party ∷ [])) ≡ Ok stage → IsStage stage
+          unless (option_map (fault.BadInput number) reason) (Opens o (faulty ++ party ∷ []) road) ≡ Ok stage → IsStage stage
       by None e h =
-          let same : Opens o (faulty ++ party ∷ []) ≡ stage = cc in
+          let same : Opens o (faulty ++ party ∷ []) road ≡ stage = cc in
           subst IsStage same
           (record {
             setting = i.setting;
@@ -136,19 +138,20 @@ module _ (laws : Laws) where
       let same : Runs b.start ≡ stage = cc in
       subst IsStage same (line_keeps r line number b.start f i b.first)
 
-  opening_keeps : (o : Opening) (faulty : List Party) (number : ℕ) (line : Line) (stage : Stage) → Fits line → IsOpening o faulty →
-      opening_line o faulty number line ≡ Ok stage → IsStage stage
-  opening_keeps o faulty number (Faulty party) stage f i h = joins o faulty number party stage i h
-  opening_keeps o faulty number Skipped stage f i h = let same : Opens o faulty ≡ stage = cc in subst IsStage same i
-  opening_keeps o faulty number line stage f i h =
-      runs_on (first_replay o faulty) line number stage f (begins_replayed o faulty i) h
+  opening_keeps : (o : Opening) (faulty : List Party) (road : Road) (number : ℕ) (line : Line) (stage : Stage) →
+      Fits line → IsOpening o faulty →
+      opening_line o faulty road number line ≡ Ok stage → IsStage stage
+  opening_keeps o faulty road number (Faulty party) stage f i h = joins o faulty road number party stage i h
+  opening_keeps o faulty road number Skipped stage f i h = let same : Opens o faulty road ≡ stage = cc in subst IsStage same i
+  opening_keeps o faulty road number line stage f i h =
+      runs_on (first_replay o faulty road) line number stage f (begins_replayed o faulty road i) h
 
   read_keeps : (stage : Stage) (line : List ℕ) (number : ℕ) (value : Result Line LineFault) (after : Stage) →
       ((x : Line) → value ≡ Ok x → Fits x) → IsStage stage → read_line stage line number value ≡ Ok after → IsStage after
-  read_keeps Begins line number (Ok value) after f i h = first_keeps number value after (f value refl) h
-  read_keeps Begins line number (Err e) after f i h = absurd cc
-  read_keeps (Opens o faulty) line number (Ok value) after f i h = opening_keeps o faulty number value after (f value refl) i h
-  read_keeps (Opens o faulty) line number (Err e) after f i h = absurd cc
+  read_keeps (Begins road) line number (Ok value) after f i h = first_keeps road number value after (f value refl) h
+  read_keeps (Begins road) line number (Err e) after f i h = absurd cc
+  read_keeps (Opens o faulty road) line number (Ok value) after f i h = opening_keeps o faulty road number value after (f value refl) i h
+  read_keeps (Opens o faulty road) line number (Err e) after f i h = absurd cc
   read_keeps (Runs r) line number (Ok value) after f i h = runs_on r value number after (f value refl) i h
   read_keeps (Runs r) line number (Err e) after f i h = absurd cc
 
@@ -165,20 +168,20 @@ module _ (laws : Laws) where
       lines_keep lines (number + 1) b.start after (step_keeps stage line number b.start i b.first) b.second
 
   ends_replayed : (stage : Stage) (r : ReplayValue) → IsStage stage → ended stage ≡ Ok r → IsReplayed r
-  ends_replayed Begins r i h = absurd cc
-  ends_replayed (Opens o faulty) r i h =
-      let same : first_replay o faulty ≡ r = cc in subst IsReplayed same (begins_replayed o faulty i)
+  ends_replayed (Begins road) r i h = absurd cc
+  ends_replayed (Opens o faulty road) r i h =
+      let same : first_replay o faulty road ≡ r = cc in subst IsReplayed same (begins_replayed o faulty road i)
   ends_replayed (Runs x) r i h = let same : x ≡ r = cc in subst IsReplayed same i
 
-  is_replayed : (bytes : List ℕ) (r : ReplayValue) → replay_of bytes ≡ Ok r → IsReplayed r
-  is_replayed bytes r h =
-      let b = between (run_lines (lines_of bytes) 1 Begins) ended r h in
-      ends_replayed b.start r (lines_keep (lines_of bytes) 1 Begins b.start tt b.first) b.second
+  is_replayed : (road : Road) (bytes : List ℕ) (r : ReplayValue) → replay_on road bytes ≡ Ok r → IsReplayed r
+  is_replayed road bytes r h =
+      let b = between (run_lines (lines_of bytes) 1 (Begins road)) ended r h in
+      ends_replayed b.start r (lines_keep (lines_of bytes) 1 (Begins road) b.start tt b.first) b.second
 
   pub reports_are_safe : RunsAreSafe → ReportsAreSafe
-  reports_are_safe safe bytes text h =
-      let b = between (replay_of bytes) (λ r. Ok (report r)) text h in
-      let i = is_replayed bytes b.start b.first in
+  reports_are_safe safe road bytes text h =
+      let b = between (replay_on road bytes) (λ r. Ok (report r)) text h in
+      let i = is_replayed road bytes b.start b.first in
       let same : report b.start ≡ text = cc in
       record {
         replay = b.start;
@@ -190,16 +193,16 @@ module _ (laws : Laws) where
 
   -- ---- breaches
 
-  opened_breaks : (number : ℕ) (c : Setting) (clock : ℕ) (journal : Bool) (kit : Option KitValue) (b : Broken) →
-      opened number c clock journal kit ≡ Err (fault.Broken b) → IsRealBreak b
-  opened_breaks number c clock true kit b h = absurd cc
-  opened_breaks number c clock false None b h = absurd cc
-  opened_breaks number c clock false (Some kit) b h = absurd cc
+  opened_breaks : (road : Road) (number : ℕ) (c : Setting) (clock : ℕ) (journal : Bool) (kit : Option KitValue) (b : Broken) →
+      opened road number c clock journal kit ≡ Err (fault.Broken b) → IsRealBreak b
+  opened_breaks road number c clock true kit b h = absurd cc
+  opened_breaks road number c clock false None b h = absurd cc
+  opened_breaks road number c clock false (Some kit) b h = absurd cc
 
-  first_breaks : (number : ℕ) (line : Line) (b : Broken) → first_line number line ≡ Err (fault.Broken b) → IsRealBreak b
-  first_breaks number (Header c clock keys journal) b h = opened_breaks number c clock journal (kit_of c keys) b h
-  first_breaks number Skipped b h = absurd cc
-  first_breaks number line b h = absurd cc
+  first_breaks : (road : Road) (number : ℕ) (line : Line) (b : Broken) → first_line road number line ≡ Err (fault.Broken b) → IsRealBreak b
+  first_breaks road number (Header c clock keys journal) b h = opened_breaks road number c clock journal (kit_of c keys) b h
+  first_breaks road number Skipped b h = absurd cc
+  first_breaks road number line b h = absurd cc
 
   bad_first_breaks : (line : List ℕ) (number : ℕ) (e : LineFault) (b : Broken) → bad_first line number e ≡ fault.Broken b → IsRealBreak b
   bad_first_breaks line number (line_fault.BadLine n reason) b h = absurd cc
@@ -226,21 +229,22 @@ module _ (laws : Laws) where
             let same : x ≡ fault.Broken b = cc in
             line_breaks law r line number b f i (e ∙ ap (λ (z : ReplayFault). Err z) same)
 
-    opening_breaks : (o : Opening) (faulty : List Party) (number : ℕ) (line : Line) (b : Broken) → Fits line → IsOpening o faulty →
-        opening_line o faulty number line ≡ Err (fault.Broken b) → IsRealBreak b
-    opening_breaks o faulty number (Faulty party) b f i h =
-        joins_break number (faulty_reason o.cluster faulty party) (Opens o (faulty ++ party ∷ [])) b h
-    opening_breaks o faulty number Skipped b f i h = absurd cc
-    opening_breaks o faulty number line b f i h =
-        runs_break (first_replay o faulty) line number b f (begins_replayed o faulty i) h
+    opening_breaks : (o : Opening) (faulty : List Party) (road : Road) (number : ℕ) (line : Line) (b : Broken) →
+        Fits line → IsOpening o faulty →
+        opening_line o faulty road number line ≡ Err (fault.Broken b) → IsRealBreak b
+    opening_breaks o faulty road number (Faulty party) b f i h =
+        joins_break number (faulty_reason o.cluster faulty party) (Opens o (faulty ++ party ∷ []) road) b h
+    opening_breaks o faulty road number Skipped b f i h = absurd cc
+    opening_breaks o faulty road number line b f i h =
+        runs_break (first_replay o faulty road) line number b f (begins_replayed o faulty road i) h
 
     read_breaks : (stage : Stage) (line : List ℕ) (number : ℕ) (value : Result Line LineFault) (b : Broken) →
         ((x : Line) → value ≡ Ok x → Fits x) → IsStage stage → read_line stage line number value ≡ Err (fault.Broken b) → IsRealBreak b
-    read_breaks Begins line number (Ok value) b f i h = first_breaks number value b h
-    read_breaks Begins line number (Err e) b f i h =
+    read_breaks (Begins road) line number (Ok value) b f i h = first_breaks road number value b h
+    read_breaks (Begins road) line number (Err e) b f i h =
         bad_first_breaks line number e b (let same : bad_first line number e ≡ fault.Broken b = cc in same)
-    read_breaks (Opens o faulty) line number (Ok value) b f i h = opening_breaks o faulty number value b (f value refl) i h
-    read_breaks (Opens o faulty) line number (Err e) b f i h =
+    read_breaks (Opens o faulty road) line number (Ok value) b f i h = opening_breaks o faulty road number value b (f value refl) i h
+    read_breaks (Opens o faulty road) line number (Err e) b f i h =
         bad_line_breaks line number e b (let same : bad_line line number e ≡ fault.Broken b = cc in same)
     read_breaks (Runs r) line number (Ok value) b f i h = runs_break r value number b (f value refl) i h
     read_breaks (Runs r) line number (Err e) b f i h =
@@ -262,20 +266,20 @@ module _ (laws : Laws) where
             (e ∙ ap (λ (z : ReplayFault). Err z) same)
 
     ended_breaks : (stage : Stage) (b : Broken) → ended stage ≡ Err (fault.Broken b) → IsRealBreak b
-    ended_breaks Begins b h = absurd cc
-    ended_breaks (Opens o faulty) b h = absurd cc
+    ended_breaks (Begins road) b h = absurd cc
+    ended_breaks (Opens o faulty road) b h = absurd cc
     ended_breaks (Runs r) b h = absurd cc
 
     pub breaks_are_real : BreaksAreReal
-    breaks_are_real bytes b h = by (run_lines (lines_of bytes) 1 Begins) refl h
+    breaks_are_real road bytes b h = by (run_lines (lines_of bytes) 1 (Begins road)) refl h
       where
         at_end : (x : Result ReplayValue ReplayFault) → (x >>= λ r. Ok (report r)) ≡ Err (fault.Broken b) → x ≡ Err (fault.Broken b)
         at_end (Ok r) h = absurd cc
         at_end (Err e) h = let same : e ≡ fault.Broken b = cc in ap (λ (z : ReplayFault). Err z) same
 
-        by : (x : Result Stage ReplayFault) → run_lines (lines_of bytes) 1 Begins ≡ x →
+        by : (x : Result Stage ReplayFault) → run_lines (lines_of bytes) 1 (Begins road) ≡ x →
             ((x >>= ended) >>= λ r. Ok (report r)) ≡ Err (fault.Broken b) → IsRealBreak b
         by (Ok stage) e h = ended_breaks stage b (at_end (ended stage) h)
         by (Err f) e h =
             let same : f ≡ fault.Broken b = cc in
-            lines_break (lines_of bytes) 1 Begins b tt (e ∙ ap (λ (z : ReplayFault). Err z) same)
+            lines_break (lines_of bytes) 1 (Begins road) b tt (e ∙ ap (λ (z : ReplayFault). Err z) same)

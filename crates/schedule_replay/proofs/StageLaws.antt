@@ -1,6 +1,6 @@
 -- What the parts of a schedule's code come to.
 use Rattle.std.proofs.Common.{◌≡◌, ℕ, ◌+◌, ◌≤◌, ◌<◌, Bool, true, false, List, [], ◌∷◌, ◌++◌, Option, Some, None, refl, sym, ap, subst, ◌∙◌, arith}
-use Rattle.std.specs.Prelude.{◌*◌, ◌&&◌, ◌||◌, nat_le, nat_lt, Result, Ok, Err, option_map, OnOk, if◌then◌else◌}
+use Rattle.std.specs.Prelude.{◌≢◌, ◌*◌, ◌&&◌, ◌||◌, nat_le, nat_lt, Result, Ok, Err, option_map, OnOk, if◌then◌else◌}
 use Rattle.std.specs.Result.{IsErrAnd}
 use Rattle.std.proofs.lemmas.Grind.{common_steps}
 use Rattle.std.proofs.lemmas.List.Folds.{list_any-append}
@@ -22,13 +22,16 @@ use Rattle.schedule_text.specs.Reading.{line_at}
 use Rattle.schedule_text.specs.declared.line.KeysKind.{KeysKind}
 use Rattle.schedule_text.specs.declared.line.Line.{Line}
 use Rattle.schedule_text.specs.declared.line.Line.TheVariants.{Faulty, Skipped}
+use Rattle.schedule_text.specs.declared.line.LineFault.{LineFault}
+use Rattle.schedule_text.specs.declared.line.LineFault.TheVariants as line_fault
 use Rattle.txn_table.specs.Entries.{same_party}
 use Rattle.schedule_replay.specs.Kits.{kit_of}
 use Rattle.schedule_replay.specs.Lines.{line_step}
-use Rattle.schedule_replay.specs.Replays.{Opening, ReplayValue, first_replay}
-use Rattle.schedule_replay.specs.Schedules.{Faults, IsAt, Joins, Took}
+use Rattle.schedule_replay.specs.Replays.{Opening, ReplayValue, along, first_replay}
+use Rattle.schedule_replay.specs.Roads.{Road}
+use Rattle.schedule_replay.specs.Schedules.{Ends, IsAt, Joins, Took}
 use Rattle.schedule_replay.specs.Shown.{Did, Stands, opening_of}
-use Rattle.schedule_replay.specs.Stages.{AreParties, Stage, Begins, Opens, Runs, opened, faulty_reason, opening_line, read_line}
+use Rattle.schedule_replay.specs.Stages.{AreParties, Stage, Begins, Opens, Runs, ended, first_line, on_road, opened, faulty_reason, opening_line, read_line, stage_step}
 use Rattle.schedule_replay.specs.declared.course.Course.{Course}
 use Rattle.schedule_replay.specs.declared.fault.ReplayFault.{ReplayFault}
 use Rattle.schedule_replay.specs.declared.fault.ReplayFault.TheVariants.{BadInput, Broken, Full, LinkFault, WriteFault, NoMemory}
@@ -84,77 +87,185 @@ joined_parties c faulty party parties there = by (can_join c.f faulty party)
 
 -- ---- the header
 
-kit_opens : (number : ℕ) (c : Setting) (clock : ℕ) (journal : Bool) (keys : KeysKind) (kind : Option KitKind) → journal ≡ false →
+kit_opens : (road : Road) (number : ℕ) (c : Setting) (clock : ℕ) (journal : Bool) (keys : KeysKind)
+    (kind : Option KitKind) → journal ≡ false →
     kind_of keys ≡ kind →
-    opened number c clock journal (kit_of c keys) ≡ opened number c clock false (option_map (replay_value c) kind)
-kit_opens number c clock journal keys kind h k =
-    ap (λ b. opened number c clock b (kit_of c keys)) h ∙ ap (λ o. opened number c clock false (option_map (replay_value c) o)) k
+    opened road number c clock journal (kit_of c keys) ≡ opened road number c clock false (option_map (replay_value c) kind)
+kit_opens road number c clock journal keys kind h k =
+    ap (λ b. opened road number c clock b (kit_of c keys)) h
+    ∙ ap (λ o. opened road number c clock false (option_map (replay_value c) o)) k
 
-pub with_kit : (number : ℕ) (o : code.Opening) (journal : Bool) (keys : KeysKind) → journal ≡ false → kind_of keys ≡ Some o.keys →
-    opened number o.cluster o.clock journal (kit_of o.cluster keys) ≡ Ok (Opens (opening_of o) [])
-with_kit number o journal keys h k = kit_opens number o.cluster o.clock journal keys (Some o.keys) h k
+pub with_kit : (road : Road) (number : ℕ) (o : code.Opening) (journal : Bool) (keys : KeysKind) →
+    journal ≡ false → kind_of keys ≡ Some o.keys →
+    opened road number o.cluster o.clock journal (kit_of o.cluster keys) ≡ Ok (Opens (opening_of o) [] road)
+with_kit road number o journal keys h k = kit_opens road number o.cluster o.clock journal keys (Some o.keys) h k
 
 -- ---- a faulty party
 
-party_line : (o : Opening) (faulty : List Party) (number : ℕ) (line : Line) (party : Party) (reason : Option ℕ) → line ≡ Faulty party →
+party_line : (o : Opening) (faulty : List Party) (road : Road) (number : ℕ) (line : Line) (party : Party)
+    (reason : Option ℕ) → line ≡ Faulty party →
     faulty_reason o.cluster faulty party ≡ reason →
-    opening_line o faulty number line ≡ unless (option_map (BadInput number) reason) (Opens o (faulty ++ party ∷ []))
-party_line o faulty number line party reason is h =
-    ap (opening_line o faulty number) is ∙ ap (λ r. unless (option_map (BadInput number) r) (Opens o (faulty ++ party ∷ []))) h
+    opening_line o faulty road number line ≡ unless (option_map (BadInput number) reason) (Opens o (faulty ++ party ∷ []) road)
+party_line o faulty road number line party reason is h =
+    ap (opening_line o faulty road number) is ∙ ap (λ r. unless (option_map (BadInput number) r) (Opens o (faulty ++ party ∷ []) road)) h
 
-pub join_done : (old new : Opened) (number : ℕ) (line : Line) (party : Party) (done : Unit {0}) → line ≡ Faulty party →
+pub join_done : (old new : Opened) (road : Road) (number : ℕ) (line : Line) (party : Party) (done : Unit {0}) → line ≡ Faulty party →
     Joins old new number party (Ok done) →
-    Took (Ok (schedules.Opens new)) (opening_line (opening_of old.opening) old.faulty.value number line)
-join_done old new number line party done is j = (
-  Opens (opening_of old.opening) (old.faulty.value ++ party ∷ []),
-  party_line (opening_of old.opening) old.faulty.value number line party None is j.0,
-  (ap opening_of (sym j.2), sym j.1),
-  tt,
+    Took (Ok (schedules.Opens new)) (opening_line (opening_of old.opening) old.faulty.value road number line) road
+join_done old new road number line party done is j = (
+  Opens (opening_of old.opening) (old.faulty.value ++ party ∷ []) road,
+  party_line (opening_of old.opening) old.faulty.value road number line party None is j.0,
+  record { shown = (ap opening_of (sym j.2), sym j.1); going = tt; goes = refl },
 )
 
-pub skipped : (old : Opened) (number : ℕ) (line : Line) → line ≡ Skipped →
-    Took (Ok (schedules.Opens old)) (opening_line (opening_of old.opening) old.faulty.value number line)
-skipped old number line is =
+pub not_joined : (old new : Opened) (road : Road) (number : ℕ) (line : Line) (party : Party) (f : ReplayFault) → line ≡ Faulty party →
+    Joins old new number party (Err f) →
+    Took (Err f) (opening_line (opening_of old.opening) old.faulty.value road number line) road
+not_joined old new road number line party f is j =
     let o = opening_of old.opening in
-    (Opens o old.faulty.value, ap (opening_line o old.faulty.value number) is, (refl, refl), tt)
+    subst (λ x. Took (Err x) (opening_line o old.faulty.value road number line) road) (sym j.2)
+    (party_line o old.faulty.value road number line party (Some j.0) is j.1)
 
-pub other_line : (o : Opening) (faulty : List Party) (number : ℕ) (line : Line) → (line ≡ Skipped → ⊥) →
+pub skipped : (old : Opened) (road : Road) (number : ℕ) (line : Line) → line ≡ Skipped →
+    Took (Ok (schedules.Opens old)) (opening_line (opening_of old.opening) old.faulty.value road number line) road
+skipped old road number line is =
+    let o = opening_of old.opening in (
+      Opens o old.faulty.value road,
+      ap (opening_line o old.faulty.value road number) is,
+      record { shown = (refl, refl); going = tt; goes = refl },
+    )
+
+pub other_line : (o : Opening) (faulty : List Party) (road : Road) (number : ℕ) (line : Line) → (line ≡ Skipped → ⊥) →
     ((party : Party) → line ≡ Faulty party → ⊥) →
-    opening_line o faulty number line ≡ (line_step (first_replay o faulty) line number >>= λ r. Ok (Runs r))
-other_line o faulty number (Faulty party) skipped named = absurd (named party refl)
-other_line o faulty number Skipped skipped named = absurd (skipped refl)
-other_line o faulty number line skipped named = refl
+    opening_line o faulty road number line ≡ (line_step (first_replay o faulty road) line number >>= λ r. Ok (Runs r))
+other_line o faulty road number (Faulty party) skipped named = absurd (named party refl)
+other_line o faulty road number Skipped skipped named = absurd (skipped refl)
+other_line o faulty road number line skipped named = refl
 
 -- ---- a line of a run
 
-pub run_fault : (r : ReplayValue) (course : Course) (should : Result ReplayValue ReplayFault) (e : ReplayFault) →
-    Did should r course (Err e) → Faults (should >>= λ r. Ok (Runs r)) e
-run_fault r course should (BadInput line reason) d = ap (λ x. x >>= λ r. Ok (Runs r)) d.0
-run_fault r course should (Broken b) d = ap (λ x. x >>= λ r. Ok (Runs r)) d
-run_fault r course should (Full messages bytes) d = ap (λ x. x >>= λ r. Ok (Runs r)) d
-run_fault r course should LinkFault d = d
-run_fault r course should WriteFault d = d
-run_fault r course should NoMemory d = tt
+pub run_fault : (r : ReplayValue) (course : Course) (should : Result ReplayValue ReplayFault) (road : Road) (e : ReplayFault) →
+    Did should r course (Err e) road → Took (Err e) (should >>= λ r. Ok (Runs r)) road
+run_fault r course should road (BadInput line reason) d = ap (λ x. x >>= λ r. Ok (Runs r)) d.0
+run_fault r course should road (Broken b) d = ap (λ x. x >>= λ r. Ok (Runs r)) d
+run_fault r course should road (Full messages bytes) d = ap (λ x. x >>= λ r. Ok (Runs r)) d
+run_fault r course should road LinkFault d = tt
+run_fault r course should road WriteFault d = d
+run_fault r course should road NoMemory d = tt
 
 -- `?` hands the fault on
-pub took_fault : (result : Result Schedule ReplayFault) (e : ReplayFault) (should : Result Stage ReplayFault) →
-    IsErrAnd result (λ x. x ≡ e) → Faults should e → Took result should
-took_fault (Ok x) e should h f = absurd h
-took_fault (Err x) e should h f = subst (λ y. Faults should y) (sym h) f
+pub took_fault : (result : Result Schedule ReplayFault) (e : ReplayFault) (should : Result Stage ReplayFault) (road : Road) →
+    IsErrAnd result (λ x. x ≡ e) → Took (Err e) should road → Took result should road
+took_fault (Ok x) e should road h f = absurd h
+took_fault (Err x) e should road h f = subst (λ y. Took (Err y) should road) (sym h) f
 
-pub run_goes : (r : ReplayValue) (replay : Replay) (should : Result ReplayValue ReplayFault) (done : Unit {0}) →
-    Did should r replay.course.value (Ok done) → replay.ended ≡ false → Took (Ok (schedules.Runs replay)) (should >>= λ r. Ok (Runs r))
-run_goes r replay should done d going = (Runs d.0, ap (λ x. x >>= λ r. Ok (Runs r)) d.1, d.2, going)
+pub run_goes : (r : ReplayValue) (replay : Replay) (should : Result ReplayValue ReplayFault) (road : Road) (done : Unit {0}) →
+    Did should r replay.course.value (Ok done) road → replay.ended ≡ false →
+    Took (Ok (schedules.Runs replay)) (should >>= λ r. Ok (Runs r)) road
+run_goes r replay should road done d going =
+    (Runs d.0, ap (λ x. x >>= λ r. Ok (Runs r)) d.1, record { shown = d.2; going = going; goes = d.3 })
 
 -- ---- a line at a stage
 
-pub at_runs : (stage : Stage) (old : Replay) (result : Result Schedule ReplayFault) (line : Line) (number : ℕ) →
+pub at_begins : (stage : Stage) (result : Result Schedule ReplayFault) (line : Line) (number : ℕ) (here there : Road) →
+    IsAt schedules.Begins stage → Took result (first_line here number line) there →
+    Took result (read_line (on_road here stage) [] number (Ok line)) there
+at_begins (Begins road) result line number here there at t = t
+at_begins (Opens o faulty road) result line number here there at t = absurd at
+at_begins (Runs r) result line number here there at t = absurd at
+
+pub at_opens : (stage : Stage) (old : Opened) (result : Result Schedule ReplayFault) (line : Line) (number : ℕ) (here there : Road) →
+    IsAt (schedules.Opens old) stage →
+    Took result (opening_line (opening_of old.opening) old.faulty.value here number line) there →
+    Took result (read_line (on_road here stage) [] number (Ok line)) there
+at_opens (Begins road) old result line number here there at t = absurd at
+at_opens (Opens o faulty road) old result line number here there at t =
+    subst (λ x. Took result (opening_line x faulty here number line) there) (sym at.0)
+    (subst (λ x. Took result (opening_line (opening_of old.opening) x here number line) there) (sym at.1) t)
+at_opens (Runs r) old result line number here there at t = absurd at
+
+pub at_runs : (stage : Stage) (old : Replay) (result : Result Schedule ReplayFault) (line : Line) (number : ℕ) (here there : Road) →
     IsAt (schedules.Runs old) stage →
-    ((r : ReplayValue) → Stands old.course.value r → Took result (line_step r line number >>= λ r. Ok (Runs r))) →
-    Took result (read_line stage [] number (Ok line))
-at_runs Begins old result line number at t = absurd at
-at_runs (Opens o faulty) old result line number at t = absurd at
-at_runs (Runs r) old result line number at t = t r at
+    ((r : ReplayValue) → Stands old.course.value r → Took result (line_step (along here r) line number >>= λ r. Ok (Runs r)) there) →
+    Took result (read_line (on_road here stage) [] number (Ok line)) there
+at_runs (Begins road) old result line number here there at t = absurd at
+at_runs (Opens o faulty road) old result line number here there at t = absurd at
+at_runs (Runs r) old result line number here there at t = t r at
+
+-- ---- a line that says nothing
+
+pub at_road : (schedule : Schedule) (stage : Stage) (road : Road) → IsAt schedule stage → IsAt schedule (on_road road stage)
+at_road schedules.Begins (Begins other) road at = at
+at_road schedules.Begins (Opens o faulty other) road at = absurd at
+at_road schedules.Begins (Runs r) road at = absurd at
+at_road (schedules.Opens o) (Begins other) road at = absurd at
+at_road (schedules.Opens o) (Opens opening faulty other) road at = at
+at_road (schedules.Opens o) (Runs r) road at = absurd at
+at_road (schedules.Runs replay) (Begins other) road at = absurd at
+at_road (schedules.Runs replay) (Opens opening faulty other) road at = absurd at
+at_road (schedules.Runs replay) (Runs r) road at = record { cluster = at.cluster; names = at.names; shows = at.shows }
+
+abbrev refuses : ReplayFault → Result Stage ReplayFault
+refuses f = Err f
+
+refused_by : (should : Result Stage ReplayFault) (road : Road) (n reason : ℕ) (f : ReplayFault) → should ≡ Err (BadInput n reason) →
+    refuses (BadInput n reason) ≡ refuses f → Took (Err f) should road
+refused_by should road n reason f is h =
+    let same : BadInput n reason ≡ f = cc in subst (λ x. Took (Err x) should road) same is
+
+wants : (should : Result Stage ReplayFault) (road : Road) (f : ReplayFault) → refuses NoMemory ≡ refuses f → Took (Err f) should road
+wants should road f h = let same : NoMemory ≡ f = cc in subst (λ x. Took (Err x) should road) same tt
+
+pub bad_took : (stage : Stage) (line : List ℕ) (number : ℕ) (e : LineFault) (f : ReplayFault) (road : Road) →
+    read_line stage line number (Err e) ≡ Err f → Took (Err f) (read_line stage line number (Err e)) road
+bad_took (Begins other) line number (line_fault.BadLine n reason) f road h = refused_by _ road _ _ f refl h
+bad_took (Begins other) line number line_fault.NoMemory f road h = wants _ road f h
+bad_took (Opens o faulty other) line number (line_fault.BadLine n reason) f road h = refused_by _ road _ _ f refl h
+bad_took (Opens o faulty other) line number line_fault.NoMemory f road h = wants _ road f h
+bad_took (Runs r) line number (line_fault.BadLine n reason) f road h = refused_by _ road _ _ f refl h
+bad_took (Runs r) line number line_fault.NoMemory f road h = wants _ road f h
+
+wanted : (stage : Stage) (line : List ℕ) (number : ℕ) (f : ReplayFault) (road : Road) (should : Result Stage ReplayFault) →
+    read_line stage line number (Err line_fault.NoMemory) ≡ Err f → Took (Err f) should road
+wanted (Begins other) line number f road should h = wants should road f h
+wanted (Opens o faulty other) line number f road should h = wants should road f h
+wanted (Runs r) line number f road should h = wants should road f h
+
+pub refused_took : (stage : Stage) (line : List ℕ) (number : ℕ) (e : LineFault) (f : ReplayFault) (road : Road) →
+    (e ≢ line_fault.NoMemory → line_at line number ≡ Err e) → read_line stage line number (Err e) ≡ Err f →
+    Took (Err f) (stage_step stage line number) road
+refused_took stage line number (line_fault.BadLine n reason) f road said h =
+    subst (λ x. Took (Err f) (read_line stage line number x) road) (sym (said (λ i. absurd cc)))
+    (bad_took stage line number (line_fault.BadLine n reason) f road h)
+refused_took stage line number line_fault.NoMemory f road said h =
+    wanted stage line number f road (stage_step stage line number) h
+
+-- what its value does
+pub value_took : (stage : Stage) (line : List ℕ) (number : ℕ) (value : Line) (result : Result Schedule ReplayFault) (road : Road) →
+    line_at line number ≡ Ok value → Took result (read_line stage [] number (Ok value)) road →
+    Took result (stage_step stage line number) road
+value_took stage line number value result road said t =
+    subst (λ x. Took result (read_line stage line number x) road) (sym said) (by stage t)
+  where
+    by : (stage : Stage) → Took result (read_line stage [] number (Ok value)) road →
+        Took result (read_line stage line number (Ok value)) road
+    by (Begins other) t = t
+    by (Opens o faulty other) t = t
+    by (Runs r) t = t
+
+-- ---- the end
+
+pub ends_opened : (stage : Stage) (old : Opened) (replay : Replay) → IsAt (schedules.Opens old) stage →
+    ((road : Road) → Stands replay.course.value (first_replay (opening_of old.opening) old.faulty.value road)) →
+    Ends (Ok replay) (ended stage)
+ends_opened (Begins road) old replay at stands = absurd at
+ends_opened (Opens o faulty road) old replay at stands = (
+  first_replay o faulty road,
+  refl,
+  subst (λ x. Stands replay.course.value (first_replay x faulty road)) (sym at.0)
+      (subst (λ x. Stands replay.course.value (first_replay (opening_of old.opening) x road)) (sym at.1) (stands road)),
+)
+ends_opened (Runs r) old replay at stands = absurd at
 
 -- ---- a line's number
 

@@ -1,5 +1,5 @@
 -- The events of a line.
-use Rattle.std.specs.Prelude.{ℕ, ◌+◌, List, [], ◌∷◌, true, false, Option, Some, None, option_and_then, option_map, Result, Ok, if◌then◌else◌}
+use Rattle.std.specs.Prelude.{ℕ, ◌+◌, List, [], ◌∷◌, Bool, true, false, Option, Some, None, option_and_then, option_map, Result, Ok, if◌then◌else◌}
 use Rattle.std.specs.Option.{option_map_or}
 use Rattle.basil_types.specs.Steps.{◌>>=◌}
 use Rattle.cluster_run.specs.Events as events
@@ -12,6 +12,7 @@ use Rattle.schedule_text.specs.declared.line.Line.TheVariants.{Begin, Read, Writ
 use Rattle.schedule_text.specs.declared.line.Line.TheVariants.{Deliver, Lose, Divert, Clock, Vote, Second, Logged, Elect, Decide, Raw, Show}
 use Rattle.schedule_replay.specs.Names.{number_of}
 use Rattle.schedule_replay.specs.Replays.{NamesValue, ReplayValue}
+use Rattle.schedule_replay.specs.Roads.{Road, behind_one, gift, handed}
 
 -- a message's own bytes
 abbrev pub frame_at : State → (message : ℕ) → List ℕ
@@ -27,41 +28,53 @@ claim_of names name key None = by_name names name (λ tx. events.Claim tx key No
 claim_of names name key (Some writer) =
     option_and_then (λ w. by_name names name (λ tx. events.Claim tx key (Some w))) (number_of writer names)
 
--- what a line hands over of a message: the message's own bytes
-abbrev pub given_to : State → Line → List ℕ
-given_to st (Deliver message) = frame_at st message
-given_to st (Divert message to) = frame_at st message
-given_to st _ = []
+-- what a line hands over of a message
+abbrev pub given_to : ReplayValue → Line → List ℕ
+given_to r (Deliver message) = handed r.road (frame_at r.state message)
+given_to r (Divert message to) = handed r.road (frame_at r.state message)
+given_to r _ = []
 
--- the event of a line that has one alone; what is delivered or diverted has its own bytes
-abbrev pub event_of : NamesValue → State → Line → Option EventValue
-event_of names st (Begin name client time) = Some (events.Begin client time)
-event_of names st (Read name key) = by_name names name (λ tx. events.Read tx key)
-event_of names st (Write name key value) =
+-- what links give to a line that hands over these bytes
+abbrev pub gifts : (carried : Bool) → Line → (given : List ℕ) → List (List ℕ)
+gifts carried (Deliver message) given = gift carried given
+gifts carried (Divert message to) given = gift carried given
+gifts carried _ given = []
+
+-- the road behind a line that has one event alone
+abbrev pub road_behind : Line → Road → Road
+road_behind (Deliver message) road = behind_one road
+road_behind (Divert message to) road = behind_one road
+road_behind _ road = road
+
+-- the event of a line that has one alone; what is delivered or diverted is handed over as these bytes
+abbrev pub event_of : NamesValue → (given : List ℕ) → Line → Option EventValue
+event_of names given (Begin name client time) = Some (events.Begin client time)
+event_of names given (Read name key) = by_name names name (λ tx. events.Read tx key)
+event_of names given (Write name key value) =
     by_name names name (λ tx. events.Write tx (record { key = key; value = value; deletes = false }))
-event_of names st (Delete name key) =
+event_of names given (Delete name key) =
     by_name names name (λ tx. events.Write tx (record { key = key; value = []; deletes = true }))
-event_of names st (Claim name key writer) = claim_of names name key writer
-event_of names st (Prepare name) = by_name names name events.Prepare
-event_of names st (Settle name client) = by_name names name (λ tx. events.Settle tx client)
-event_of names st (Recover name client) = by_name names name (λ tx. events.Recover tx client)
-event_of names st (Invoke name client) = by_name names name (λ tx. events.Invoke tx client)
-event_of names st (Deliver message) = Some (events.Deliver message (frame_at st message))
-event_of names st (Lose message) = Some (events.Lose message)
-event_of names st (Divert message to) = Some (events.Divert message to (frame_at st message))
-event_of names st (Clock shard replica moment) = Some (events.Clock shard replica moment)
-event_of names st (Vote shard replica name decision client) =
+event_of names given (Claim name key writer) = claim_of names name key writer
+event_of names given (Prepare name) = by_name names name events.Prepare
+event_of names given (Settle name client) = by_name names name (λ tx. events.Settle tx client)
+event_of names given (Recover name client) = by_name names name (λ tx. events.Recover tx client)
+event_of names given (Invoke name client) = by_name names name (λ tx. events.Invoke tx client)
+event_of names given (Deliver message) = Some (events.Deliver message given)
+event_of names given (Lose message) = Some (events.Lose message)
+event_of names given (Divert message to) = Some (events.Divert message to given)
+event_of names given (Clock shard replica moment) = Some (events.Clock shard replica moment)
+event_of names given (Vote shard replica name decision client) =
     by_name names name (λ tx. events.Vote shard replica tx decision client)
-event_of names st (Second name decision replica) = by_name names name (λ tx. events.Second tx decision replica)
-event_of names st (Logged shard replica name decision decided current client) =
+event_of names given (Second name decision replica) = by_name names name (λ tx. events.Second tx decision replica)
+event_of names given (Logged shard replica name decision decided current client) =
     by_name names name (λ tx. events.Logged shard replica tx decision decided current client)
-event_of names st (Elect shard replica name decision view) =
+event_of names given (Elect shard replica name decision view) =
     by_name names name (λ tx. events.Elect shard replica tx decision view)
-event_of names st (Decide shard replica name decision view to) =
+event_of names given (Decide shard replica name decision view to) =
     by_name names name (λ tx. events.Decide shard replica tx decision view to)
-event_of names st (Raw from to frame) = Some (events.Raw from to frame)
-event_of names st (Show frame) = Some (events.Show frame)
-event_of names st _ = None
+event_of names given (Raw from to frame) = Some (events.Raw from to frame)
+event_of names given (Show frame) = Some (events.Show frame)
+event_of names given _ = None
 
 -- ---- rounds
 
@@ -74,11 +87,16 @@ waiting_from number (p ∷ ps) =
 abbrev pub waiting : State → List ℕ
 waiting st = waiting_from 1 st.pool
 
--- these messages are delivered, one after another, each with its own bytes
-abbrev pub deliver_all : Setup → List ℕ → State → Result State WorldFault
-deliver_all s [] st = Ok st
-deliver_all s (message ∷ messages) st =
-    happens s (events.Deliver message (frame_at st message)) st >>= deliver_all s messages
+-- a message is delivered
+abbrev pub deliver : ReplayValue → (message : ℕ) → Result ReplayValue WorldFault
+deliver r message =
+    happens r.setup (events.Deliver message (handed r.road (frame_at r.state message))) r.state
+    >>= λ st. Ok (record r { state = st; road = behind_one r.road })
+
+-- these messages are delivered, one after another
+abbrev pub deliver_all : List ℕ → ReplayValue → Result ReplayValue WorldFault
+deliver_all [] r = Ok r
+deliver_all (message ∷ messages) r = deliver r message >>= deliver_all messages
 
 -- ---- what a line's events come to: a round delivers each message that waits when the line begins
 
@@ -86,6 +104,8 @@ abbrev pub happen : Setup → State → Option EventValue → Result State World
 happen s st None = Ok st
 happen s st (Some event) = happens s event st
 
-abbrev pub line_does : ReplayValue → Line → Result State WorldFault
-line_does r Round = deliver_all r.setup (waiting r.state) r.state
-line_does r line = happen r.setup r.state (event_of r.names r.state line)
+abbrev pub line_does : ReplayValue → Line → Result ReplayValue WorldFault
+line_does r Round = deliver_all (waiting r.state) r
+line_does r line =
+    happen r.setup r.state (event_of r.names (given_to r line) line)
+    >>= λ st. Ok (record r { state = st; road = road_behind line r.road })

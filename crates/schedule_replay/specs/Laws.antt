@@ -6,9 +6,10 @@ use Rattle.cluster_run.specs.Headline.{IsSafe}
 use Rattle.cluster_run.specs.Safety.{AreEvents, AreSigned}
 use Rattle.cluster_run.specs.States.{Setup, IsSetup, start}
 use Rattle.premise_watch.specs.declared.broken.Broken.{Broken}
-use Rattle.schedule_replay.specs.Outcomes.{replay_of, outcome_of}
+use Rattle.schedule_replay.specs.Outcomes.{replay_on, outcome_on}
 use Rattle.schedule_replay.specs.Replays.{ReplayValue}
 use Rattle.schedule_replay.specs.Reports.{report}
+use Rattle.schedule_replay.specs.Roads.{Road}
 use Rattle.schedule_replay.specs.declared.fault.ReplayFault.TheVariants as fault
 
 -- at most f replicas of each shard are faulty, and what clients sign fits a frame
@@ -24,15 +25,16 @@ pub record IsReplayed (r : ReplayValue) : Type 0 where
   pub ends : run r.setup events (start r.setup) ≡ Ok r.state
 
 -- a report is that of a run, and the run is safe
-pub record IsSafeReport (bytes text : List ℕ) : Type 0 where
+pub record IsSafeReport (road : Road) (bytes text : List ℕ) : Type 0 where
   pub replay : ReplayValue
-  pub replayed : replay_of bytes ≡ Ok replay
+  pub replayed : replay_on road bytes ≡ Ok replay
   pub told : text ≡ report replay
   pub ran : IsReplayed replay
   pub safe : IsSafe replay.setup replay.state
 
 abbrev pub ReportsAreSafe : Type 0
-ReportsAreSafe = (bytes text : List ℕ) → outcome_of bytes ≡ Ok text → IsSafeReport bytes text
+ReportsAreSafe =
+    (road : Road) (bytes text : List ℕ) → outcome_on road bytes ≡ Ok text → IsSafeReport road bytes text
 
 -- what is told as broken is the breach of a run, which is safe until there
 pub record IsRealBreak (b : Broken) : Type 0 where
@@ -43,4 +45,5 @@ pub record IsRealBreak (b : Broken) : Type 0 where
   pub until : IsSafeUntil setup events b
 
 abbrev pub BreaksAreReal : Type 0
-BreaksAreReal = (bytes : List ℕ) (b : Broken) → outcome_of bytes ≡ Err (fault.Broken b) → IsRealBreak b
+BreaksAreReal =
+    (road : Road) (bytes : List ℕ) (b : Broken) → outcome_on road bytes ≡ Err (fault.Broken b) → IsRealBreak b

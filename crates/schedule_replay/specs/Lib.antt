@@ -1,4 +1,5 @@
 pub mod Kits
+pub mod Roads
 pub mod Replays
 pub mod Names
 pub mod Naming

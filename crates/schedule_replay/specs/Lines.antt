@@ -1,6 +1,5 @@
 -- What a line does.
 use Rattle.std.specs.Prelude.{ℕ, List, Result, Ok, Err, option_map, ◌&&◌, length, nat_le, if◌then◌else◌}
-use Rattle.cluster_run.specs.States.{State}
 use Rattle.cluster_run.specs.declared.fault.WorldFault.{WorldFault}
 use Rattle.cluster_run.specs.declared.fault.WorldFault.TheVariants as world
 use Rattle.node_steps.specs.Refusing.{unless_refused}
@@ -24,17 +23,17 @@ names_after (Read name key) names = with_key name key names
 names_after _ names = names
 
 -- a call that is refused, and a faulty party without a leaf, are reason 9
-abbrev pub answered : ReplayValue → Line → (number : ℕ) → Result State WorldFault → Result ReplayValue ReplayFault
-answered r line number (Ok st) = Ok (record r { names = names_after line r.names; state = st })
-answered r line number (Err (world.Broken b)) = Err (Broken b)
-answered r line number (Err (world.PoolFull messages bytes)) = Err (Full messages bytes)
-answered r line number (Err (world.Call f)) = Err (BadInput number 9)
-answered r line number (Err (world.Exhausted party)) = Err (BadInput number 9)
+abbrev pub answered : Line → (number : ℕ) → Result ReplayValue WorldFault → Result ReplayValue ReplayFault
+answered line number (Ok r) = Ok (record r { names = names_after line r.names })
+answered line number (Err (world.Broken b)) = Err (Broken b)
+answered line number (Err (world.PoolFull messages bytes)) = Err (Full messages bytes)
+answered line number (Err (world.Call f)) = Err (BadInput number 9)
+answered line number (Err (world.Exhausted party)) = Err (BadInput number 9)
 
 -- its reasons are tested before its events
 abbrev pub line_step : ReplayValue → Line → (number : ℕ) → Result ReplayValue ReplayFault
 line_step r line number =
-    unless_refused (option_map (BadInput number) (reason_of r line)) (answered r line number (line_does r line))
+    unless_refused (option_map (BadInput number) (reason_of r line)) (answered line number (line_does r line))
 
 -- a later header is reason 2 for anything, unless it is too long
 abbrev pub later_reason : List ℕ → ℕ → ℕ

@@ -3,6 +3,7 @@ use Rattle.std.specs.Prelude.{ℕ, List, []}
 use Rattle.basil_types.specs.Setting.{Setting}
 use Rattle.basil_types.specs.declared.party.Party.{Party}
 use Rattle.cluster_run.specs.States.{KitValue, Setup, State, start}
+use Rattle.schedule_replay.specs.Roads.{Road}
 
 -- the most messages of the pool
 abbrev pub most_messages : ℕ
@@ -22,11 +23,12 @@ pub record NamesValue : Type 0 where
   pub begun : List NamedValue
   pub keys : List (List (List ℕ))
 
--- what is fixed in the run, the names of its transactions, and its state
+-- what is fixed in the run, the names of its transactions, its state, and the road of its deliveries
 pub record ReplayValue : Type 0 where
   pub setup : Setup
   pub names : NamesValue
   pub state : State
+  pub road : Road
 
 abbrev pub no_names : NamesValue
 no_names = record { begun = []; keys = [] }
@@ -48,6 +50,10 @@ setup_of o faulty = record {
 }
 
 -- behind a header and the lines that name these faulty parties
-abbrev pub first_replay : Opening → List Party → ReplayValue
-first_replay o faulty =
-    record { setup = setup_of o faulty; names = no_names; state = start (setup_of o faulty) }
+abbrev pub first_replay : Opening → List Party → Road → ReplayValue
+first_replay o faulty road =
+    record { setup = setup_of o faulty; names = no_names; state = start (setup_of o faulty); road = road }
+
+-- the same replay, whose deliveries take this road
+abbrev pub along : Road → ReplayValue → ReplayValue
+along road r = record r { road = road }

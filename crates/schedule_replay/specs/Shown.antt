@@ -1,5 +1,6 @@
 -- What a replay shows.
-use Rattle.std.specs.Prelude.{◌≡◌, ℕ, Bool, true, false, ⊤, Result, Ok, Err}
+use Rattle.std.specs.Prelude.{◌≡◌, ℕ, List, ◌++◌, Bool, true, false, ⊤, Option, Result, Ok, Err}
+use Rattle.basil_types.specs.Links.{LinkState}
 use Rattle.cluster_run.specs.States.{State}
 use Rattle.cluster_run.specs.declared.fault.WorldFault.{WorldFault}
 use Rattle.cluster_run.specs.declared.fault.WorldFault.TheVariants as world
@@ -10,11 +11,15 @@ use Rattle.replay_kit.specs.Values.{replay_value}
 use Rattle.schedule_text.specs.declared.line.Line.{Line}
 use Rattle.schedule_text.specs.declared.line.Line.TheVariants.{Begin}
 use Rattle.schedule_replay.specs.declared.course.Course.{Course}
+use Rattle.schedule_replay.specs.declared.fault.Halt.{Halt}
+use Rattle.schedule_replay.specs.declared.fault.Halt.TheVariants as halt
 use Rattle.schedule_replay.specs.declared.fault.ReplayFault.{ReplayFault}
 use Rattle.schedule_replay.specs.declared.fault.ReplayFault.TheVariants.{BadInput, Broken, Full, LinkFault, WriteFault, NoMemory}
 use Rattle.schedule_replay.specs.declared.replay.Opening as code
+use Rattle.schedule_replay.specs.Events.{deliver_all, waiting}
 use Rattle.schedule_replay.specs.Names.{is_begun}
-use Rattle.schedule_replay.specs.Replays.{NamesValue, Opening, ReplayValue}
+use Rattle.schedule_replay.specs.Replays.{NamesValue, Opening, ReplayValue, along}
+use Rattle.schedule_replay.specs.Roads.{Carries, Road, road_with}
 
 -- a replay shows these names, and a state of a run
 pub record Stands (course : Course) (r : ReplayValue) : Type 0 where
@@ -26,16 +31,69 @@ pub record Stands (course : Course) (r : ReplayValue) : Type 0 where
 abbrev pub opening_of : code.Opening → Opening
 opening_of o = record { cluster = o.cluster; clock = o.clock; kit = replay_value o.cluster o.keys }
 
+-- a call comes to what it should, by every road that begins with what its links gave
+abbrev pub ByRoads : (carried : Bool) → (old new : Option LinkState) → Course → (ReplayValue → Road → Type 0) → Type 0
+ByRoads carried old new course Should = Carries carried old new (λ gave.
+    (r : ReplayValue) (later : List (List ℕ)) → Stands course r →
+    Should (along (road_with carried (gave ++ later)) r) (road_with carried later))
+
 -- ---- events
 
--- events come to this: the world shows it, and the names are as before; a refusal is that
+-- an event comes to this: the world shows it, and the names are as before; a refusal is that
 abbrev pub Goes : Result State WorldFault → ReplayValue → Course → Result (Unit {0}) StepFault → Type 0
 Goes answer r course (Ok done) = (st : State) × (answer ≡ Ok st) × Stands course (record r { state = st })
 Goes answer r course (Err (step.World (world.Broken b))) = answer ≡ Err (world.Broken b)
 Goes answer r course (Err (step.World (world.PoolFull messages bytes))) = answer ≡ Err (world.PoolFull messages bytes)
 Goes answer r course (Err (step.World (world.Call f))) = (answer ≡ Err (world.Call f)) × Stands course r
-Goes answer r course (Err (step.World (world.Exhausted party))) = (answer ≡ Err (world.Exhausted party)) × Stands course r
+Goes answer r course (Err (step.World (world.Exhausted party))) =
+    (answer ≡ Err (world.Exhausted party)) × Stands course r
 Goes answer r course (Err step.NoMemory) = ⊤
+
+-- ---- the events of a line
+
+-- the first of the messages that wait are delivered, and the rest is as before
+pub record HasStopped (r : ReplayValue) (course : Course) : Type 0 where
+  pub done : List ℕ
+  pub left : List ℕ
+  pub of_waiting : waiting r.state ≡ done ++ left
+  pub reached : ReplayValue
+  pub comes : deliver_all done r ≡ Ok reached
+  pub stands : Stands course reached
+
+-- events come to this, with this road left: the world shows it, and the names are as before; a refusal is that; where a
+-- link failed, what was delivered before stays so
+abbrev pub Does : Result ReplayValue WorldFault → ReplayValue → Course → Result (Unit {0}) Halt → Road → Type 0
+Does answer r course (Ok done) road =
+    (after : ReplayValue) × (answer ≡ Ok after) × Stands course after × (after.road ≡ road)
+Does answer r course (Err (halt.World (world.Broken b))) road = answer ≡ Err (world.Broken b)
+Does answer r course (Err (halt.World (world.PoolFull messages bytes))) road =
+    answer ≡ Err (world.PoolFull messages bytes)
+Does answer r course (Err (halt.World (world.Call f))) road = (answer ≡ Err (world.Call f)) × Stands course r
+Does answer r course (Err (halt.World (world.Exhausted party))) road =
+    (answer ≡ Err (world.Exhausted party)) × Stands course r
+Does answer r course (Err halt.Link) road = HasStopped r course
+Does answer r course (Err halt.NoMemory) road = ⊤
+
+-- what a step of a world halts by
+abbrev pub halt_of : StepFault → Halt
+halt_of (step.World fault) = halt.World fault
+halt_of step.NoMemory = halt.NoMemory
+
+-- a breach, and want of memory, end a world
+abbrev pub ends_world : Result (Unit {0}) Halt → Bool
+ends_world (Err (halt.World (world.Broken b))) = true
+ends_world (Err halt.NoMemory) = true
+ends_world _ = false
+
+-- it is no matter of a run
+abbrev pub IsOfRoad : Halt → Type 0
+IsOfRoad (halt.World fault) = ⊥
+IsOfRoad _ = ⊤
+
+-- whether a link failed
+abbrev pub failed_by_link : {A : Type 0} → Result A Halt → Bool
+failed_by_link (Err halt.Link) = true
+failed_by_link _ = false
 
 -- ---- lines
 
@@ -44,30 +102,43 @@ abbrev pub CanName : NamesValue → Line → Type 0
 CanName names (Begin name client time) = is_begun names name ≡ false
 CanName names _ = ⊤
 
--- what the fault of an event is of the line of this number
-abbrev pub fault_by : (number : ℕ) → StepFault → ReplayFault
-fault_by number (step.World (world.Broken b)) = Broken b
-fault_by number (step.World (world.PoolFull messages bytes)) = Full messages bytes
-fault_by number (step.World (world.Call f)) = BadInput number 9
-fault_by number (step.World (world.Exhausted party)) = BadInput number 9
-fault_by number step.NoMemory = NoMemory
+-- what the fault of its events is of the line of this number
+abbrev pub fault_by : (number : ℕ) → Halt → ReplayFault
+fault_by number (halt.World (world.Broken b)) = Broken b
+fault_by number (halt.World (world.PoolFull messages bytes)) = Full messages bytes
+fault_by number (halt.World (world.Call f)) = BadInput number 9
+fault_by number (halt.World (world.Exhausted party)) = BadInput number 9
+fault_by number halt.Link = LinkFault
+fault_by number halt.NoMemory = NoMemory
 
--- a line does what it should: Ok exactly where that is, and then the replay shows it; a refusal is that, and one by a
--- reason leaves all as before; so does want of memory end a replay
-abbrev pub Did : Result ReplayValue ReplayFault → ReplayValue → Course → Result (Unit {0}) ReplayFault → Type 0
-Did should before course (Ok done) = (after : ReplayValue) × (should ≡ Ok after) × Stands course after
-Did should before course (Err (BadInput line reason)) = (should ≡ Err (BadInput line reason)) × Stands course before
-Did should before course (Err (Broken b)) = should ≡ Err (Broken b)
-Did should before course (Err (Full messages bytes)) = should ≡ Err (Full messages bytes)
-Did should before course (Err LinkFault) = ⊥
-Did should before course (Err WriteFault) = ⊥
-Did should before course (Err NoMemory) = ⊤
+-- a line does what it should: Ok exactly where that is, and then the replay shows it, with this road left; a refusal is
+-- that, and one by a reason leaves all as before; where a link failed, what was delivered before stays so; want of memory
+-- ends it
+abbrev pub Did : Result ReplayValue ReplayFault → ReplayValue → Course → Result (Unit {0}) ReplayFault → Road → Type 0
+Did should before course (Ok done) road =
+    (after : ReplayValue) × (should ≡ Ok after) × Stands course after × (after.road ≡ road)
+Did should before course (Err (BadInput line reason)) road =
+    (should ≡ Err (BadInput line reason)) × Stands course before
+Did should before course (Err (Broken b)) road = should ≡ Err (Broken b)
+Did should before course (Err (Full messages bytes)) road = should ≡ Err (Full messages bytes)
+Did should before course (Err LinkFault) road = HasStopped before course
+Did should before course (Err WriteFault) road = ⊥
+Did should before course (Err NoMemory) road = ⊤
 
 -- a breach, and want of memory, end a replay
 abbrev pub ends_by : {A : Type 0} → Result A ReplayFault → Bool
 ends_by (Err (Broken b)) = true
 ends_by (Err NoMemory) = true
 ends_by _ = false
+
+-- a link failed
+abbrev pub is_of_link : ReplayFault → Bool
+is_of_link LinkFault = true
+is_of_link _ = false
+
+abbrev pub is_link_fault : {A : Type 0} → Result A ReplayFault → Bool
+is_link_fault (Ok done) = false
+is_link_fault (Err fault) = is_of_link fault
 
 -- ---- reports
 

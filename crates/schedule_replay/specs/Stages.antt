@@ -15,30 +15,46 @@ use Rattle.schedule_text.specs.declared.line.LineFault.{LineFault}
 use Rattle.schedule_text.specs.declared.line.LineFault.TheVariants as line_fault
 use Rattle.schedule_replay.specs.Kits.{kit_of}
 use Rattle.schedule_replay.specs.Lines.{line_step, bad_line}
-use Rattle.schedule_replay.specs.Replays.{Opening, ReplayValue, first_replay}
+use Rattle.schedule_replay.specs.Replays.{Opening, ReplayValue, along, first_replay}
+use Rattle.schedule_replay.specs.Roads.{Road}
 use Rattle.schedule_replay.specs.declared.fault.ReplayFault.{ReplayFault}
 use Rattle.schedule_replay.specs.declared.fault.ReplayFault.TheVariants.{BadInput, NoMemory}
 
 pub data Stage : Type 0 where
   -- no line came yet that isn't skipped
-  Begins : Stage
+  Begins : (road : Road) → Stage
   -- the header came, and lines that name these faulty parties
-  Opens : (opening : Opening) (faulty : List Party) → Stage
+  Opens : (opening : Opening) (faulty : List Party) (road : Road) → Stage
   -- another line came
   Runs : (replay : ReplayValue) → Stage
+
+-- ---- the road of its deliveries
+
+abbrev pub road_of : Stage → Road
+road_of (Begins road) = road
+road_of (Opens o faulty road) = road
+road_of (Runs r) = r.road
+
+-- the same stage with this road
+abbrev pub on_road : Road → Stage → Stage
+on_road road (Begins other) = Begins road
+on_road road (Opens o faulty other) = Opens o faulty road
+on_road road (Runs r) = Runs (along road r)
 
 -- ---- the header
 
 -- a journal, and keys without a kit, are reason 10
-abbrev pub opened : (number : ℕ) → Setting → (clock : ℕ) → (journal : Bool) → Option KitValue → Result Stage ReplayFault
-opened number c clock true kit = Err (BadInput number 10)
-opened number c clock false None = Err (BadInput number 10)
-opened number c clock false (Some kit) = Ok (Opens (record { cluster = c; clock = clock; kit = kit }) [])
+abbrev pub opened : Road → (number : ℕ) → Setting → (clock : ℕ) → (journal : Bool) → Option KitValue →
+    Result Stage ReplayFault
+opened road number c clock true kit = Err (BadInput number 10)
+opened road number c clock false None = Err (BadInput number 10)
+opened road number c clock false (Some kit) = Ok (Opens (record { cluster = c; clock = clock; kit = kit }) [] road)
 
-abbrev pub first_line : (number : ℕ) → Line → Result Stage ReplayFault
-first_line number (Header cluster clock keys journal) = opened number cluster clock journal (kit_of cluster keys)
-first_line number Skipped = Ok Begins
-first_line number _ = Err (BadInput number 1)
+abbrev pub first_line : Road → (number : ℕ) → Line → Result Stage ReplayFault
+first_line road number (Header cluster clock keys journal) =
+    opened road number cluster clock journal (kit_of cluster keys)
+first_line road number Skipped = Ok (Begins road)
+first_line road number _ = Err (BadInput number 1)
 
 -- the first line that isn't skipped is reason 1 where it is refused for anything
 abbrev pub bad_first : List ℕ → (number : ℕ) → LineFault → ReplayFault
@@ -56,19 +72,19 @@ abbrev pub faulty_reason : Setting → List Party → Party → Option ℕ
 faulty_reason c faulty party =
     or_else (when (not (is_party_of c party)) 3) (when (not (can_join c.f faulty party)) 5)
 
-abbrev pub opening_line : Opening → List Party → (number : ℕ) → Line → Result Stage ReplayFault
-opening_line o faulty number (Faulty party) =
-    unless (option_map (BadInput number) (faulty_reason o.cluster faulty party)) (Opens o (faulty ++ party ∷ []))
-opening_line o faulty number Skipped = Ok (Opens o faulty)
-opening_line o faulty number line = line_step (first_replay o faulty) line number >>= λ r. Ok (Runs r)
+abbrev pub opening_line : Opening → List Party → Road → (number : ℕ) → Line → Result Stage ReplayFault
+opening_line o faulty road number (Faulty party) =
+    unless (option_map (BadInput number) (faulty_reason o.cluster faulty party)) (Opens o (faulty ++ party ∷ []) road)
+opening_line o faulty road number Skipped = Ok (Opens o faulty road)
+opening_line o faulty road number line = line_step (first_replay o faulty road) line number >>= λ r. Ok (Runs r)
 
 -- ---- the lines
 
 abbrev pub read_line : Stage → (line : List ℕ) → (number : ℕ) → Result Line LineFault → Result Stage ReplayFault
-read_line Begins line number (Ok value) = first_line number value
-read_line Begins line number (Err e) = Err (bad_first line number e)
-read_line (Opens o faulty) line number (Ok value) = opening_line o faulty number value
-read_line (Opens o faulty) line number (Err e) = Err (bad_line line number e)
+read_line (Begins road) line number (Ok value) = first_line road number value
+read_line (Begins road) line number (Err e) = Err (bad_first line number e)
+read_line (Opens o faulty road) line number (Ok value) = opening_line o faulty road number value
+read_line (Opens o faulty road) line number (Err e) = Err (bad_line line number e)
 read_line (Runs r) line number (Ok value) = line_step r value number >>= λ r. Ok (Runs r)
 read_line (Runs r) line number (Err e) = Err (bad_line line number e)
 
@@ -83,6 +99,6 @@ run_lines (line ∷ lines) number stage = stage_step stage line number >>= run_l
 
 -- behind the last line; a schedule without a header is refused at line 1
 abbrev pub ended : Stage → Result ReplayValue ReplayFault
-ended Begins = Err (BadInput 1 1)
-ended (Opens o faulty) = Ok (first_replay o faulty)
+ended (Begins road) = Err (BadInput 1 1)
+ended (Opens o faulty road) = Ok (first_replay o faulty road)
 ended (Runs r) = Ok r

@@ -1,19 +1,24 @@
 //! The course of a replay: what lines do to a world and to the names of its transactions.
 
-ghost use Rattle.std.specs.Prelude.{◌≡◌, ◌<◌, false, IfOk, IfSome, OnOk};
+ghost use Rattle.std.specs.Prelude.{◌≡◌, ◌<◌, ◌++◌, ℕ, List, true, false, IfErr, IfOk, IfSome, OnErr, OnOk, option_map};
 ghost use Rattle.cluster_run.specs.Events as events;
 ghost use Rattle.cluster_world.specs.EventValues.{event_value};
 ghost use Rattle.cluster_world.specs.Worlds.{is_end};
 ghost use Rattle.message_pool.specs.Posts as posts;
 ghost use Rattle.schedule_replay.specs.Events as lines;
 ghost use Rattle.schedule_replay.specs.Lines.{line_step, names_after};
-ghost use Rattle.schedule_replay.specs.Replays.{ReplayValue};
-ghost use Rattle.schedule_replay.specs.Shown.{CanName, Did, Goes, Stands, ends_by, fault_by};
+ghost use Rattle.schedule_replay.specs.Replays.{ReplayValue, along};
+ghost use Rattle.schedule_replay.specs.Roads.{Uses, carries_all, road_with};
+ghost use Rattle.schedule_replay.specs.Shown.{ByRoads, CanName, Did, Does, Goes, IsOfRoad, Stands};
+ghost use Rattle.schedule_replay.specs.Shown.{ends_by, ends_world, failed_by_link, fault_by, is_link_fault};
+ghost use Rattle.schedule_text.specs.declared.line.Line.{Line};
 
 use crate::events::event_of;
-use crate::fault::ReplayFault;
+use crate::fault::{Halt, ReplayFault};
 use crate::names::Names;
+use crate::road::hand_over;
 use basil_types::cluster::Cluster;
+use basil_types::links::Links;
 use basil_types::memory::NoMemory;
 use cluster_run::fault::WorldFault;
 use cluster_world::event::Event;
@@ -33,23 +38,24 @@ pub(crate) struct Course {
 }
 
 /// Why a line goes no further: a call that is refused, and a faulty party without a leaf, are reason 9.
-fn fault_of(fault: StepFault, number: u64) -> ReplayFault
-    ensures { result ≡ fault_by number fault }
+fn fault_of(halt: Halt, number: u64) -> ReplayFault
+    ensures { result ≡ fault_by number halt }
 {
-    match fault {
-        StepFault::World(WorldFault::Broken(broken)) => ReplayFault::Broken(broken),
-        StepFault::World(WorldFault::PoolFull { messages, bytes }) => {
+    match halt {
+        Halt::World(WorldFault::Broken(broken)) => ReplayFault::Broken(broken),
+        Halt::World(WorldFault::PoolFull { messages, bytes }) => {
             ReplayFault::Full { messages, bytes }
         }
-        StepFault::World(WorldFault::Call(_)) => ReplayFault::BadInput {
+        Halt::World(WorldFault::Call(_)) => ReplayFault::BadInput {
             line: number,
             reason: 9,
         },
-        StepFault::World(WorldFault::Exhausted { .. }) => ReplayFault::BadInput {
+        Halt::World(WorldFault::Exhausted { .. }) => ReplayFault::BadInput {
             line: number,
             reason: 9,
         },
-        StepFault::NoMemory => ReplayFault::NoMemory,
+        Halt::Link => ReplayFault::LinkFault,
+        Halt::NoMemory => ReplayFault::NoMemory,
     }
 }
 
@@ -66,13 +72,26 @@ impl Course {
     }
 
     /// What a line hands over of a message.
-    fn given_to(&self, line: &Line) -> Result<Vec<u8>, NoMemory>
-        ensures { IfOk result (λ given. (r : ReplayValue) → Stands self.now r →
-            given.items ≡ lines.given_to r.state line.now) }
+    fn given_to<L: Links>(&self, line: &Line, links: &mut L, carried: bool) -> Result<Vec<u8>, Halt>
+        ensures given { IfOk result (λ given. (r : ReplayValue) (later : List (List ℕ)) → Stands self.now r →
+            let road = road_with carried (lines.gifts carried line.now given.items ++ later) in
+            given.items ≡ lines.given_to (along road r) line.now) }
+        ensures told { IfOk result (λ given.
+            L.told links.new ≡ option_map (carries_all (lines.gifts carried line.now given.items)) (L.told links.old)) }
+        ensures as_before { OnErr result (L.told links.new ≡ L.told links.old) }
+        ensures only { IfErr result IsOfRoad }
+        ensures links { Uses carried links.old links.new (L.faults links.old) (L.faults links.new)
+            (failed_by_link result) }
     {
         match line {
-            Line::Deliver { message } => self.frame_of(*message),
-            Line::Divert { message, .. } => self.frame_of(*message),
+            Line::Deliver { message } => {
+                let frame = self.frame_of(*message)?;
+                hand_over(self.alloc, frame, links, carried)
+            }
+            Line::Divert { message, .. } => {
+                let frame = self.frame_of(*message)?;
+                hand_over(self.alloc, frame, links, carried)
+            }
             _ => Ok(Vec::new(self.alloc)),
         }
     }
@@ -89,32 +108,42 @@ impl Course {
     }
 
     /// The event of a line that has one alone happens.
-    fn happen(&mut self, line: &Line) -> Result<(), StepFault>
-        requires { self.old.world.ended ≡ false }
-        ensures goes { (r : ReplayValue) → Stands self.old r →
-            Goes (lines.happen r.setup r.state (lines.event_of r.names r.state line.now)) r self.new result }
+    fn happen<L: Links>(&mut self, line: &Line, links: &mut L, carried: bool) -> Result<(), Halt>
+        requires going { self.old.world.ended ≡ false }
+        requires single { line.now ≡ Line.Round → ⊥ }
+        ensures does { ByRoads carried (L.told links.old) (L.told links.new) self.old (λ r road.
+            Does (lines.line_does r line.now) r self.new result road) }
+        ensures links { Uses carried links.old links.new (L.faults links.old) (L.faults links.new)
+            (failed_by_link result) }
         ensures names { self.new.names ≡ self.old.names }
-        ensures going { is_end result ≡ false → self.new.world.ended ≡ false }
+        ensures going { ends_world result ≡ false → self.new.world.ended ≡ false }
     {
-        let given = self.given_to(line)?;
+        let given = self.given_to(line, links, carried)?;
         match event_of(&self.names, line, &given) {
-            Some(event) => self.step(event),
+            Some(event) => {
+                self.step(event)?;
+                Ok(())
+            }
             None => Ok(()),
         }
     }
 
-    /// A message is delivered, with its own bytes.
-    fn deliver(&mut self, message: u64) -> Result<(), StepFault>
+    /// A message is delivered.
+    fn deliver<L: Links>(&mut self, message: u64, links: &mut L, carried: bool) -> Result<(), Halt>
         requires { self.old.world.ended ≡ false }
-        ensures goes { (r : ReplayValue) → Stands self.old r →
-            Goes (events.happens r.setup (events.Deliver message (lines.frame_at r.state message)) r.state)
-            r self.new result }
+        ensures does { ByRoads carried (L.told links.old) (L.told links.new) self.old (λ r road.
+            Does (lines.deliver r message) r self.new result road) }
+        ensures stays { failed_by_link result ≡ true → self.new ≡ self.old }
+        ensures links { Uses carried links.old links.new (L.faults links.old) (L.faults links.new)
+            (failed_by_link result) }
         ensures names { self.new.names ≡ self.old.names }
-        ensures going { is_end result ≡ false → self.new.world.ended ≡ false }
+        ensures going { ends_world result ≡ false → self.new.world.ended ≡ false }
     {
         let frame = self.frame_of(message)?;
-        let given = frame.as_slice();
-        self.step(Event::Deliver { message, given })
+        let given = hand_over(self.alloc, frame, links, carried)?;
+        let given = given.as_slice();
+        self.step(Event::Deliver { message, given })?;
+        Ok(())
     }
 
     /// The first message behind this one that waits.
@@ -147,31 +176,35 @@ impl Course {
     }
 
     /// Each message that waits is delivered, one after another.
-    fn round(&mut self) -> Result<(), StepFault>
+    fn round<L: Links>(&mut self, links: &mut L, carried: bool) -> Result<(), Halt>
         requires { self.old.world.ended ≡ false }
-        ensures goes { (r : ReplayValue) → Stands self.old r →
-            Goes (lines.deliver_all r.setup (lines.waiting r.state) r.state) r self.new result }
+        ensures does { ByRoads carried (L.told links.old) (L.told links.new) self.old (λ r road.
+            Does (lines.deliver_all (lines.waiting r.state) r) r self.new result road) }
+        ensures links { Uses carried links.old links.new (L.faults links.old) (L.faults links.new)
+            (failed_by_link result) }
         ensures names { self.new.names ≡ self.old.names }
-        ensures going { is_end result ≡ false → self.new.world.ended ≡ false }
+        ensures going { ends_world result ≡ false → self.new.world.ended ≡ false }
     {
         let messages = self.waiting()?;
         for message in &messages {
-            self.deliver(*message)?;
+            self.deliver(*message, links, carried)?;
         }
         Ok(())
     }
 
     /// The events of a line happen.
-    fn does(&mut self, line: &Line) -> Result<(), StepFault>
+    fn does<L: Links>(&mut self, line: &Line, links: &mut L, carried: bool) -> Result<(), Halt>
         requires { self.old.world.ended ≡ false }
-        ensures goes { (r : ReplayValue) → Stands self.old r →
-            Goes (lines.line_does r line.now) r self.new result }
+        ensures does { ByRoads carried (L.told links.old) (L.told links.new) self.old (λ r road.
+            Does (lines.line_does r line.now) r self.new result road) }
+        ensures links { Uses carried links.old links.new (L.faults links.old) (L.faults links.new)
+            (failed_by_link result) }
         ensures names { self.new.names ≡ self.old.names }
-        ensures going { is_end result ≡ false → self.new.world.ended ≡ false }
+        ensures going { ends_world result ≡ false → self.new.world.ended ≡ false }
     {
         match line {
-            Line::Round => self.round(),
-            _ => self.happen(line),
+            Line::Round => self.round(links, carried),
+            _ => self.happen(line, links, carried),
         }
     }
 
@@ -190,9 +223,18 @@ impl Course {
     }
 
     /// Does what a line says, which has this number in the schedule.
-    pub(crate) fn line(&mut self, line: &Line, number: u64) -> Result<(), ReplayFault>
+    pub(crate) fn line<L: Links>(
+        &mut self,
+        line: &Line,
+        number: u64,
+        links: &mut L,
+        carried: bool,
+    ) -> Result<(), ReplayFault>
         requires { self.old.world.ended ≡ false }
-        ensures did { (r : ReplayValue) → Stands self.old r → Did (line_step r line.now number) r self.new result }
+        ensures did { ByRoads carried (L.told links.old) (L.told links.new) self.old (λ r road.
+            Did (line_step r line.now number) r self.new result road) }
+        ensures links { Uses carried links.old links.new (L.faults links.old) (L.faults links.new)
+            (is_link_fault result) }
         ensures going { ends_by result ≡ false → self.new.world.ended ≡ false }
     {
         if let Some(reason) = self.reason_of(line) {
@@ -201,12 +243,12 @@ impl Course {
                 reason,
             });
         }
-        match self.does(line) {
+        match self.does(line, links, carried) {
             Ok(()) => {
                 self.name(line)?;
                 Ok(())
             }
-            Err(fault) => Err(fault_of(fault, number)),
+            Err(halt) => Err(fault_of(halt, number)),
         }
     }
 }

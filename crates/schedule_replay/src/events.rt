@@ -1,11 +1,9 @@
 //! The events of a line.
 
-ghost use Rattle.std.specs.Prelude.{◌≡◌, option_map};
-ghost use Rattle.cluster_run.specs.States.{State};
+ghost use Rattle.std.specs.Prelude.{◌≡◌, ℕ, List, option_map};
 ghost use Rattle.cluster_world.specs.EventValues.{event_value};
 ghost use Rattle.schedule_replay.specs.Events as lines;
 ghost use Rattle.schedule_replay.specs.LineKinds.{IsAsk, IsElection, IsLie, IsLogReply, IsOwn, IsRest};
-ghost use Rattle.schedule_replay.specs.Events.{given_to};
 ghost use Rattle.schedule_replay.specs.Replays.{NamesValue};
 
 use crate::names::Names;
@@ -33,7 +31,8 @@ fn claim_of<'a>(
 
 /// The event of a line that begins a transaction, or reads or writes in one.
 fn own_of<'a>(names: &Names, line: &'a Line) -> Option<Event<'a>>
-    ensures { (st : State) → IsOwn line.now → option_map event_value result ≡ lines.event_of names.now st line.now }
+    ensures { (given : List ℕ) → IsOwn line.now →
+        option_map event_value result ≡ lines.event_of names.now given line.now }
 {
     match line {
         Line::Begin { client, time, .. } => {
@@ -64,7 +63,8 @@ fn own_of<'a>(names: &Names, line: &'a Line) -> Option<Event<'a>>
 
 /// The event of a line that asks a client for a stage of a transaction.
 fn ask_of<'a>(names: &Names, line: &'a Line) -> Option<Event<'a>>
-    ensures { (st : State) → IsAsk line.now → option_map event_value result ≡ lines.event_of names.now st line.now }
+    ensures { (given : List ℕ) → IsAsk line.now →
+        option_map event_value result ≡ lines.event_of names.now given line.now }
 {
     match line {
         Line::Prepare { name } => {
@@ -92,7 +92,8 @@ fn ask_of<'a>(names: &Names, line: &'a Line) -> Option<Event<'a>>
 
 /// The event of a line by which a faulty replica votes, or a faulty client begins a second stage.
 fn lie_of<'a>(names: &Names, line: &'a Line) -> Option<Event<'a>>
-    ensures { (st : State) → IsLie line.now → option_map event_value result ≡ lines.event_of names.now st line.now }
+    ensures { (given : List ℕ) → IsLie line.now →
+        option_map event_value result ≡ lines.event_of names.now given line.now }
 {
     match line {
         Line::Vote {
@@ -123,8 +124,8 @@ fn lie_of<'a>(names: &Names, line: &'a Line) -> Option<Event<'a>>
 
 /// The event of a line by which a faulty replica replies to a second stage.
 fn log_reply_of<'a>(names: &Names, line: &'a Line) -> Option<Event<'a>>
-    ensures { (st : State) → IsLogReply line.now →
-        option_map event_value result ≡ lines.event_of names.now st line.now }
+    ensures { (given : List ℕ) → IsLogReply line.now →
+        option_map event_value result ≡ lines.event_of names.now given line.now }
 {
     match line {
         Line::Logged {
@@ -150,8 +151,8 @@ fn log_reply_of<'a>(names: &Names, line: &'a Line) -> Option<Event<'a>>
 
 /// The event of a line by which a faulty replica takes part in an election.
 fn election_of<'a>(names: &Names, line: &'a Line) -> Option<Event<'a>>
-    ensures { (st : State) → IsElection line.now →
-        option_map event_value result ≡ lines.event_of names.now st line.now }
+    ensures { (given : List ℕ) → IsElection line.now →
+        option_map event_value result ≡ lines.event_of names.now given line.now }
 {
     match line {
         Line::Elect {
@@ -188,8 +189,8 @@ fn election_of<'a>(names: &Names, line: &'a Line) -> Option<Event<'a>>
 
 /// The event of a line that concerns messages, clocks or frames; what is delivered or diverted is this.
 fn rest_of<'a>(line: &'a Line, given: &'a [u8]) -> Option<Event<'a>>
-    ensures { (names : NamesValue) (st : State) → IsRest line.now → given.now ≡ given_to st line.now →
-        option_map event_value result ≡ lines.event_of names st line.now }
+    ensures { (names : NamesValue) → IsRest line.now →
+        option_map event_value result ≡ lines.event_of names given.now line.now }
 {
     match line {
         Line::Deliver { message } => {
@@ -230,8 +231,7 @@ fn rest_of<'a>(line: &'a Line, given: &'a [u8]) -> Option<Event<'a>>
 
 /// The event of a line that has one alone; what is delivered or diverted is this.
 pub(crate) fn event_of<'a>(names: &Names, line: &'a Line, given: &'a [u8]) -> Option<Event<'a>>
-    ensures { (st : State) → given.now ≡ given_to st line.now →
-        option_map event_value result ≡ lines.event_of names.now st line.now }
+    ensures { option_map event_value result ≡ lines.event_of names.now given.now line.now }
 {
     match line {
         Line::Begin { .. }

@@ -9,13 +9,15 @@ ghost use Rattle.premise_watch.specs.Parties.{AreCounted};
 ghost use Rattle.schedule_replay.specs.Lines.{line_step};
 ghost use Rattle.schedule_replay.specs.Replays.{ReplayValue, first_replay, most_bytes, most_messages};
 ghost use Rattle.schedule_replay.specs.Reports as reports;
-ghost use Rattle.schedule_replay.specs.Shown.{Did, IsOfReport, Stands, ends_by, opening_of};
+ghost use Rattle.schedule_replay.specs.Roads.{Road, Uses};
+ghost use Rattle.schedule_replay.specs.Shown.{ByRoads, Did, IsOfReport, Stands, ends_by, is_link_fault, opening_of};
 
 use crate::course::Course;
 use crate::fault::ReplayFault;
 use crate::names::Names;
 use crate::report::text_of;
 use basil_types::cluster::Cluster;
+use basil_types::links::Links;
 use basil_types::memory::NoMemory;
 use basil_types::sink::Sink;
 use cluster_world::building::Beginning;
@@ -74,7 +76,7 @@ impl Replay {
         requires members { AreMembers opening.now.cluster faulty }
         requires few { AreCounted opening.now.cluster.f faulty }
         ensures stands { IfOk result (λ replay.
-            Stands replay.course.value (first_replay (opening_of opening.now) faulty)) }
+            (road : Road) → Stands replay.course.value (first_replay (opening_of opening.now) faulty road)) }
         ensures going { IfOk result (λ replay. replay.ended ≡ false) }
     {
         let cluster = opening.cluster;
@@ -98,15 +100,24 @@ impl Replay {
         })
     }
 
-    /// Does what a line says, which has this number in the schedule. A breach, and want of memory, end the replay; a line
-    /// that is refused leaves it as before.
-    pub fn line(&mut self, line: &Line, number: u64) -> Result<(), ReplayFault>
+    /// Does what a line says, which has this number in the schedule. Where deliveries are carried, each node is handed
+    /// what the links give for a message, else its own bytes. A breach, and want of memory, end the replay; a line that
+    /// is refused leaves it as before; where a link fails, what the line delivered before stays.
+    pub fn line<L: Links>(
+        &mut self,
+        line: &Line,
+        number: u64,
+        links: &mut L,
+        carried: bool,
+    ) -> Result<(), ReplayFault>
         requires { self.old.ended ≡ false }
-        ensures did { (r : ReplayValue) → Stands self.old.course.value r →
-            Did (line_step r line.now number) r self.new.course.value result }
+        ensures did { ByRoads carried (L.told links.old) (L.told links.new) self.old.course.value (λ r road.
+            Did (line_step r line.now number) r self.new.course.value result road) }
+        ensures links { Uses carried links.old links.new (L.faults links.old) (L.faults links.new)
+            (is_link_fault result) }
         ensures ended { self.new.ended ≡ ends_by result }
     {
-        let done = self.course.line(line, number);
+        let done = self.course.line(line, number, links, carried);
         self.ended = ends(&done);
         done
     }

@@ -1,11 +1,12 @@
 //! The stages of a schedule: its header, its faulty parties, and its run.
 
-ghost use Rattle.std.specs.Prelude.{◌≡◌, ◌≤◌, [], false, Err, IfOk, Ok, OnOk};
+ghost use Rattle.std.specs.Prelude.{◌≡◌, ◌≤◌, ◌++◌, ℕ, List, [], false, Err, IfOk, Ok, OnOk};
 ghost use Rattle.premise_watch.specs.Parties.{AreCounted};
 ghost use Rattle.schedule_text.specs.Limits.{most_lines};
 ghost use Rattle.schedule_replay.specs.Kits.{kit_of};
 ghost use Rattle.schedule_replay.specs.Lines as lines;
-ghost use Rattle.schedule_replay.specs.Shown.{Stands, opening_of};
+ghost use Rattle.schedule_replay.specs.Roads.{Carries, Road, Uses, road_with};
+ghost use Rattle.schedule_replay.specs.Shown.{Stands, is_link_fault, is_of_link, opening_of};
 ghost use Rattle.schedule_replay.specs.Stages as stages;
 ghost use Rattle.schedule_replay.specs.Stages.{AreParties, Stage};
 ghost use Rattle.schedule_replay.specs.Replays.{first_replay};
@@ -13,6 +14,7 @@ ghost use Rattle.schedule_replay.specs.Replays.{first_replay};
 use crate::fault::ReplayFault;
 use crate::replay::{Opening, Replay};
 use basil_types::cluster::Cluster;
+use basil_types::links::Links;
 use basil_types::memory::NoMemory;
 use basil_types::party::Party;
 use premise_watch::faulty::Faulty;
@@ -45,7 +47,8 @@ pub enum Schedule {
 
 /// Why a line is refused where no header came before it.
 fn bad_first(line: &[u8], number: u64, fault: LineFault) -> ReplayFault
-    ensures { result ≡ stages.bad_first line.now number fault }
+    ensures fault { result ≡ stages.bad_first line.now number fault }
+    ensures unlinked { is_of_link result ≡ false }
 {
     match fault {
         LineFault::BadLine { reason, .. } => ReplayFault::BadInput {
@@ -69,7 +72,8 @@ fn later_reason(line: &[u8], reason: u8) -> u8
 
 /// Why a line behind the header is refused that says nothing.
 fn bad_line(line: &[u8], number: u64, fault: LineFault) -> ReplayFault
-    ensures { result ≡ lines.bad_line line.now number fault }
+    ensures fault { result ≡ lines.bad_line line.now number fault }
+    ensures unlinked { is_of_link result ≡ false }
 {
     match fault {
         LineFault::BadLine { reason, .. } => ReplayFault::BadInput {
@@ -105,8 +109,8 @@ impl Opened {
 
     /// The replay before its first line.
     fn run(self, alloc: Global) -> Result<Replay, NoMemory>
-        ensures stands { IfOk result (λ replay.
-            Stands replay.course.value (first_replay (opening_of self.opening) self.faulty.value)) }
+        ensures stands { IfOk result (λ replay. (road : Road) →
+            Stands replay.course.value (first_replay (opening_of self.opening) self.faulty.value road)) }
         ensures going { IfOk result (λ replay. replay.ended ≡ false) }
     {
         let faulty = Box::into_inner(self.faulty);
@@ -114,8 +118,19 @@ impl Opened {
     }
 
     /// What a line does behind the header and lines that name faulty parties.
-    fn line(self, alloc: Global, line: &Line, number: u64) -> Result<Schedule, ReplayFault>
-        ensures { Took result (stages.opening_line (opening_of self.opening) self.faulty.value number line.now) }
+    fn line<L: Links>(
+        self,
+        alloc: Global,
+        line: &Line,
+        number: u64,
+        links: &mut L,
+        carried: bool,
+    ) -> Result<Schedule, ReplayFault>
+        ensures took { Carries carried (L.told links.old) (L.told links.new) (λ gave. (later : List (List ℕ)) →
+            Took result (stages.opening_line (opening_of self.opening) self.faulty.value
+            (road_with carried (gave ++ later)) number line.now) (road_with carried later)) }
+        ensures links { Uses carried links.old links.new (L.faults links.old) (L.faults links.new)
+            (is_link_fault result) }
     {
         match line {
             Line::Faulty { party } => {
@@ -126,7 +141,7 @@ impl Opened {
             Line::Skipped => Ok(Schedule::Opens(self)),
             line => {
                 let mut replay = self.run(alloc)?;
-                replay.line(line, number)?;
+                replay.line(line, number, links, carried)?;
                 Ok(Schedule::Runs(replay))
             }
         }
@@ -134,7 +149,7 @@ impl Opened {
 }
 
 impl Schedule {
-    ghost use Rattle.schedule_replay.specs.Schedules.{Ends, IsAt, IsGoing, Took};
+    ghost use Rattle.schedule_replay.specs.Schedules.{ByRoads, Ends, IsAt, IsGoing, Took};
 
     /// A schedule before its first line.
     pub fn new() -> Schedule
@@ -152,7 +167,9 @@ impl Schedule {
         keys: KeysKind,
         journal: bool,
     ) -> Result<Schedule, ReplayFault>
-        ensures { Took result (stages.opened number cluster clock journal (kit_of cluster keys)) }
+        ensures took { (road : Road) →
+            Took result (stages.opened road number cluster clock journal (kit_of cluster keys)) road }
+        ensures unlinked { is_link_fault result ≡ false }
     {
         let reason = 10;
         let line = number;
@@ -173,7 +190,8 @@ impl Schedule {
 
     /// What a line does where no header came before it.
     fn first_line(alloc: Global, line: &Line, number: u64) -> Result<Schedule, ReplayFault>
-        ensures { Took result (stages.first_line number line.now) }
+        ensures took { (road : Road) → Took result (stages.first_line road number line.now) road }
+        ensures unlinked { is_link_fault result ≡ false }
     {
         match line {
             Line::Header {
@@ -191,17 +209,26 @@ impl Schedule {
     }
 
     /// What a line of this value does.
-    fn value(self, alloc: Global, line: &Line, number: u64) -> Result<Schedule, ReplayFault>
+    fn value<L: Links>(
+        self,
+        alloc: Global,
+        line: &Line,
+        number: u64,
+        links: &mut L,
+        carried: bool,
+    ) -> Result<Schedule, ReplayFault>
         requires { IsGoing self }
-        ensures { (stage : Stage) → IsAt self stage →
-            Took result (stages.read_line stage [] number (Ok line.now)) }
+        ensures took { ByRoads carried (L.told links.old) (L.told links.new) self (λ stage road.
+            Took result (stages.read_line stage [] number (Ok line.now)) road) }
+        ensures links { Uses carried links.old links.new (L.faults links.old) (L.faults links.new)
+            (is_link_fault result) }
     {
         match self {
             Schedule::Begins => Schedule::first_line(alloc, line, number),
-            Schedule::Opens(opened) => opened.line(alloc, line, number),
+            Schedule::Opens(opened) => opened.line(alloc, line, number, links, carried),
             Schedule::Runs(replay) => {
                 let mut replay = replay;
-                replay.line(line, number)?;
+                replay.line(line, number, links, carried)?;
                 Ok(Schedule::Runs(replay))
             }
         }
@@ -209,8 +236,9 @@ impl Schedule {
 
     /// Why a line is refused that says nothing.
     fn fault_of(&self, line: &[u8], number: u64, fault: LineFault) -> ReplayFault
-        ensures { (stage : Stage) → IsAt self.now stage →
+        ensures fault { (stage : Stage) → IsAt self.now stage →
             stages.read_line stage line.now number (Err fault) ≡ Err result }
+        ensures unlinked { is_of_link result ≡ false }
     {
         match self {
             Schedule::Begins => bad_first(line, number, fault),
@@ -219,15 +247,26 @@ impl Schedule {
         }
     }
 
-    /// Does what the line of this number does. Whatever refuses it ends the schedule.
-    pub fn line(self, alloc: Global, line: &[u8], number: u64) -> Result<Schedule, ReplayFault>
+    /// Does what the line of this number does. Where deliveries are carried, each node is handed what the links give
+    /// for a message, else its own bytes. Whatever refuses the line ends the schedule.
+    pub fn line<L: Links>(
+        self,
+        alloc: Global,
+        line: &[u8],
+        number: u64,
+        links: &mut L,
+        carried: bool,
+    ) -> Result<Schedule, ReplayFault>
         requires { IsGoing self }
-        ensures took { (stage : Stage) → IsAt self stage → Took result (stages.stage_step stage line.now number) }
+        ensures took { ByRoads carried (L.told links.old) (L.told links.new) self (λ stage road.
+            Took result (stages.stage_step stage line.now number) road) }
+        ensures links { Uses carried links.old links.new (L.faults links.old) (L.faults links.new)
+            (is_link_fault result) }
         ensures lines { OnOk result (number ≤ most_lines) }
     {
         grammar_is_read();
         match read_line(alloc, line, number) {
-            Ok(value) => self.value(alloc, &value, number),
+            Ok(value) => self.value(alloc, &value, number, links, carried),
             Err(fault) => Err(self.fault_of(line, number, fault)),
         }
     }

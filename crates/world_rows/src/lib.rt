@@ -4,6 +4,8 @@
 #[cfg(test)]
 mod breaches;
 #[cfg(test)]
+mod carried;
+#[cfg(test)]
 mod limits;
 #[cfg(test)]
 mod telling;

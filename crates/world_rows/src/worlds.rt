@@ -19,7 +19,7 @@ pub(crate) const AMPLE: Room = Room {
 };
 
 /// One shard of 5f + 1 replicas.
-fn cluster_of(f: u8) -> Result<Cluster, Fail> {
+pub(crate) fn cluster_of(f: u8) -> Result<Cluster, Fail> {
     match Cluster::new(f, 1, f.saturating_add(1), 100) {
         Ok(cluster) => Ok(cluster),
         Err(_) => Err("no cluster".into()),

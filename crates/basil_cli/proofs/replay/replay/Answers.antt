@@ -1,4 +1,4 @@
-use Rattle.std.proofs.Common.{rules, ◌++◌, ◌≤◌, length, take}
+use Rattle.std.proofs.Common.{rules, ◌++◌, ◌≤◌, ◌∙◌, length, take}
 use Rattle.std.proofs.KnownBytes.{Consumes-trans}
 use Rattle.basil_cli.specs.Reading.{is_settled, longest_piece}
 use Rattle.basil_cli.proofs.Behind.{can_end, fault_told, fault_through, unread}
@@ -34,7 +34,7 @@ returns-in-Err-take-clause-soon g c =
 pub ending_of-requires : goal.ending_of-requires
 ending_of-requires g c =
     let s = c.turns.invariant.so_far in
-    can_end c.in-Err-take.fault _ (c.in-Err-take.ensures s.read s.behind)
+    can_end c.in-Err-take.fault _ (c.in-Err-take.ensures.reads s.read s.behind)
 
 pub turns-preserved : goal.turns-preserved
 turns-preserved g c =
@@ -43,9 +43,10 @@ turns-preserved g c =
       so_far = record {
         read = s.read ++ take c.in-Ok.count c.read.new.buf;
         consumed = Consumes-trans _ _ _ s.read (take c.in-Ok.count c.read.new.buf) s.consumed c.in-Ok.ensures.bytes.0;
-        behind = c.in-Ok-take.ensures s.read s.behind;
+        behind = c.in-Ok-take.ensures.reads s.read s.behind;
       };
       faults = search rules;
+      unlinked = c.in-Ok-take.ensures.unlinked ∙ c.turns.invariant.unlinked;
     }
 
 pub returns-in-Err-take-clause-outcome : goal.returns-in-Err-take-clause-outcome
@@ -53,7 +54,7 @@ returns-in-Err-take-clause-outcome g c =
     let s = c.turns.invariant.so_far in
     fault_told c.ending_of.result _ _ (s.read ++ take c.in-Ok.count c.read.new.buf) c.in-Err-take.fault
     (Consumes-trans _ _ _ s.read (take c.in-Ok.count c.read.new.buf) s.consumed c.in-Ok.ensures.bytes.0)
-    (c.in-Err-take.ensures s.read s.behind) c.ending_of.ensures.outcome c.ending_of.ensures.wanting
+    (c.in-Err-take.ensures.reads s.read s.behind) c.ending_of.ensures.outcome c.ending_of.ensures.wanting
 
 pub returns-in-Err-take-clause-through : goal.returns-in-Err-take-clause-through
 returns-in-Err-take-clause-through g c =
@@ -61,4 +62,4 @@ returns-in-Err-take-clause-through g c =
     fault_through c.ending_of.result (g.S.Source.left c.args.source.now) (g.S.Source.left c.read.new.self)
     (s.read ++ take c.in-Ok.count c.read.new.buf) c.in-Err-take.fault
     (Consumes-trans _ _ _ s.read (take c.in-Ok.count c.read.new.buf) s.consumed c.in-Ok.ensures.bytes.0)
-    (c.in-Err-take.ensures s.read s.behind) c.ending_of.ensures.wanting
+    (c.in-Err-take.ensures.reads s.read s.behind) c.ending_of.ensures.wanting

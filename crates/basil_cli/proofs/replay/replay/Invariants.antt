@@ -6,4 +6,5 @@ abbrev pub invariant-turns : goal.invariant-turns
 invariant-turns g l = record {
   so_far : SoFar (g.S.Source.left l.fn.source) (g.S.Source.left l.source) l.reading;
   faults : g.S.Source.faults l.source ≡ g.S.Source.faults l.fn.source;
+  unlinked : l.links ≡ l.fn.links;
 }

@@ -11,7 +11,9 @@ returns-in-Ok-Some-clause-answers g c =
 
 pub returns-in-Ok-Some-clause-safe_in_part : goal.returns-in-Ok-Some-clause-safe_in_part
 returns-in-Ok-Some-clause-safe_in_part g c =
-    safe_in_part c.reports_are_safe.ensures (g.S.Source.left c.args.source.now) _ _ _
+    let said : command_of (map string_bytes c.args.words.now) ≡ Some c.in-Ok-Some.command = search rules in
+    safe_in_part c.run_command.result _ c.in-Ok-Some.command _ _ _ _ c.reports_are_safe.ensures (g.S.Source.left c.args.source.now) said
+    c.run_command.ensures.answers
 
 pub returns-in-Ok-Some-clause-complete : goal.returns-in-Ok-Some-clause-complete
 returns-in-Ok-Some-clause-complete g c = search rules
@@ -38,7 +40,10 @@ pub returns-in-Err-clause-links : goal.returns-in-Err-clause-links
 returns-in-Err-clause-links g c = search rules
 
 pub returns-in-Ok-Some-clause-safe : goal.returns-in-Ok-Some-clause-safe
-returns-in-Ok-Some-clause-safe g c = safe_ends c.reports_are_safe.ensures (g.S.Source.left c.args.source.now) _ _
+returns-in-Ok-Some-clause-safe g c =
+    let said : command_of (map string_bytes c.args.words.now) ≡ Some c.in-Ok-Some.command = search rules in
+    safe_ends c.run_command.result _ c.in-Ok-Some.command _ _ _ _ c.reports_are_safe.ensures (g.S.Source.left c.args.source.now) said
+    c.run_command.ensures.answers
 
 pub returns-in-Ok-Some-clause-broken : goal.returns-in-Ok-Some-clause-broken
 returns-in-Ok-Some-clause-broken g c =

@@ -7,6 +7,7 @@ use Rattle.schedule_replay.proofs.replay.Replay.new.Goals as goal
 pub returns-clause-stands : goal.returns-clause-stands
 returns-clause-stands c =
     let o = c.args.opening.now in
-    subst (λ x. Stands x (first_replay (opening_of o) c.args.faulty)) (sym c.in_ok-new.ensures.ok)
-    (first_stands _ o c.args.faulty c.limits.result _ refl c.new-names.ensures c.limits.ensures.messages c.limits.ensures.bytes
+    λ road.
+    subst (λ x. Stands x (first_replay (opening_of o) c.args.faulty road)) (sym c.in_ok-new.ensures.ok)
+    (first_stands _ o c.args.faulty c.limits.result _ road refl c.new-names.ensures c.limits.ensures.messages c.limits.ensures.bytes
     c.in_ok-kit.ensures.value c.in_ok-world.ensures.shows)

@@ -5,11 +5,11 @@ use Rattle.schedule_replay.specs.declared.replay.Opening.{Opening}
 use Rattle.schedule_replay.proofs.StageLaws.{with_kit}
 use Rattle.schedule_replay.proofs.stages.Schedule.open.Goals as goal
 
-pub returns : goal.returns
-returns c =
-    let o : Opening = record { cluster = c.args.cluster; clock = c.args.clock; keys = c.in-Some.keys } in (
-      Opens (opening_of o) [],
-      with_kit c.args.number o c.args.journal c.args.keys c.if-journal.false (sym c.in-Some.ensures),
-      (refl, sym (c.in_ok-faulty.ensures.ok ∙ c.new.ensures)),
-      tt,
+pub returns-clause-took : goal.returns-clause-took
+returns-clause-took c =
+    let o : Opening = record { cluster = c.args.cluster; clock = c.args.clock; keys = c.in-Some.keys } in
+    λ road. (
+      Opens (opening_of o) [] road,
+      with_kit road c.args.number o c.args.journal c.args.keys c.if-journal.false (sym c.in-Some.ensures),
+      record { shown = (refl, sym (c.in_ok-faulty.ensures.ok ∙ c.new.ensures)); going = tt; goes = refl },
     )
