@@ -12,13 +12,13 @@ use Rattle.cluster_run.specs.declared.fault.WorldFault.TheVariants as world
 use Rattle.node_steps.specs.Refusing.{unless_refused}
 use Rattle.schedule_text.specs.declared.line.Line.{Line}
 use Rattle.schedule_replay.proofs.Deliveries.{IsHanded, delivered}
-use Rattle.schedule_replay.specs.Events.{deliver, deliver_all, frame_at, line_does, waiting}
+use Rattle.schedule_replay.specs.Events.{deliver, deliver_all, frame_at, line_does, round_of, waiting}
 use Rattle.schedule_replay.specs.Lines.{answered, line_step, names_after}
 use Rattle.schedule_replay.specs.Reasons.{reason_of}
 use Rattle.schedule_replay.proofs.RoadLaws.{along_own, two_gifts}
 use Rattle.schedule_replay.specs.Replays.{ReplayValue, along}
 use Rattle.schedule_replay.specs.Roads.{Road, behind_one, handed, road_with}
-use Rattle.schedule_replay.specs.Shown.{Did, Does, Stands, failed_by_link, fault_by}
+use Rattle.schedule_replay.specs.Shown.{Did, Does, HasStopped, Stands, fault_by}
 use Rattle.schedule_replay.specs.declared.course.Course.{Course}
 use Rattle.schedule_replay.specs.declared.fault.Halt.{Halt}
 use Rattle.schedule_replay.specs.declared.fault.Halt.TheVariants as halt
@@ -61,7 +61,7 @@ all_of r done left m q h = all_append done (m ∷ left) r ∙ ap (λ x. x >>= de
 -- ---- one more delivery
 
 pub reached_one : (r : ReplayValue) (mid new : Course) (done : List ℕ) (m : ℕ) (here there : Road) (a : Reached r mid done here) →
-    Does (deliver a.now m) a.now new (Ok tt) there → Reached r new (done ++ m ∷ []) there
+    Does [] (deliver a.now m) a.now new (Ok tt) there → Reached r new (done ++ m ∷ []) there
 reached_one r mid new done m here there a does = record {
   now = does.0;
   comes = one_more r done m a.now a.comes ∙ does.1;
@@ -80,29 +80,38 @@ not_refused q m w e =
     is_handed (happens q.setup (events.Deliver m (handed q.road (frame_at q.state m))) q.state)
     (λ st. record q { state = st; road = behind_one q.road }) w (delivered q.setup m (handed q.road (frame_at q.state m)) q.state) e
 
+-- where no message was delivered, all is as before
+nothing_done : (r : ReplayValue) (course : Course) (road : Road) → HasStopped [] r course road → Stands course r × (r.road ≡ road)
+nothing_done r course road h = by h.done h.of_these h.comes
+  where
+    by : (done : List ℕ) → [] ≡ done ++ h.left → deliver_all done r ≡ Ok h.reached → Stands course r × (r.road ≡ road)
+    by [] e c = let same : h.reached ≡ r = cc in (subst (Stands course) same h.stands, subst (λ q. q.road ≡ road) same h.goes)
+    by (m ∷ ms) e c = absurd cc
+
 pub stopped_at : (r : ReplayValue) (mid new : Course) (done left : List ℕ) (m : ℕ) (here there : Road) (a : Reached r mid done here)
-    (x : Halt) → waiting r.state ≡ done ++ m ∷ left → Does (deliver a.now m) a.now new (Err x) there →
-    (failed_by_link {A = Unit {0}} (Err x) ≡ true → new ≡ mid) → Does (deliver_all (waiting r.state) r) r new (Err x) there
-stopped_at r mid new done left m here there a x w does stays = by x does stays
+    (x : Halt) → waiting r.state ≡ done ++ m ∷ left → Does [] (deliver a.now m) a.now new (Err x) there →
+    Does (waiting r.state) (deliver_all (waiting r.state) r) r new (Err x) there
+stopped_at r mid new done left m here there a x w does = by x does
   where
     fails : (f : WorldFault) → deliver a.now m ≡ Err f → deliver_all (waiting r.state) r ≡ Err f
     fails f e = ap (λ ms. deliver_all ms r) w ∙ (all_of r done left m a.now a.comes ∙ ap (λ x. x >>= deliver_all left) e)
 
-    by : (x : Halt) → Does (deliver a.now m) a.now new (Err x) there → (failed_by_link {A = Unit {0}} (Err x) ≡ true → new ≡ mid) →
-        Does (deliver_all (waiting r.state) r) r new (Err x) there
-    by (halt.World (world.Broken b)) does stays = fails (world.Broken b) does
-    by (halt.World (world.PoolFull messages bytes)) does stays = fails (world.PoolFull messages bytes) does
-    by (halt.World (world.Call f)) does stays = absurd (not_refused a.now m (world.Call f) does.0)
-    by (halt.World (world.Exhausted party)) does stays = absurd (not_refused a.now m (world.Exhausted party) does.0)
-    by halt.Link does stays = record {
+    by : (x : Halt) → Does [] (deliver a.now m) a.now new (Err x) there →
+        Does (waiting r.state) (deliver_all (waiting r.state) r) r new (Err x) there
+    by (halt.World (world.Broken b)) does = fails (world.Broken b) does
+    by (halt.World (world.PoolFull messages bytes)) does = fails (world.PoolFull messages bytes) does
+    by (halt.World (world.Call f)) does = absurd (not_refused a.now m (world.Call f) does.0)
+    by (halt.World (world.Exhausted party)) does = absurd (not_refused a.now m (world.Exhausted party) does.0)
+    by halt.Link does = let none = nothing_done a.now new there does in record {
       done = done;
       left = m ∷ left;
-      of_waiting = w;
+      of_these = w;
       reached = a.now;
       comes = a.comes;
-      stands = subst (λ c. Stands c a.now) (sym (stays refl)) a.stands;
+      stands = none.0;
+      goes = none.1;
     }
-    by halt.NoMemory does stays = tt
+    by halt.NoMemory does = tt
 
 -- ---- the message at a place
 
@@ -111,20 +120,20 @@ module _ (r : ReplayValue) (ms : List ℕ) (i : ℕ) (below : i < length ms) (al
   parted = all ∙ (sym (take-append-drop i ms) ∙ ap (λ xs. take i ms ++ xs) (drop-cons ms i 0 below))
 
   pub reached_on : (mid new : Course) (here there : Road) (a : Reached r mid (take i ms) here) →
-      Does (deliver a.now (get_or ms i 0)) a.now new (Ok tt) there → Reached r new (take (i + 1) ms) there
+      Does [] (deliver a.now (get_or ms i 0)) a.now new (Ok tt) there → Reached r new (take (i + 1) ms) there
   reached_on mid new here there a does =
       rw add-one
       (subst (λ xs. Reached r new xs there) (sym (take-suc ms i 0 below))
       (reached_one r mid new (take i ms) (get_or ms i 0) here there a does))
 
   pub stopped_on : (mid new : Course) (here there : Road) (a : Reached r mid (take i ms) here) (x : Halt) →
-      Does (deliver a.now (get_or ms i 0)) a.now new (Err x) there →
-      (failed_by_link {A = Unit {0}} (Err x) ≡ true → new ≡ mid) → Does (deliver_all (waiting r.state) r) r new (Err x) there
-  stopped_on mid new here there a x does stays =
-      stopped_at r mid new (take i ms) (drop (suc i) ms) (get_or ms i 0) here there a x parted does stays
+      Does [] (deliver a.now (get_or ms i 0)) a.now new (Err x) there →
+      Does (waiting r.state) (deliver_all (waiting r.state) r) r new (Err x) there
+  stopped_on mid new here there a x does =
+      stopped_at r mid new (take i ms) (drop (suc i) ms) (get_or ms i 0) here there a x parted does
 
 pub reached_all : (r : ReplayValue) (course : Course) (ms : List ℕ) (i : ℕ) (road : Road) → length ms ≤ i → waiting r.state ≡ ms →
-    Reached r course (take i ms) road → Does (deliver_all (waiting r.state) r) r course (Ok tt) road
+    Reached r course (take i ms) road → Does (waiting r.state) (deliver_all (waiting r.state) r) r course (Ok tt) road
 reached_all r course ms i road past all a =
     (a.now, ap (λ xs. deliver_all xs r) (all ∙ sym (take_all i ms past)) ∙ a.comes, a.stands, a.goes)
 
@@ -138,7 +147,7 @@ Sofar start mid ms carried gave = (r : ReplayValue) (later : List (List ℕ)) �
 -- a delivery comes to what it should
 abbrev pub Delivers : (mid new : Course) (message : ℕ) (carried : Bool) → Result (Unit {0}) Halt → List (List ℕ) → Type 0
 Delivers mid new message carried result gave = (r : ReplayValue) (later : List (List ℕ)) → Stands mid r →
-    Does (deliver (along (road_with carried (gave ++ later)) r) message) (along (road_with carried (gave ++ later)) r) new result
+    Does [] (deliver (along (road_with carried (gave ++ later)) r) message) (along (road_with carried (gave ++ later)) r) new result
     (road_with carried later)
 
 module _ (start mid new : Course) (ms : List ℕ) (i : ℕ) (carried : Bool) (below : i < length ms)
@@ -155,9 +164,9 @@ module _ (start mid new : Course) (ms : List ℕ) (i : ℕ) (carried : Bool) (be
 
     -- and the next delivery from there
     next : (result : Result (Unit {0}) Halt) → Delivers mid new (get_or ms i 0) carried result h →
-        Does (deliver reached.now (get_or ms i 0)) reached.now new result (road_with carried later)
+        Does [] (deliver reached.now (get_or ms i 0)) reached.now new result (road_with carried later)
     next result d =
-        subst (λ q. Does (deliver q (get_or ms i 0)) q new result (road_with carried later))
+        subst (λ q. Does [] (deliver q (get_or ms i 0)) q new result (road_with carried later))
         (along_own reached.now (road_with carried (h ++ later)) reached.goes) (d reached.now later reached.stands)
 
   pub sofar_on : Delivers mid new (get_or ms i 0) carried (Ok tt) h → Sofar start new (take (i + 1) ms) carried (g ++ h)
@@ -165,19 +174,19 @@ module _ (start mid new : Course) (ms : List ℕ) (i : ℕ) (carried : Bool) (be
       reached_on (whole r later stands) ms i below (all r stands) mid new (road_with carried (h ++ later)) (road_with carried later)
       (reached r later stands) (next r later stands (Ok tt) d)
 
-  pub sofar_stops : (x : Halt) → Delivers mid new (get_or ms i 0) carried (Err x) h →
-      (failed_by_link {A = Unit {0}} (Err x) ≡ true → new ≡ mid) → (r : ReplayValue) (later : List (List ℕ)) → Stands start r →
-      Does (deliver_all (waiting r.state) (along (road_with carried ((g ++ h) ++ later)) r))
+  pub sofar_stops : (x : Halt) → Delivers mid new (get_or ms i 0) carried (Err x) h → (r : ReplayValue) (later : List (List ℕ)) →
+      Stands start r →
+      Does (waiting r.state) (deliver_all (waiting r.state) (along (road_with carried ((g ++ h) ++ later)) r))
       (along (road_with carried ((g ++ h) ++ later)) r) new (Err x) (road_with carried later)
-  sofar_stops x d stays r later stands =
+  sofar_stops x d r later stands =
       stopped_on (whole r later stands) ms i below (all r stands) mid new (road_with carried (h ++ later)) (road_with carried later)
-      (reached r later stands) x (next r later stands (Err x) d) stays
+      (reached r later stands) x (next r later stands (Err x) d)
 
 -- ---- a line that is done
 
 pub line_done : (r : ReplayValue) (line : Line) (number : ℕ) (mid new : Course) (road : Road) → reason_of r line ≡ None →
-    Does (line_does r line) r mid (Ok tt) road → new.names ≡ names_after line mid.names → new.world ≡ mid.world →
-    new.cluster ≡ mid.cluster → Did (line_step r line number) r new (Ok tt) road
+    Does (round_of r line) (line_does r line) r mid (Ok tt) road → new.names ≡ names_after line mid.names → new.world ≡ mid.world →
+    new.cluster ≡ mid.cluster → Did (round_of r line) (line_step r line number) r new (Ok tt) road
 line_done r line number mid new road none does names world cluster = let after = does.0 in (
   record after { names = names_after line after.names },
   ap (λ o. unless_refused (option_map (BadInput number) o) (answered line number (line_does r line))) none
@@ -192,13 +201,14 @@ line_done r line number mid new road none does names world cluster = let after =
 
 -- a line that a reason refuses
 pub line_refused : (r : ReplayValue) (line : Line) (number reason : ℕ) (course : Course) (road : Road) → reason_of r line ≡ Some reason →
-    Stands course r → Did (line_step r line number) r course (Err (BadInput number reason)) road
+    Stands course r → Did (round_of r line) (line_step r line number) r course (Err (BadInput number reason)) road
 line_refused r line number reason course road is stands =
     (ap (λ o. unless_refused (option_map (BadInput number) o) (answered line number (line_does r line))) is, stands)
 
 -- a line whose events halt
 pub line_halted : (r : ReplayValue) (line : Line) (number : ℕ) (course : Course) (road : Road) (x : Halt) → reason_of r line ≡ None →
-    Does (line_does r line) r course (Err x) road → Did (line_step r line number) r course (Err (fault_by number x)) road
+    Does (round_of r line) (line_does r line) r course (Err x) road →
+    Did (round_of r line) (line_step r line number) r course (Err (fault_by number x)) road
 line_halted r line number course road x none does = by x does
   where
     answers : (f : WorldFault) → line_does r line ≡ Err f → line_step r line number ≡ answered line number (Err f)
@@ -206,8 +216,8 @@ line_halted r line number course road x none does = by x does
         ap (λ o. unless_refused (option_map (BadInput number) o) (answered line number (line_does r line))) none
         ∙ ap (answered line number) e
 
-    by : (x : Halt) → Does (line_does r line) r course (Err x) road →
-        Did (line_step r line number) r course (Err (fault_by number x)) road
+    by : (x : Halt) → Does (round_of r line) (line_does r line) r course (Err x) road →
+        Did (round_of r line) (line_step r line number) r course (Err (fault_by number x)) road
     by (halt.World (world.Broken b)) does = answers (world.Broken b) does
     by (halt.World (world.PoolFull messages bytes)) does = answers (world.PoolFull messages bytes) does
     by (halt.World (world.Call f)) does = (answers (world.Call f) does.0, does.1)

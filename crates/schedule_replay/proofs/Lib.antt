@@ -13,3 +13,4 @@ pub mod Rounds
 pub mod Deliveries
 pub mod Courses
 pub mod Stepping
+mod Counting

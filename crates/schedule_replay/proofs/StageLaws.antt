@@ -144,14 +144,14 @@ other_line o faulty road number line skipped named = refl
 
 -- ---- a line of a run
 
-pub run_fault : (r : ReplayValue) (course : Course) (should : Result ReplayValue ReplayFault) (road : Road) (e : ReplayFault) →
-    Did should r course (Err e) road → Took (Err e) (should >>= λ r. Ok (Runs r)) road
-run_fault r course should road (BadInput line reason) d = ap (λ x. x >>= λ r. Ok (Runs r)) d.0
-run_fault r course should road (Broken b) d = ap (λ x. x >>= λ r. Ok (Runs r)) d
-run_fault r course should road (Full messages bytes) d = ap (λ x. x >>= λ r. Ok (Runs r)) d
-run_fault r course should road LinkFault d = tt
-run_fault r course should road WriteFault d = d
-run_fault r course should road NoMemory d = tt
+pub run_fault : (messages : List ℕ) (r : ReplayValue) (course : Course) (should : Result ReplayValue ReplayFault) (road : Road)
+    (e : ReplayFault) → Did messages should r course (Err e) road → Took (Err e) (should >>= λ r. Ok (Runs r)) road
+run_fault messages r course should road (BadInput line reason) d = ap (λ x. x >>= λ r. Ok (Runs r)) d.0
+run_fault messages r course should road (Broken b) d = ap (λ x. x >>= λ r. Ok (Runs r)) d
+run_fault messages r course should road (Full count bytes) d = ap (λ x. x >>= λ r. Ok (Runs r)) d
+run_fault messages r course should road LinkFault d = tt
+run_fault messages r course should road WriteFault d = d
+run_fault messages r course should road NoMemory d = tt
 
 -- `?` hands the fault on
 pub took_fault : (result : Result Schedule ReplayFault) (e : ReplayFault) (should : Result Stage ReplayFault) (road : Road) →
@@ -160,7 +160,7 @@ took_fault (Ok x) e should road h f = absurd h
 took_fault (Err x) e should road h f = subst (λ y. Took (Err y) should road) (sym h) f
 
 pub run_goes : (r : ReplayValue) (replay : Replay) (should : Result ReplayValue ReplayFault) (road : Road) (done : Unit {0}) →
-    Did should r replay.course.value (Ok done) road → replay.ended ≡ false →
+    Did [] should r replay.course.value (Ok done) road → replay.ended ≡ false →
     Took (Ok (schedules.Runs replay)) (should >>= λ r. Ok (Runs r)) road
 run_goes r replay should road done d going =
     (Runs d.0, ap (λ x. x >>= λ r. Ok (Runs r)) d.1, record { shown = d.2; going = going; goes = d.3 })

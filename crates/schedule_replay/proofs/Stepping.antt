@@ -17,7 +17,7 @@ use Rattle.cluster_world.specs.declared.fault.StepFault.TheVariants as step
 use Rattle.schedule_text.specs.declared.line.Line.{Line}
 use Rattle.schedule_text.specs.declared.line.Line.TheVariants.{Round, Deliver, Divert}
 use Rattle.schedule_replay.proofs.RoadLaws.{behind_gift, no_gift}
-use Rattle.schedule_replay.specs.Events.{event_of, frame_at, gifts, given_to, happen, line_does, road_behind, waiting}
+use Rattle.schedule_replay.specs.Events.{event_of, frame_at, gifts, given_to, happen, line_does, road_behind, round_of}
 use Rattle.schedule_replay.specs.Replays.{ReplayValue, along}
 use Rattle.schedule_replay.specs.Roads.{Road, gift, handed, road_with}
 use Rattle.schedule_replay.specs.Shown.{Does, Goes, IsOfRoad, Stands, halt_of}
@@ -113,31 +113,32 @@ rest_gifts carried line given d e = refl
 
 -- ---- a call that did nothing
 
-pub not_begun : (answer : Result ReplayValue WorldFault) (r : ReplayValue) (course : Course) (road : Road) (x : Halt) → IsOfRoad x →
-    Stands course r → Does answer r course (Err x) road
-not_begun answer r course road (halt.World f) of h = absurd of
-not_begun answer r course road halt.Link of h = record {
+pub not_begun : (messages : List ℕ) (answer : Result ReplayValue WorldFault) (r : ReplayValue) (course : Course) (road : Road) (x : Halt) →
+    IsOfRoad x → Stands course r → r.road ≡ road → Does messages answer r course (Err x) road
+not_begun messages answer r course road (halt.World f) of h same = absurd of
+not_begun messages answer r course road halt.Link of h same = record {
   done = [];
-  left = waiting r.state;
-  of_waiting = refl;
+  left = messages;
+  of_these = refl;
   reached = r;
   comes = refl;
   stands = h;
+  goes = same;
 }
-not_begun answer r course road halt.NoMemory of h = tt
+not_begun messages answer r course road halt.NoMemory of h same = tt
 
 -- `?` hands it on
-pub handed_on : (answer : Result ReplayValue WorldFault) (r : ReplayValue) (course : Course) (road : Road)
-    (result : Result (Unit {0}) Halt) (x : Halt) → IsErrAnd result (λ y. y ≡ x) → Does answer r course (Err x) road →
-    Does answer r course result road
-handed_on answer r course road (Ok done) x e d = absurd e
-handed_on answer r course road (Err y) x e d = subst (λ z. Does answer r course (Err z) road) (sym e) d
+pub handed_on : (messages : List ℕ) (answer : Result ReplayValue WorldFault) (r : ReplayValue) (course : Course) (road : Road)
+    (result : Result (Unit {0}) Halt) (x : Halt) → IsErrAnd result (λ y. y ≡ x) → Does messages answer r course (Err x) road →
+    Does messages answer r course result road
+handed_on messages answer r course road (Ok done) x e d = absurd e
+handed_on messages answer r course road (Err y) x e d = subst (λ z. Does messages answer r course (Err z) road) (sym e) d
 
-pub ends_not_begun : (answer : Result ReplayValue WorldFault) (r : ReplayValue) (course : Course) (road : Road)
-    (result : Result (Unit {0}) Halt) (x : Halt) → IsErrAnd result (λ y. y ≡ x) → IsOfRoad x → Stands course r →
-    Does answer r course result road
-ends_not_begun answer r course road result x e of h =
-    handed_on answer r course road result x e (not_begun answer r course road x of h)
+pub ends_not_begun : (messages : List ℕ) (answer : Result ReplayValue WorldFault) (r : ReplayValue) (course : Course) (road : Road)
+    (result : Result (Unit {0}) Halt) (x : Halt) → IsErrAnd result (λ y. y ≡ x) → IsOfRoad x → Stands course r → r.road ≡ road →
+    Does messages answer r course result road
+ends_not_begun messages answer r course road result x e of h same =
+    handed_on messages answer r course road result x e (not_begun messages answer r course road x of h same)
 
 -- ---- an event of a line
 
@@ -152,7 +153,7 @@ module _ (r : ReplayValue) (course : Course) (answer : Result State WorldFault) 
   fails : (f : WorldFault) → answer ≡ Err f → Answer ≡ Err f
   fails f e = ap (λ (x : Result State WorldFault). x >>= λ st. Ok (record r { state = st; road = road })) e
 
-  pub event_done : (done : Unit {0}) → road ≡ left → Goes answer r course (Ok done) → Does Answer r course (Ok tt) left
+  pub event_done : (done : Unit {0}) → road ≡ left → Goes answer r course (Ok done) → Does [] Answer r course (Ok tt) left
   event_done done same goes = (
     record r { state = goes.0; road = road },
     ap (λ (x : Result State WorldFault). x >>= λ st. Ok (record r { state = st; road = road })) goes.1,
@@ -160,12 +161,13 @@ module _ (r : ReplayValue) (course : Course) (answer : Result State WorldFault) 
     same,
   )
 
-  pub event_refused : (x : StepFault) → Goes answer r course (Err x) → Does Answer r course (Err (halt_of x)) left
-  event_refused (step.World (world.Broken b)) goes = fails (world.Broken b) goes
-  event_refused (step.World (world.PoolFull messages bytes)) goes = fails (world.PoolFull messages bytes) goes
-  event_refused (step.World (world.Call f)) goes = (fails (world.Call f) goes.0, goes.1)
-  event_refused (step.World (world.Exhausted party)) goes = (fails (world.Exhausted party) goes.0, goes.1)
-  event_refused step.NoMemory goes = tt
+  pub event_refused : (messages : List ℕ) (x : StepFault) → Goes answer r course (Err x) →
+      Does messages Answer r course (Err (halt_of x)) left
+  event_refused messages (step.World (world.Broken b)) goes = fails (world.Broken b) goes
+  event_refused messages (step.World (world.PoolFull count bytes)) goes = fails (world.PoolFull count bytes) goes
+  event_refused messages (step.World (world.Call f)) goes = (fails (world.Call f) goes.0, goes.1)
+  event_refused messages (step.World (world.Exhausted party)) goes = (fails (world.Exhausted party) goes.0, goes.1)
+  event_refused messages step.NoMemory goes = tt
 
 -- ---- another line than a round
 
@@ -187,33 +189,33 @@ module _ (q : ReplayValue) (line : Line) (course : Course) (o : Option EventValu
   abbrev After : Result State WorldFault → Result ReplayValue WorldFault
   After answer = answer >>= λ st. Ok (record q { state = st; road = road_behind line q.road })
 
-  turn : (result : Result (Unit {0}) Halt) → Does (After (happen q.setup q.state o)) q course result left →
-      Does (line_does q line) q course result left
+  turn : (result : Result (Unit {0}) Halt) → Does (round_of q line) (After (happen q.setup q.state o)) q course result left →
+      Does (round_of q line) (line_does q line) q course result left
   turn result d =
-      subst (λ a. Does a q course result left)
+      subst (λ a. Does (round_of q line) a q course result left)
       (ap (λ x. After (happen q.setup q.state x)) same ∙ sym (rest_does q line single)) d
 
   pub happened : (e : EventValue) → o ≡ Some e → Goes (happens q.setup e q.state) q course (Ok tt) →
-      Does (line_does q line) q course (Ok tt) left
+      Does (round_of q line) (line_does q line) q course (Ok tt) left
   happened e is goes =
       turn (Ok tt)
-      (subst (λ x. Does (After (happen q.setup q.state x)) q course (Ok tt) left) (sym is)
+      (subst (λ x. Does (round_of q line) (After (happen q.setup q.state x)) q course (Ok tt) left) (sym is)
       (event_done q course (happens q.setup e q.state) (road_behind line q.road) left tt behind goes))
 
   pub happened_not : (e : EventValue) (x : StepFault) (result : Result (Unit {0}) Halt) → o ≡ Some e →
       IsErrAnd result (λ y. y ≡ halt_of x) → Goes (happens q.setup e q.state) q course (Err x) →
-      Does (line_does q line) q course result left
+      Does (round_of q line) (line_does q line) q course result left
   happened_not e x (Ok done) is h goes = absurd h
   happened_not e x (Err y) is h goes =
-      subst (λ z. Does (line_does q line) q course (Err z) left) (sym h)
+      subst (λ z. Does (round_of q line) (line_does q line) q course (Err z) left) (sym h)
       (turn (Err (halt_of x))
-      (subst (λ z. Does (After (happen q.setup q.state z)) q course (Err (halt_of x)) left) (sym is)
-      (event_refused q course (happens q.setup e q.state) (road_behind line q.road) left x goes)))
+      (subst (λ z. Does (round_of q line) (After (happen q.setup q.state z)) q course (Err (halt_of x)) left) (sym is)
+      (event_refused q course (happens q.setup e q.state) (road_behind line q.road) left (round_of q line) x goes)))
 
-  pub nothing_happened : o ≡ None → Stands course q → Does (line_does q line) q course (Ok tt) left
+  pub nothing_happened : o ≡ None → Stands course q → Does (round_of q line) (line_does q line) q course (Ok tt) left
   nothing_happened is stands =
       turn (Ok tt)
-      (subst (λ x. Does (After (happen q.setup q.state x)) q course (Ok tt) left) (sym is) (
+      (subst (λ x. Does (round_of q line) (After (happen q.setup q.state x)) q course (Ok tt) left) (sym is) (
         record q { road = road_behind line q.road },
         refl,
         record { cluster = stands.cluster; names = stands.names; shows = stands.shows },

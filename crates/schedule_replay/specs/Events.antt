@@ -98,6 +98,11 @@ abbrev pub deliver_all : List ℕ → ReplayValue → Result ReplayValue WorldFa
 deliver_all [] r = Ok r
 deliver_all (message ∷ messages) r = deliver r message >>= deliver_all messages
 
+-- the messages that a line delivers one after another: those that wait when a round begins
+abbrev pub round_of : ReplayValue → Line → List ℕ
+round_of r Round = waiting r.state
+round_of r line = []
+
 -- ---- what a line's events come to: a round delivers each message that waits when the line begins
 
 abbrev pub happen : Setup → State → Option EventValue → Result State WorldFault

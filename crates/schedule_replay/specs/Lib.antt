@@ -14,3 +14,4 @@ pub mod Laws
 pub mod Shown
 pub mod Schedules
 pub mod Telling
+pub mod Totals

@@ -16,7 +16,7 @@ use Rattle.schedule_replay.specs.declared.fault.Halt.TheVariants as halt
 use Rattle.schedule_replay.specs.declared.fault.ReplayFault.{ReplayFault}
 use Rattle.schedule_replay.specs.declared.fault.ReplayFault.TheVariants.{BadInput, Broken, Full, LinkFault, WriteFault, NoMemory}
 use Rattle.schedule_replay.specs.declared.replay.Opening as code
-use Rattle.schedule_replay.specs.Events.{deliver_all, waiting}
+use Rattle.schedule_replay.specs.Events.{deliver_all}
 use Rattle.schedule_replay.specs.Names.{is_begun}
 use Rattle.schedule_replay.specs.Replays.{NamesValue, Opening, ReplayValue, along}
 use Rattle.schedule_replay.specs.Roads.{Carries, Road, road_with}
@@ -51,28 +51,30 @@ Goes answer r course (Err step.NoMemory) = ⊤
 
 -- ---- the events of a line
 
--- the first of the messages that wait are delivered, and the rest is as before
-pub record HasStopped (r : ReplayValue) (course : Course) : Type 0 where
+-- the first of these messages are delivered, as many as leave this road, and the rest is as before
+pub record HasStopped (messages : List ℕ) (r : ReplayValue) (course : Course) (road : Road) : Type 0 where
   pub done : List ℕ
   pub left : List ℕ
-  pub of_waiting : waiting r.state ≡ done ++ left
+  pub of_these : messages ≡ done ++ left
   pub reached : ReplayValue
   pub comes : deliver_all done r ≡ Ok reached
   pub stands : Stands course reached
+  pub goes : reached.road ≡ road
 
--- events come to this, with this road left: the world shows it, and the names are as before; a refusal is that; where a
--- link failed, what was delivered before stays so
-abbrev pub Does : Result ReplayValue WorldFault → ReplayValue → Course → Result (Unit {0}) Halt → Road → Type 0
-Does answer r course (Ok done) road =
+-- events, which deliver these messages one after another, come to this, with this road left: the world shows it, and the
+-- names are as before; a refusal is that; where a link failed, the messages before stay delivered
+abbrev pub Does :
+    (messages : List ℕ) → Result ReplayValue WorldFault → ReplayValue → Course → Result (Unit {0}) Halt → Road → Type 0
+Does messages answer r course (Ok done) road =
     (after : ReplayValue) × (answer ≡ Ok after) × Stands course after × (after.road ≡ road)
-Does answer r course (Err (halt.World (world.Broken b))) road = answer ≡ Err (world.Broken b)
-Does answer r course (Err (halt.World (world.PoolFull messages bytes))) road =
-    answer ≡ Err (world.PoolFull messages bytes)
-Does answer r course (Err (halt.World (world.Call f))) road = (answer ≡ Err (world.Call f)) × Stands course r
-Does answer r course (Err (halt.World (world.Exhausted party))) road =
+Does messages answer r course (Err (halt.World (world.Broken b))) road = answer ≡ Err (world.Broken b)
+Does messages answer r course (Err (halt.World (world.PoolFull count bytes))) road =
+    answer ≡ Err (world.PoolFull count bytes)
+Does messages answer r course (Err (halt.World (world.Call f))) road = (answer ≡ Err (world.Call f)) × Stands course r
+Does messages answer r course (Err (halt.World (world.Exhausted party))) road =
     (answer ≡ Err (world.Exhausted party)) × Stands course r
-Does answer r course (Err halt.Link) road = HasStopped r course
-Does answer r course (Err halt.NoMemory) road = ⊤
+Does messages answer r course (Err halt.Link) road = HasStopped messages r course road
+Does messages answer r course (Err halt.NoMemory) road = ⊤
 
 -- what a step of a world halts by
 abbrev pub halt_of : StepFault → Halt
@@ -111,19 +113,21 @@ fault_by number (halt.World (world.Exhausted party)) = BadInput number 9
 fault_by number halt.Link = LinkFault
 fault_by number halt.NoMemory = NoMemory
 
--- a line does what it should: Ok exactly where that is, and then the replay shows it, with this road left; a refusal is
--- that, and one by a reason leaves all as before; where a link failed, what was delivered before stays so; want of memory
--- ends it
-abbrev pub Did : Result ReplayValue ReplayFault → ReplayValue → Course → Result (Unit {0}) ReplayFault → Road → Type 0
-Did should before course (Ok done) road =
+-- a line, which delivers these messages one after another, does what it should: Ok exactly where that is, and then the
+-- replay shows it, with this road left; a refusal is that, and one by a reason leaves all as before; where a link failed,
+-- the messages before stay delivered; want of memory ends it
+abbrev pub Did :
+    (messages : List ℕ) → Result ReplayValue ReplayFault → ReplayValue → Course → Result (Unit {0}) ReplayFault → Road →
+    Type 0
+Did messages should before course (Ok done) road =
     (after : ReplayValue) × (should ≡ Ok after) × Stands course after × (after.road ≡ road)
-Did should before course (Err (BadInput line reason)) road =
+Did messages should before course (Err (BadInput line reason)) road =
     (should ≡ Err (BadInput line reason)) × Stands course before
-Did should before course (Err (Broken b)) road = should ≡ Err (Broken b)
-Did should before course (Err (Full messages bytes)) road = should ≡ Err (Full messages bytes)
-Did should before course (Err LinkFault) road = HasStopped before course
-Did should before course (Err WriteFault) road = ⊥
-Did should before course (Err NoMemory) road = ⊤
+Did messages should before course (Err (Broken b)) road = should ≡ Err (Broken b)
+Did messages should before course (Err (Full count bytes)) road = should ≡ Err (Full count bytes)
+Did messages should before course (Err LinkFault) road = HasStopped messages before course road
+Did messages should before course (Err WriteFault) road = ⊥
+Did messages should before course (Err NoMemory) road = ⊤
 
 -- a breach, and want of memory, end a replay
 abbrev pub ends_by : {A : Type 0} → Result A ReplayFault → Bool

@@ -1,6 +1,6 @@
 //! The course of a replay: what lines do to a world and to the names of its transactions.
 
-ghost use Rattle.std.specs.Prelude.{◌≡◌, ◌<◌, ◌++◌, ℕ, List, true, false, IfErr, IfOk, IfSome, OnErr, OnOk, option_map};
+ghost use Rattle.std.specs.Prelude.{◌≡◌, ◌<◌, ◌++◌, [], ℕ, List, true, false, IfErr, IfOk, IfSome, OnErr, OnOk, option_map};
 ghost use Rattle.cluster_run.specs.Events as events;
 ghost use Rattle.cluster_world.specs.EventValues.{event_value};
 ghost use Rattle.cluster_world.specs.Worlds.{is_end};
@@ -112,7 +112,7 @@ impl Course {
         requires going { self.old.world.ended ≡ false }
         requires single { line.now ≡ Line.Round → ⊥ }
         ensures does { ByRoads carried (L.told links.old) (L.told links.new) self.old (λ r road.
-            Does (lines.line_does r line.now) r self.new result road) }
+            Does (lines.round_of r line.now) (lines.line_does r line.now) r self.new result road) }
         ensures links { Uses carried links.old links.new (L.faults links.old) (L.faults links.new)
             (failed_by_link result) }
         ensures names { self.new.names ≡ self.old.names }
@@ -132,8 +132,7 @@ impl Course {
     fn deliver<L: Links>(&mut self, message: u64, links: &mut L, carried: bool) -> Result<(), Halt>
         requires { self.old.world.ended ≡ false }
         ensures does { ByRoads carried (L.told links.old) (L.told links.new) self.old (λ r road.
-            Does (lines.deliver r message) r self.new result road) }
-        ensures stays { failed_by_link result ≡ true → self.new ≡ self.old }
+            Does [] (lines.deliver r message) r self.new result road) }
         ensures links { Uses carried links.old links.new (L.faults links.old) (L.faults links.new)
             (failed_by_link result) }
         ensures names { self.new.names ≡ self.old.names }
@@ -179,7 +178,7 @@ impl Course {
     fn round<L: Links>(&mut self, links: &mut L, carried: bool) -> Result<(), Halt>
         requires { self.old.world.ended ≡ false }
         ensures does { ByRoads carried (L.told links.old) (L.told links.new) self.old (λ r road.
-            Does (lines.deliver_all (lines.waiting r.state) r) r self.new result road) }
+            Does (lines.waiting r.state) (lines.deliver_all (lines.waiting r.state) r) r self.new result road) }
         ensures links { Uses carried links.old links.new (L.faults links.old) (L.faults links.new)
             (failed_by_link result) }
         ensures names { self.new.names ≡ self.old.names }
@@ -196,7 +195,7 @@ impl Course {
     fn does<L: Links>(&mut self, line: &Line, links: &mut L, carried: bool) -> Result<(), Halt>
         requires { self.old.world.ended ≡ false }
         ensures does { ByRoads carried (L.told links.old) (L.told links.new) self.old (λ r road.
-            Does (lines.line_does r line.now) r self.new result road) }
+            Does (lines.round_of r line.now) (lines.line_does r line.now) r self.new result road) }
         ensures links { Uses carried links.old links.new (L.faults links.old) (L.faults links.new)
             (failed_by_link result) }
         ensures names { self.new.names ≡ self.old.names }
@@ -232,7 +231,7 @@ impl Course {
     ) -> Result<(), ReplayFault>
         requires { self.old.world.ended ≡ false }
         ensures did { ByRoads carried (L.told links.old) (L.told links.new) self.old (λ r road.
-            Did (line_step r line.now number) r self.new result road) }
+            Did (lines.round_of r line.now) (line_step r line.now number) r self.new result road) }
         ensures links { Uses carried links.old links.new (L.faults links.old) (L.faults links.new)
             (is_link_fault result) }
         ensures going { ends_by result ≡ false → self.new.world.ended ≡ false }

@@ -6,16 +6,19 @@ ghost use Rattle.basil_types.specs.Causes.{Rose, TookAll, TookPrefix};
 ghost use Rattle.cluster_world.specs.Shows.{AreMembers};
 ghost use Rattle.cluster_world.specs.Worlds.{RanSafely};
 ghost use Rattle.premise_watch.specs.Parties.{AreCounted};
+ghost use Rattle.schedule_replay.specs.Events.{round_of};
 ghost use Rattle.schedule_replay.specs.Lines.{line_step};
 ghost use Rattle.schedule_replay.specs.Replays.{ReplayValue, first_replay, most_bytes, most_messages};
 ghost use Rattle.schedule_replay.specs.Reports as reports;
 ghost use Rattle.schedule_replay.specs.Roads.{Road, Uses};
+ghost use Rattle.schedule_replay.specs.Totals.{totals};
 ghost use Rattle.schedule_replay.specs.Shown.{ByRoads, Did, IsOfReport, Stands, ends_by, is_link_fault, opening_of};
 
 use crate::course::Course;
 use crate::fault::ReplayFault;
 use crate::names::Names;
 use crate::report::text_of;
+use crate::totals::totals_of;
 use basil_types::cluster::Cluster;
 use basil_types::links::Links;
 use basil_types::memory::NoMemory;
@@ -102,7 +105,7 @@ impl Replay {
 
     /// Does what a line says, which has this number in the schedule. Where deliveries are carried, each node is handed
     /// what the links give for a message, else its own bytes. A breach, and want of memory, end the replay; a line that
-    /// is refused leaves it as before; where a link fails, what the line delivered before stays.
+    /// is refused leaves it as before; where a link fails, the messages that a round delivered before stay delivered.
     pub fn line<L: Links>(
         &mut self,
         line: &Line,
@@ -112,7 +115,7 @@ impl Replay {
     ) -> Result<(), ReplayFault>
         requires { self.old.ended ≡ false }
         ensures did { ByRoads carried (L.told links.old) (L.told links.new) self.old.course.value (λ r road.
-            Did (line_step r line.now number) r self.new.course.value result road) }
+            Did (round_of r line.now) (line_step r line.now number) r self.new.course.value result road) }
         ensures links { Uses carried links.old links.new (L.faults links.old) (L.faults links.new)
             (is_link_fault result) }
         ensures ended { self.new.ended ≡ ends_by result }
@@ -146,6 +149,13 @@ impl Replay {
             text.items ≡ reports.report r) }
     {
         text_of(&self.course)
+    }
+
+    /// How many transactions committed, aborted and are open, and the number of messages, a line each.
+    pub fn totals(&self) -> Result<Vec<u8>, NoMemory>
+        ensures { IfOk result (λ text. (r : ReplayValue) → Stands self.now.course.value r → text.items ≡ totals r) }
+    {
+        totals_of(&self.course)
     }
 
     /// Writes the report. Where memory is wanting nothing was written, and where the sink failed some of it.

@@ -42,7 +42,7 @@ pub(crate) fn text_of(course: &Course) -> Result<Vec<u8>, NoMemory>
 }
 
 /// Appends a text.
-fn put(out: &mut Vec<u8>, text: &[u8]) -> Result<(), NoMemory>
+pub(crate) fn put(out: &mut Vec<u8>, text: &[u8]) -> Result<(), NoMemory>
     ensures { OnOk result (out.new.items ≡ out.old.items ++ text.now) }
 {
     out.extend_from_slice(text)?;
@@ -102,7 +102,7 @@ fn put_pairs(alloc: Global, out: &mut Vec<u8>, pairs: &[Pair]) -> Result<(), NoM
 }
 
 /// `end N`
-fn put_end(out: &mut Vec<u8>, messages: u64) -> Result<(), NoMemory>
+pub(crate) fn put_end(out: &mut Vec<u8>, messages: u64) -> Result<(), NoMemory>
     ensures { OnOk result (out.new.items ≡ out.old.items ++ reports.end_line messages) }
 {
     let mut buffer = Buffer::new();
@@ -238,7 +238,7 @@ impl Course {
     }
 
     /// What became of a transaction.
-    fn fate_of(&self, tx: u32) -> Option<Decision>
+    pub(crate) fn fate_of(&self, tx: u32) -> Option<Decision>
         ensures { (r : ReplayValue) → Stands self.now r → result ≡ reports.decided r.state tx }
     {
         let id = self.id_at(tx)?;

@@ -1,4 +1,4 @@
-use Rattle.std.proofs.Common.{Ok, refl, ap, subst, ◌++◌, ◌∙◌}
+use Rattle.std.proofs.Common.{[], Ok, refl, ap, subst, ◌++◌, ◌∙◌}
 use Rattle.cluster_run.specs.Events as events
 use Rattle.cluster_run.specs.Events.{happens}
 use Rattle.schedule_replay.specs.Events.{deliver, frame_at}
@@ -15,17 +15,17 @@ returns-in_err-frame-clause-does g c =
     carries_none c.args.carried refl
     (λ r later h.
     let q = along (road_with c.args.carried later) r in
-    ends_not_begun (deliver q c.args.message) q c.args.self.now (road_with c.args.carried later) c.from_residual.result halt.NoMemory
-    c.from_residual.ensures.1 tt (stands_along c.args.self.now r (road_with c.args.carried later) h))
+    ends_not_begun [] (deliver q c.args.message) q c.args.self.now (road_with c.args.carried later) c.from_residual.result halt.NoMemory
+    c.from_residual.ensures.1 tt (stands_along c.args.self.now r (road_with c.args.carried later) h) refl)
 
 pub returns-in_err-given-clause-does : goal.returns-in_err-given-clause-does
 returns-in_err-given-clause-does g c =
     carries_none c.args.carried c.in_err-given.ensures.as_before
     (λ r later h.
     let q = along (road_with c.args.carried later) r in
-    ends_not_begun (deliver q c.args.message) q c.args.self.now (road_with c.args.carried later) c.from_residual-in_err-given.result
+    ends_not_begun [] (deliver q c.args.message) q c.args.self.now (road_with c.args.carried later) c.from_residual-in_err-given.result
     c.in_err-given.field-0.0 c.from_residual-in_err-given.ensures.1 c.in_err-given.ensures.only
-    (stands_along c.args.self.now r (road_with c.args.carried later) h))
+    (stands_along c.args.self.now r (road_with c.args.carried later) h) refl)
 
 pub returns-clause-does : goal.returns-clause-does
 returns-clause-does g c =

@@ -1,7 +1,7 @@
 use Rattle.std.proofs.Common.{◌≡◌, None, Option, Some, refl, sym, ap, ◌++◌, ◌∙◌}
 use Rattle.cluster_run.specs.Events.{EventValue}
 use Rattle.cluster_world.specs.EventValues.{event_value}
-use Rattle.schedule_replay.specs.Events.{event_of, gifts, given_to, line_does}
+use Rattle.schedule_replay.specs.Events.{event_of, gifts, given_to, line_does, round_of}
 use Rattle.schedule_replay.specs.Replays.{along}
 use Rattle.schedule_replay.specs.Roads.{road_with}
 use Rattle.schedule_replay.proofs.RoadLaws.{carries_none, carries_these}
@@ -13,9 +13,9 @@ returns-in_err-given-clause-does g c =
     carries_none c.args.carried c.in_err-given.ensures.as_before
     (λ r later h.
     let q = along (road_with c.args.carried later) r in
-    ends_not_begun (line_does q c.args.line.now) q c.args.self.now (road_with c.args.carried later) c.from_residual.result
-    c.in_err-given.field-0.0 c.from_residual.ensures.1 c.in_err-given.ensures.only
-    (stands_along c.args.self.now r (road_with c.args.carried later) h))
+    ends_not_begun (round_of q c.args.line.now) (line_does q c.args.line.now) q c.args.self.now (road_with c.args.carried later)
+    c.from_residual.result c.in_err-given.field-0.0 c.from_residual.ensures.1 c.in_err-given.ensures.only
+    (stands_along c.args.self.now r (road_with c.args.carried later) h) refl)
 
 pub returns-in_err-step-in-Some-clause-does : goal.returns-in_err-step-in-Some-clause-does
 returns-in_err-step-in-Some-clause-does g c =

@@ -1,4 +1,5 @@
 use Rattle.std.proofs.Common.{Err, refl, subst, sym, ◌++◌, ◌∙◌}
+use Rattle.schedule_replay.specs.Events.{round_of}
 use Rattle.schedule_replay.specs.Lines.{line_step}
 use Rattle.schedule_replay.specs.Replays.{along}
 use Rattle.schedule_replay.specs.Roads.{road_with}
@@ -32,7 +33,8 @@ returns-in-Err-clause-did g c =
     (λ gave does r later h.
     let road = road_with c.args.carried (gave ++ later) in
     let there = road_with c.args.carried later in
-    subst (λ e. Did (line_step (along road r) c.args.line.now c.args.number) (along road r) c.does.new.self (Err e) there)
+    subst (λ e. Did (round_of (along road r) c.args.line.now) (line_step (along road r) c.args.line.now c.args.number) (along road r)
+    c.does.new.self (Err e) there)
     (sym c.fault_of.ensures)
     (line_halted (along road r) c.args.line.now c.args.number c.does.new.self there c.in-Err.halt
     (sym (c.reason_of.ensures.exact (along road r) (stands_along c.args.self.now r road h)) ∙ c.in_default.is) (does r later h)))

@@ -30,11 +30,12 @@ returns-in_err-deliver-clause-does g c =
     carries_both c.args.carried c.loop-message.invariant.carries c.in_err-deliver.ensures.does
     (λ before more so_far does r later h.
     let road = road_with c.args.carried ((before ++ more) ++ later) in
-    handed_on (deliver_all (waiting r.state) (along road r)) (along road r) c.deliver.new.self (road_with c.args.carried later)
+    handed_on (waiting r.state) (deliver_all (waiting r.state) (along road r)) (along road r) c.deliver.new.self
+    (road_with c.args.carried later)
     c.from_residual-in_err-deliver.result c.in_err-deliver.field-0.0 c.from_residual-in_err-deliver.ensures.1
     (sofar_stops c.args.self.now c.loop-message.self c.deliver.new.self ms c.loop-message.message-index c.args.carried
     c.loop-message-test.true (λ q s. sym (c.deref-message-items.ensures.value ∙ c.in_ok-messages.ensures q s)) before more so_far
-    c.in_err-deliver.field-0.0 does c.in_err-deliver.ensures.stays r later h))
+    c.in_err-deliver.field-0.0 does r later h))
 
 pub loop-message-preserved : goal.loop-message-preserved
 loop-message-preserved g c = record {

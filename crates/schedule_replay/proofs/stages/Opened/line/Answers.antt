@@ -1,4 +1,5 @@
 use Rattle.std.proofs.Common.{Ok, refl, sym, subst, ◌++◌}
+use Rattle.schedule_replay.specs.Events.{round_of}
 use Rattle.schedule_replay.specs.Lines.{line_step}
 use Rattle.schedule_replay.specs.Replays.{first_replay}
 use Rattle.schedule_replay.specs.Roads.{road_with}
@@ -49,8 +50,8 @@ returns-in_err-line-in_default-clause-took g c =
     subst (λ x. Took c.from_residual-in_err-line-in_default.result x there)
     (sym (other_line o faulty here c.args.number c.args.line.now c.in_default.not-Skipped c.in_default.not-Faulty))
     (took_fault _ c.in_err-line-in_default.field-0.0 _ there c.from_residual-in_err-line-in_default.ensures.1
-    (run_fault r c.line.new.self.course.value (line_step r c.args.line.now c.args.number) there c.in_err-line-in_default.field-0.0
-    (did r later (c.in_ok-replay-in_default.ensures.stands here)))))
+    (run_fault (round_of r c.args.line.now) r c.line.new.self.course.value (line_step r c.args.line.now c.args.number) there
+    c.in_err-line-in_default.field-0.0 (did r later (c.in_ok-replay-in_default.ensures.stands here)))))
 
 pub returns-in_ok-line-in_default-clause-took : goal.returns-in_ok-line-in_default-clause-took
 returns-in_ok-line-in_default-clause-took g c =

@@ -1,4 +1,5 @@
 use Rattle.std.proofs.Common.{Ok, refl, subst, ◌++◌}
+use Rattle.schedule_replay.specs.Events.{round_of}
 use Rattle.schedule_replay.specs.Lines.{line_step}
 use Rattle.schedule_replay.specs.Replays.{along}
 use Rattle.schedule_replay.specs.Roads.{road_with}
@@ -38,7 +39,8 @@ returns-in_err-line-in-Runs-clause-took g c =
     at_runs stage c.in-Runs.replay c.from_residual.result c.args.line.now c.args.number here there (subst (λ s. IsAt s stage) c.in-Runs.is at)
     (λ r stands.
     took_fault c.from_residual.result c.in_err-line-in-Runs.field-0.0 _ there c.from_residual.ensures.1
-    (run_fault (along here r) c.line-in-Runs.new.self.course.value (line_step (along here r) c.args.line.now c.args.number) there
+    (run_fault (round_of (along here r) c.args.line.now) (along here r) c.line-in-Runs.new.self.course.value
+    (line_step (along here r) c.args.line.now c.args.number) there
     c.in_err-line-in-Runs.field-0.0 (did r later stands))))
 
 pub returns-in_ok-line-in-Runs-clause-took : goal.returns-in_ok-line-in-Runs-clause-took
