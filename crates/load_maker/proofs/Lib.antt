@@ -1,0 +1,4 @@
+pub mod LoadLaws
+pub mod WordLaws
+pub mod FitLaws
+pub mod TextLaws
