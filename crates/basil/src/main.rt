@@ -1,14 +1,17 @@
-//! The program: it hands its words, standard input and standard output to the top call.
+//! The program: it hands its words, standard input, standard output and the sockets of this machine to the top call.
 #![tactic(auto)]
 
 mod input;
 mod output;
+mod sockets;
+#[cfg(test)]
+mod tests;
 
 use basil_cli::run::run;
 use basil_types::clock::MemClock;
-use basil_types::links::SureLinks;
 use input::Input;
 use output::Output;
+use sockets::SocketLinks;
 use std::process::ExitCode;
 use std::{env, io};
 
@@ -33,7 +36,7 @@ fn main(rt: HostRuntime) -> ExitCode {
     let alloc = rt.alloc();
     let mut source = Input::new(rt.stdin());
     let mut sink = Output::new(io::writer(&rt));
-    let mut links = SureLinks::new(alloc, Vec::new(alloc), Vec::new(alloc));
+    let mut links = SocketLinks::new(&rt, alloc);
     let mut clock = MemClock::new(Vec::new(alloc));
     let status = run(
         alloc,

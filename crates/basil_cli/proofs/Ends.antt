@@ -1,98 +1,152 @@
 -- What holds of the end of each schedule.
-use Rattle.std.proofs.Common.{◌≡◌, ◌⊎◌, ℕ, List, Option, Some, None, Result, Ok, Err, inl, inr, refl, sym, subst}
+use Rattle.std.proofs.Common.{◌≡◌, ◌⊎◌, ℕ, List, [], ◌++◌, Bool, false, Option, Some, None, Result, Ok, Err, inl, inr, refl, sym, ap, subst}
 use Rattle.std.specs.Prelude.{IfSome}
 use Rattle.basil_types.specs.Causes.{TookPrefix}
+use Rattle.basil_types.specs.Links.{LinkState}
+use Rattle.basil_types.specs.Steps.{◌>>=◌}
+use Rattle.schedule_replay.proofs.RoadLaws.{carries_as}
 use Rattle.schedule_replay.specs.Laws.{BreaksAreReal, ReportsAreSafe}
-use Rattle.schedule_replay.specs.Outcomes as schedules
-use Rattle.schedule_replay.specs.Roads.{Direct}
+use Rattle.premise_watch.specs.declared.broken.Broken.{Broken}
+use Rattle.schedule_replay.specs.Outcomes.{outcome_on, replay_of}
+use Rattle.schedule_replay.specs.Replays.{ReplayValue}
+use Rattle.schedule_replay.specs.Reports.{report}
+use Rattle.schedule_replay.specs.Roads.{Direct, Road, road_with}
 use Rattle.schedule_replay.specs.declared.fault.ReplayFault.{ReplayFault}
 use Rattle.schedule_replay.specs.declared.fault.ReplayFault.TheVariants as fault
-use Rattle.basil_cli.specs.Answers.{Answers, IsBrokenEnd, Tells, TookFault, TookSome, WroteSafely, WroteSome}
+use Rattle.basil_cli.specs.Answers.{Answers, Counts, IsBrokenEnd, LoadedSafely, Tells, TookFault, TookSome, WroteSafely, WroteSome}
+use Rattle.basil_cli.specs.Commands.{reads}
+use Rattle.basil_cli.specs.Linked.{ByRoads, ByWords}
 use Rattle.basil_cli.specs.Outcome.{text_of}
-use Rattle.basil_cli.specs.Output.{outcome_with, output_of, replayed}
+use Rattle.basil_cli.specs.Output.{load_text, loaded, output_of, replayed}
 use Rattle.basil_cli.specs.declared.command.Command.{Command}
-use Rattle.basil_cli.specs.declared.command.Command.TheVariants.{Replay}
+use Rattle.basil_cli.specs.declared.command.Command.TheVariants.{Replay, Load}
+use Rattle.basil_cli.specs.declared.command.LoadSize.{LoadSize}
 use Rattle.basil_cli.specs.declared.status.Status.{Status}
 use Rattle.basil_cli.specs.declared.status.Status.TheVariants as ends
 
 -- ---- reports
 
-told_safe : ReportsAreSafe → (bytes : List ℕ) (old new : Option (List ℕ)) →
-    Tells ends.Done (replayed (schedules.outcome_of bytes)) old new → WroteSafely bytes old new
-told_safe law bytes old new t = by (schedules.outcome_of bytes) refl t
-  where
-    by : (o : Result (List ℕ) ReplayFault) → schedules.outcome_of bytes ≡ o → Tells ends.Done (replayed o) old new →
-        WroteSafely bytes old new
-    by (Ok text) e t = record { text = text; safe = law Direct bytes text e; written = t.text }
-    by (Err (fault.BadInput line reason)) e t = absurd (let told = t.told in cc)
-    by (Err (fault.Broken b)) e t = absurd (let told = t.told in cc)
-    by (Err (fault.Full messages size)) e t = absurd (let told = t.told in cc)
-    by (Err other) e t = absurd (let told = t.told in cc)
+module _ (road : Road) (bytes : List ℕ) (old new : Option (List ℕ)) where
+  told_safe : ReportsAreSafe → Tells ends.Done (replayed (outcome_on road bytes)) old new → WroteSafely road bytes old new
+  told_safe law t = by (outcome_on road bytes) refl t
+    where
+      by : (o : Result (List ℕ) ReplayFault) → outcome_on road bytes ≡ o → Tells ends.Done (replayed o) old new →
+          WroteSafely road bytes old new
+      by (Ok text) e t = record { text = text; safe = law road bytes text e; written = t.text }
+      by (Err (fault.BadInput line reason)) e t = absurd (let told = t.told in cc)
+      by (Err (fault.Broken b)) e t = absurd (let told = t.told in cc)
+      by (Err (fault.Full messages size)) e t = absurd (let told = t.told in cc)
+      by (Err other) e t = absurd (let told = t.told in cc)
 
-told_some : ReportsAreSafe → (bytes : List ℕ) (before now : ℕ) (old new : Option (List ℕ)) →
-    TookSome (replayed (schedules.outcome_of bytes)) before now old new →
-    WroteSome (schedules.outcome_of bytes) bytes old new ⊎ TookFault before now old new
-told_some law bytes before now old new t =
-    elim t [
-      | inl prefix ↦ inl (by (schedules.outcome_of bytes) refl prefix)
-      | inr fault ↦ inr fault
-    ]
-  where
-    by : (o : Result (List ℕ) ReplayFault) → schedules.outcome_of bytes ≡ o → TookPrefix old new (text_of (replayed o)) →
-        WroteSome o bytes old new
-    by (Ok text) e t = (law Direct bytes text e, t)
-    by (Err f) e t = tt
+  told_some : ReportsAreSafe → (counts : Counts) → TookSome (replayed (outcome_on road bytes)) counts old new →
+      WroteSome (outcome_on road bytes) road bytes old new ⊎ TookFault counts old new
+  told_some law counts t =
+      elim t [
+        | inl prefix ↦ inl (by (outcome_on road bytes) refl prefix)
+        | inr fault ↦ inr fault
+      ]
+    where
+      by : (o : Result (List ℕ) ReplayFault) → outcome_on road bytes ≡ o → TookPrefix old new (text_of (replayed o)) →
+          WroteSome o road bytes old new
+      by (Ok text) e t = (law road bytes text e, t)
+      by (Err f) e t = tt
 
--- what a command answers to the words of `replay`
-module _ (status : Status) (o : Option Command) (command : Command) (before now : ℕ) (old new : Option (List ℕ)) where
-  replay_answers : (bytes : List ℕ) (other : Status) → o ≡ Some command → o ≡ Some Replay → status ≡ other →
-      Answers status (output_of command bytes) before now old new →
-      Answers other (replayed (schedules.outcome_of bytes)) before now old new
-  replay_answers bytes other k e f a =
-      let same : command ≡ Replay = cc in
-      subst (λ (x : Status). Answers x (replayed (schedules.outcome_of bytes)) before now old new) f
-      (subst (λ (x : Command). Answers status (output_of x bytes) before now old new) same a)
+  told_broken : BreaksAreReal → Tells ends.Broken (replayed (outcome_on road bytes)) old new → IsBrokenEnd road bytes old new
+  told_broken law t = by (outcome_on road bytes) refl t
+    where
+      by : (o : Result (List ℕ) ReplayFault) → outcome_on road bytes ≡ o → Tells ends.Broken (replayed o) old new →
+          IsBrokenEnd road bytes old new
+      by (Ok text) e t = absurd (let told = t.told in cc)
+      by (Err (fault.BadInput line reason)) e t = absurd (let told = t.told in cc)
+      by (Err (fault.Broken b)) e t = record { broken = b; leads = e; text = t.text; real = law road bytes b e }
+      by (Err (fault.Full messages size)) e t = absurd (let told = t.told in cc)
+      by (Err other) e t = absurd (let told = t.told in cc)
 
-  pub safe_ends : ReportsAreSafe → (left : Option (List ℕ)) → o ≡ Some command →
-      IfSome left (λ bytes. Answers status (output_of command bytes) before now old new) →
-      IfSome left (λ bytes. o ≡ Some Replay → status ≡ ends.Done → WroteSafely bytes old new)
-  safe_ends law None k a = tt
-  safe_ends law (Some bytes) k a = λ e f. told_safe law bytes old new (replay_answers bytes ends.Done k e f a)
+-- ---- what a command answers to the words of `replay` and `loopback`
 
-  pub safe_in_part : ReportsAreSafe → (left : Option (List ℕ)) → o ≡ Some command →
-      IfSome left (λ bytes. Answers status (output_of command bytes) before now old new) →
-      IfSome left (λ bytes. o ≡ Some Replay → status ≡ ends.WriteFault →
-      WroteSome (schedules.outcome_of bytes) bytes old new ⊎ TookFault before now old new)
-  safe_in_part law None k a = tt
-  safe_in_part law (Some bytes) k a = λ e f. told_some law bytes before now old new (replay_answers bytes ends.WriteFault k e f a)
+module _ (status : Status) (o : Option Command) (command : Command) (counts : Counts) (old new : Option (List ℕ))
+    (told tells : Option LinkState) (left : Option (List ℕ)) (said : o ≡ Some command)
+    (answers : IfSome left
+    (λ bytes. ByWords (Some command) told tells (λ coming. Answers status (output_of command coming bytes) counts old new))) where
+  -- what follows from the answer to a schedule follows by every road
+  as_replay : (left : Option (List ℕ)) (carried : Bool) (other : Status) (So : Road → List ℕ → Type 0) → o ≡ Some (Replay carried) →
+      status ≡ other →
+      IfSome left
+      (λ bytes. ByWords (Some command) told tells (λ coming. Answers status (output_of command coming bytes) counts old new)) →
+      ((road : Road) (bytes : List ℕ) → Answers other (replayed (outcome_on road bytes)) counts old new → So road bytes) →
+      IfSome left (λ bytes. ByRoads carried told tells (λ road. So road bytes))
+  as_replay None carried other So e f a turn = tt
+  as_replay (Some bytes) carried other So e f a turn =
+      let same : command ≡ Replay carried = cc in
+      carries_as carried
+      (subst (λ (x : Command). ByWords (Some x) told tells (λ coming. Answers status (output_of x coming bytes) counts old new)) same a)
+      (λ gave so later.
+      let road = road_with carried (gave ++ later) in
+      turn road bytes (subst (λ (x : Status). Answers x (replayed (outcome_on road bytes)) counts old new) f (so later)))
 
--- ---- breaches
+  pub safe_ends : ReportsAreSafe → (carried : Bool) → o ≡ Some (Replay carried) → status ≡ ends.Done →
+      IfSome left (λ bytes. ByRoads carried told tells (λ road. WroteSafely road bytes old new))
+  safe_ends law carried e f =
+      as_replay left carried ends.Done (λ road bytes. WroteSafely road bytes old new) e f answers
+      (λ road bytes t. told_safe road bytes old new law t)
 
-told_broken : BreaksAreReal → (bytes : List ℕ) (old new : Option (List ℕ)) →
-    Tells ends.Broken (replayed (schedules.outcome_of bytes)) old new → IsBrokenEnd bytes old new
-told_broken law bytes old new t = by (schedules.outcome_of bytes) refl t
-  where
-    by : (o : Result (List ℕ) ReplayFault) → schedules.outcome_of bytes ≡ o → Tells ends.Broken (replayed o) old new →
-        IsBrokenEnd bytes old new
-    by (Ok text) e t = absurd (let told = t.told in cc)
-    by (Err (fault.BadInput line reason)) e t = absurd (let told = t.told in cc)
-    by (Err (fault.Broken b)) e t = record { broken = b; leads = e; text = t.text; real = law Direct bytes b e }
-    by (Err (fault.Full messages size)) e t = absurd (let told = t.told in cc)
-    by (Err other) e t = absurd (let told = t.told in cc)
+  pub safe_in_part : ReportsAreSafe → (carried : Bool) → o ≡ Some (Replay carried) → status ≡ ends.WriteFault →
+      IfSome left (λ bytes. ByRoads carried told tells (λ road.
+      WroteSome (outcome_on road bytes) road bytes old new ⊎ TookFault counts old new))
+  safe_in_part law carried e f =
+      as_replay left carried ends.WriteFault (λ road bytes. WroteSome (outcome_on road bytes) road bytes old new ⊎ TookFault counts old new)
+      e f answers (λ road bytes t. told_some road bytes old new law counts t)
 
-pub broken_ends : BreaksAreReal → (left : Option (List ℕ)) (status : Status) (o : Option Command) (command : Command) (before now : ℕ)
-    (old new : Option (List ℕ)) → o ≡ Some command →
-    IfSome left (λ bytes. Answers status (output_of command bytes) before now old new) →
-    IfSome left (λ bytes. o ≡ Some Replay → status ≡ ends.Broken → IsBrokenEnd bytes old new)
-broken_ends law None status o command before now old new k a = tt
-broken_ends law (Some bytes) status o command before now old new k a = λ e f.
-    told_broken law bytes old new (replay_answers status o command before now old new bytes ends.Broken k e f a)
+  pub broken_ends : BreaksAreReal → (carried : Bool) → o ≡ Some (Replay carried) → status ≡ ends.Broken →
+      IfSome left (λ bytes. ByRoads carried told tells (λ road. IsBrokenEnd road bytes old new))
+  broken_ends law carried e f =
+      as_replay left carried ends.Broken (λ road bytes. IsBrokenEnd road bytes old new) e f answers
+      (λ road bytes t. told_broken road bytes old new law t)
 
--- ---- what a command answers, words answer
+-- ---- what a command answers to the words of `load`
 
-pub answers_for : (left : Option (List ℕ)) (status : Status) (o : Option Command) (command : Command) (before now : ℕ)
-    (old new : Option (List ℕ)) → o ≡ Some command →
-    IfSome left (λ bytes. Answers status (output_of command bytes) before now old new) →
-    IfSome left (λ bytes. Answers status (outcome_with o bytes) before now old new)
-answers_for left status o command before now old new e a =
-    subst (λ (x : Option Command). IfSome left (λ bytes. Answers status (outcome_with x bytes) before now old new)) (sym e) a
+module _ (status : Status) (o : Option Command) (command : Command) (counts : Counts) (old new : Option (List ℕ)) (said : o ≡ Some command)
+    (answers : reads command ≡ false → Answers status (output_of command [] []) counts old new) where
+  as_load : (size : LoadSize) (other : Status) → o ≡ Some (Load size) → status ≡ other →
+      Answers other (loaded (replay_of (load_text size))) counts old new
+  as_load size other e f =
+      let same : command ≡ Load size = cc in
+      subst (λ (x : Status). Answers x (loaded (replay_of (load_text size))) counts old new) f
+      (subst (λ (x : Command). reads x ≡ false → Answers status (output_of x [] []) counts old new) same answers refl)
+
+  pub load_ends : ReportsAreSafe → (size : LoadSize) → o ≡ Some (Load size) → status ≡ ends.Done → LoadedSafely size old new
+  load_ends law size e f = by (replay_of (load_text size)) refl (as_load size ends.Done e f)
+    where
+      by : (r : Result ReplayValue ReplayFault) → replay_of (load_text size) ≡ r → Tells ends.Done (loaded r) old new →
+          LoadedSafely size old new
+      by (Ok replay) e t = record {
+        replay = replay;
+        safe = law Direct (load_text size) (report replay) (ap (λ (x : Result ReplayValue ReplayFault). x >>= λ r. Ok (report r)) e);
+        replayed = e;
+        written = t.text;
+      }
+      by (Err (fault.BadInput line reason)) e t = absurd (let told = t.told in cc)
+      by (Err (fault.Broken b)) e t = absurd (let told = t.told in cc)
+      by (Err (fault.Full messages size)) e t = absurd (let told = t.told in cc)
+      by (Err other) e t = absurd (let told = t.told in cc)
+
+  pub load_breaks : BreaksAreReal → (size : LoadSize) → o ≡ Some (Load size) → status ≡ ends.Broken →
+      IsBrokenEnd Direct (load_text size) old new
+  load_breaks law size e f = by (replay_of (load_text size)) refl (as_load size ends.Broken e f)
+    where
+      leads : (b : Broken) → replay_of (load_text size) ≡ Err (fault.Broken b) →
+          outcome_on Direct (load_text size) ≡ Err (fault.Broken b)
+      leads b e = ap (λ (x : Result ReplayValue ReplayFault). x >>= λ r. Ok (report r)) e
+
+      by : (r : Result ReplayValue ReplayFault) → replay_of (load_text size) ≡ r → Tells ends.Broken (loaded r) old new →
+          IsBrokenEnd Direct (load_text size) old new
+      by (Ok replay) e t = absurd (let told = t.told in cc)
+      by (Err (fault.BadInput line reason)) e t = absurd (let told = t.told in cc)
+      by (Err (fault.Broken b)) e t = record {
+        broken = b;
+        leads = leads b e;
+        text = t.text;
+        real = law Direct (load_text size) b (leads b e);
+      }
+      by (Err (fault.Full messages size)) e t = absurd (let told = t.told in cc)
+      by (Err other) e t = absurd (let told = t.told in cc)

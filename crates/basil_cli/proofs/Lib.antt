@@ -4,3 +4,5 @@ pub mod Stopping
 pub mod Behind
 pub mod NeedLaws
 pub mod Ends
+pub mod Counts
+pub mod Wordings

@@ -5,7 +5,7 @@ use Rattle.std.specs.Prelude.{◌==◌, ◌||◌, nat_lt, nat_le, is_err}
 use Rattle.std.proofs.lemmas.Grind.{common_steps}
 use Rattle.basil_types.specs.Steps.{◌>>=◌}
 use Rattle.schedule_replay.specs.Lines.{later_reason}
-use Rattle.schedule_replay.specs.Outcomes.{outcome_of}
+use Rattle.schedule_replay.specs.Outcomes.{outcome_on}
 use Rattle.schedule_replay.specs.Reports.{report}
 use Rattle.schedule_replay.specs.Stages.{Stage, Begins, Opens, Runs, ended, read_line, run_lines, stage_step}
 use Rattle.schedule_replay.specs.declared.fault.ReplayFault.{ReplayFault}
@@ -16,7 +16,7 @@ use Rattle.schedule_text.specs.TextLines.{but_empty_last, lines_of}
 use Rattle.schedule_text.specs.declared.line.LineFault.TheVariants.{BadLine}
 use Rattle.basil_cli.specs.Reading.{ended_lines, has_newline, is_settled, open_line, pieces_of}
 use Rattle.basil_cli.proofs.LineEnds.{begun, grown, open_whole, pieces_ended, pieces_more, pieces_whole}
-use Rattle.schedule_replay.specs.Roads.{Direct}
+use Rattle.schedule_replay.specs.Roads.{Road}
 
 -- ---- lines, one after another
 
@@ -74,10 +74,10 @@ step_long (Runs r) line number h =
 Refused : Result Stage ReplayFault → (skipped : Bool) → ℕ → Result Stage ReplayFault
 Refused r skipped number = r >>= λ stage. Err (long_fault stage skipped number)
 
-run_long : (xs : List (List ℕ)) (line : List ℕ) (ys : List (List ℕ)) → longest_line < length line →
-    run_lines (xs ++ line ∷ ys) 1 (Begins Direct) ≡ Refused (run_lines xs 1 (Begins Direct)) (is_skipped line) (1 + length xs)
+run_long : (road : Road) (xs : List (List ℕ)) (line : List ℕ) (ys : List (List ℕ)) → longest_line < length line →
+    run_lines (xs ++ line ∷ ys) 1 (Begins road) ≡ Refused (run_lines xs 1 (Begins road)) (is_skipped line) (1 + length xs)
 unfolding Refused
-run_long xs line ys h = run_append xs (line ∷ ys) 1 (Begins Direct) ∙ by (run_lines xs 1 (Begins Direct))
+run_long road xs line ys h = run_append xs (line ∷ ys) 1 (Begins road) ∙ by (run_lines xs 1 (Begins road))
   where
     by : (r : Result Stage ReplayFault) →
         (r >>= run_lines (line ∷ ys) (1 + length xs)) ≡ (r >>= λ stage. Err (long_fault stage (is_skipped line) (1 + length xs)))
@@ -90,12 +90,12 @@ unfolding Refused
 refused_err (Ok stage) skipped number = refl
 refused_err (Err e) skipped number = refl
 
-pub no_long : (xs : List (List ℕ)) (line : List ℕ) (stage : Stage) → longest_line < length line →
-    run_lines (xs ++ line ∷ []) 1 (Begins Direct) ≡ Ok stage → ⊥
-no_long xs line stage h e =
-    let err : is_err (run_lines (xs ++ line ∷ []) 1 (Begins Direct)) ≡ true =
-    ap is_err (run_long xs line [] h) ∙ refused_err (run_lines xs 1 (Begins Direct)) (is_skipped line) (1 + length xs) in
-    let ok : is_err (run_lines (xs ++ line ∷ []) 1 (Begins Direct)) ≡ false = ap is_err e in
+pub no_long : (road : Road) (xs : List (List ℕ)) (line : List ℕ) (stage : Stage) → longest_line < length line →
+    run_lines (xs ++ line ∷ []) 1 (Begins road) ≡ Ok stage → ⊥
+no_long road xs line stage h e =
+    let err : is_err (run_lines (xs ++ line ∷ []) 1 (Begins road)) ≡ true =
+    ap is_err (run_long road xs line [] h) ∙ refused_err (run_lines xs 1 (Begins road)) (is_skipped line) (1 + length xs) in
+    let ok : is_err (run_lines (xs ++ line ∷ []) 1 (Begins road)) ≡ false = ap is_err e in
     absurd cc
 
 -- ---- the lines of a whole schedule
@@ -163,13 +163,13 @@ Outcome_of : Result Stage ReplayFault → Result (List ℕ) ReplayFault
 Outcome_of r = (r >>= ended) >>= λ r. Ok (report r)
 
 -- a line that ended and led to a fault decides
-pub faulty_outcome : (read more : List ℕ) (f : ReplayFault) → run_lines (ended_lines read) 1 (Begins Direct) ≡ Err f →
-    outcome_of (read ++ more) ≡ Err f
+pub faulty_outcome : (road : Road) (read more : List ℕ) (f : ReplayFault) → run_lines (ended_lines read) 1 (Begins road) ≡ Err f →
+    outcome_on road (read ++ more) ≡ Err f
 unfolding Outcome_of
-faulty_outcome read more f h =
+faulty_outcome road read more f h =
     let others = lines_of (open_line read ++ more) in
-    ap (λ (lines : List (List ℕ)). Outcome_of (run_lines lines 1 (Begins Direct))) (lines_more read more)
-    ∙ ap Outcome_of (run_append (ended_lines read) others 1 (Begins Direct))
+    ap (λ (lines : List (List ℕ)). Outcome_of (run_lines lines 1 (Begins road))) (lines_more read more)
+    ∙ ap Outcome_of (run_append (ended_lines read) others 1 (Begins road))
     ∙ ap (λ (r : Result Stage ReplayFault). Outcome_of (r >>= run_lines others (1 + length (ended_lines read)))) h
 
 skipped_alike : (w more : List ℕ) → 0 < length w → is_skipped (w ++ more) ≡ is_skipped w
@@ -177,9 +177,9 @@ skipped_alike [] more some = absurd (omega (arith, some))
 skipped_alike (b ∷ w) more some = refl
 
 -- so does an open line that is too long
-pub long_outcome : (read more : List ℕ) → longest_line < length (open_line read) → outcome_of (read ++ more) ≡ outcome_of (read ++ 10 ∷ [])
+pub long_outcome : (road : Road) (read more : List ℕ) → longest_line < length (open_line read) → outcome_on road (read ++ more) ≡ outcome_on road (read ++ 10 ∷ [])
 unfolding Outcome_of
-long_outcome read more h =
+long_outcome road read more h =
     let w = open_line read in
     let some : 0 < length (open_line read) = omega arith in
     let f = first_line (open_line read) more (open_whole read) some in
@@ -189,14 +189,14 @@ long_outcome read more h =
     let there : lines_of (read ++ 10 ∷ []) ≡ ended_lines read ++ open_line read ∷ [] =
     lines_more read (10 ∷ []) ∙ ap (λ (ls : List (List ℕ)). ended_lines read ++ ls) (one_ended (open_line read) (open_whole read)) in
     let number = 1 + length (ended_lines read) in
-    let one : run_lines (lines_of (read ++ more)) 1 (Begins Direct)
-    ≡ Refused (run_lines (ended_lines read) 1 (Begins Direct)) (is_skipped (open_line read ++ f.more)) number =
-    ap (λ (ls : List (List ℕ)). run_lines ls 1 (Begins Direct)) here ∙ run_long (ended_lines read) (open_line read ++ f.more) f.others longer in
-    let two : run_lines (lines_of (read ++ 10 ∷ [])) 1 (Begins Direct)
-    ≡ Refused (run_lines (ended_lines read) 1 (Begins Direct)) (is_skipped (open_line read)) number =
-    ap (λ (ls : List (List ℕ)). run_lines ls 1 (Begins Direct)) there ∙ run_long (ended_lines read) (open_line read) [] h in
+    let one : run_lines (lines_of (read ++ more)) 1 (Begins road)
+    ≡ Refused (run_lines (ended_lines read) 1 (Begins road)) (is_skipped (open_line read ++ f.more)) number =
+    ap (λ (ls : List (List ℕ)). run_lines ls 1 (Begins road)) here ∙ run_long road (ended_lines read) (open_line read ++ f.more) f.others longer in
+    let two : run_lines (lines_of (read ++ 10 ∷ [])) 1 (Begins road)
+    ≡ Refused (run_lines (ended_lines read) 1 (Begins road)) (is_skipped (open_line read)) number =
+    ap (λ (ls : List (List ℕ)). run_lines ls 1 (Begins road)) there ∙ run_long road (ended_lines read) (open_line read) [] h in
     ap Outcome_of one
-    ∙ ap (λ (b : Bool). Outcome_of (Refused (run_lines (ended_lines read) 1 (Begins Direct)) b number)) (skipped_alike (open_line read) f.more some)
+    ∙ ap (λ (b : Bool). Outcome_of (Refused (run_lines (ended_lines read) 1 (Begins road)) b number)) (skipped_alike (open_line read) f.more some)
     ∙ sym (ap Outcome_of two)
 
 -- ---- bytes that decide
@@ -212,57 +212,57 @@ or_either : (a b : Bool) → (a || b) ≡ true → (a ≡ true) ⊎ (b ≡ true)
 or_either true b e = inl refl
 or_either false b e = inr e
 
-settled_err : (read : List ℕ) → is_err (run_lines (ended_lines read) 1 (Begins Direct)) ≡ true → is_settled read ≡ true
-settled_err read h = or_left (is_err (run_lines (ended_lines read) 1 (Begins Direct))) (nat_lt longest_line (length (open_line read))) h
+settled_err : (road : Road) (read : List ℕ) → is_err (run_lines (ended_lines read) 1 (Begins road)) ≡ true → is_settled road read ≡ true
+settled_err road read h = or_left (is_err (run_lines (ended_lines read) 1 (Begins road))) (nat_lt longest_line (length (open_line read))) h
 
-pub settled_fault : (read : List ℕ) (f : ReplayFault) → run_lines (ended_lines read) 1 (Begins Direct) ≡ Err f → is_settled read ≡ true
-settled_fault read f h = settled_err read (ap is_err h)
+pub settled_fault : (road : Road) (read : List ℕ) (f : ReplayFault) → run_lines (ended_lines read) 1 (Begins road) ≡ Err f → is_settled road read ≡ true
+settled_fault road read f h = settled_err road read (ap is_err h)
 
-pub settled_long : (read : List ℕ) → longest_line < length (open_line read) → is_settled read ≡ true
-settled_long read h =
-    or_right (is_err (run_lines (ended_lines read) 1 (Begins Direct))) (nat_lt longest_line (length (open_line read)))
+pub settled_long : (road : Road) (read : List ℕ) → longest_line < length (open_line read) → is_settled road read ≡ true
+settled_long road read h =
+    or_right (is_err (run_lines (ended_lines read) 1 (Begins road))) (nat_lt longest_line (length (open_line read)))
     (lt-yes longest_line (length (open_line read)) h)
 
 still_err : (r : Result Stage ReplayFault) (f : Stage → Result Stage ReplayFault) → is_err r ≡ true → is_err (r >>= f) ≡ true
 still_err (Ok stage) f h = absurd cc
 still_err (Err e) f h = refl
 
-goes_err : (read : List ℕ) (lines : List (List ℕ)) (more : List ℕ) → ended_lines (read ++ more) ≡ ended_lines read ++ lines →
-    is_err (run_lines (ended_lines read) 1 (Begins Direct)) ≡ true → is_err (run_lines (ended_lines (read ++ more)) 1 (Begins Direct)) ≡ true
-goes_err read lines more e h =
-    ap (λ (ls : List (List ℕ)). is_err (run_lines ls 1 (Begins Direct))) e
-    ∙ ap is_err (run_append (ended_lines read) lines 1 (Begins Direct))
-    ∙ still_err (run_lines (ended_lines read) 1 (Begins Direct)) (run_lines lines (1 + length (ended_lines read))) h
+goes_err : (road : Road) (read : List ℕ) (lines : List (List ℕ)) (more : List ℕ) → ended_lines (read ++ more) ≡ ended_lines read ++ lines →
+    is_err (run_lines (ended_lines read) 1 (Begins road)) ≡ true → is_err (run_lines (ended_lines (read ++ more)) 1 (Begins road)) ≡ true
+goes_err road read lines more e h =
+    ap (λ (ls : List (List ℕ)). is_err (run_lines ls 1 (Begins road))) e
+    ∙ ap is_err (run_append (ended_lines read) lines 1 (Begins road))
+    ∙ still_err (run_lines (ended_lines read) 1 (Begins road)) (run_lines lines (1 + length (ended_lines read))) h
 
 -- what decides does so whatever follows
-pub settled_more : (read more : List ℕ) → is_settled read ≡ true → is_settled (read ++ more) ≡ true
-settled_more read more h =
+pub settled_more : (road : Road) (read more : List ℕ) → is_settled road read ≡ true → is_settled road (read ++ more) ≡ true
+settled_more road read more h =
     let g = grown read more in
-    by g.some g.others g.is (or_either (is_err (run_lines (ended_lines read) 1 (Begins Direct))) (nat_lt longest_line (length (open_line read))) h)
+    by g.some g.others g.is (or_either (is_err (run_lines (ended_lines read) 1 (Begins road))) (nat_lt longest_line (length (open_line read))) h)
   where
     by : (some : List ℕ) (others : List (List ℕ)) →
         ((ended_lines (read ++ more) ≡ ended_lines read) × (open_line (read ++ more) ≡ open_line read ++ some))
         ⊎ (ended_lines (read ++ more) ≡ ended_lines read ++ (open_line read ++ some) ∷ others) →
-        (is_err (run_lines (ended_lines read) 1 (Begins Direct)) ≡ true) ⊎ (nat_lt longest_line (length (open_line read)) ≡ true) →
-        is_settled (read ++ more) ≡ true
+        (is_err (run_lines (ended_lines read) 1 (Begins road)) ≡ true) ⊎ (nat_lt longest_line (length (open_line read)) ≡ true) →
+        is_settled road (read ++ more) ≡ true
     by some others (inl same) (inl err) =
-        settled_err (read ++ more) (ap (λ (ls : List (List ℕ)). is_err (run_lines ls 1 (Begins Direct))) same.0 ∙ err)
+        settled_err road (read ++ more) (ap (λ (ls : List (List ℕ)). is_err (run_lines ls 1 (Begins road))) same.0 ∙ err)
     by some others (inl same) (inr long) =
         let l : longest_line < length (open_line read) = lt-of longest_line (length (open_line read)) long in
         let longer : longest_line < length (open_line read ++ some) = grind (arith, common_steps) in
-        settled_long (read ++ more) (subst (λ (line : List ℕ). longest_line < length line) (sym same.1) longer)
+        settled_long road (read ++ more) (subst (λ (line : List ℕ). longest_line < length line) (sym same.1) longer)
     by some others (inr e) (inl err) =
-        settled_err (read ++ more) (goes_err read ((open_line read ++ some) ∷ others) more e err)
+        settled_err road (read ++ more) (goes_err road read ((open_line read ++ some) ∷ others) more e err)
     by some others (inr e) (inr long) =
         let l : longest_line < length (open_line read) = lt-of longest_line (length (open_line read)) long in
         let longer : longest_line < length (open_line read ++ some) = grind (arith, common_steps) in
-        settled_err (read ++ more)
-        (ap (λ (ls : List (List ℕ)). is_err (run_lines ls 1 (Begins Direct))) e
-        ∙ ap is_err (run_long (ended_lines read) (open_line read ++ some) others longer)
-        ∙ refused_err (run_lines (ended_lines read) 1 (Begins Direct)) (is_skipped (open_line read ++ some)) (1 + length (ended_lines read)))
+        settled_err road (read ++ more)
+        (ap (λ (ls : List (List ℕ)). is_err (run_lines ls 1 (Begins road))) e
+        ∙ ap is_err (run_long road (ended_lines read) (open_line read ++ some) others longer)
+        ∙ refused_err (run_lines (ended_lines read) 1 (Begins road)) (is_skipped (open_line read ++ some)) (1 + length (ended_lines read)))
 
-pub unsettled : (read : List ℕ) (stage : Stage) → run_lines (ended_lines read) 1 (Begins Direct) ≡ Ok stage →
-    length (open_line read) ≤ longest_line → is_settled read ≡ false
-unsettled read stage e l =
+pub unsettled : (road : Road) (read : List ℕ) (stage : Stage) → run_lines (ended_lines read) 1 (Begins road) ≡ Ok stage →
+    length (open_line read) ≤ longest_line → is_settled road read ≡ false
+unsettled road read stage e l =
     let short : nat_lt longest_line (length (open_line read)) ≡ false = grind (arith, common_steps) in
     ap (λ (r : Result Stage ReplayFault). is_err r || nat_lt longest_line (length (open_line read))) e ∙ short

@@ -9,6 +9,7 @@ use Rattle.std.proofs.lemmas.List.{append_cancel_right, length-append, length-ta
 use Rattle.basil_cli.specs.Outcome.{longest_input, is_too_long}
 use Rattle.basil_cli.specs.Reading.{IsReadThrough, StopsSoon, StopsSoonFor, is_enough, is_settled, longest_piece}
 use Rattle.basil_cli.specs.declared.command.Command.{Command}
+use Rattle.schedule_replay.specs.Roads.{Road}
 use Rattle.basil_cli.proofs.Settling.{settled_more}
 
 -- no front of the bytes decides
@@ -16,9 +17,9 @@ abbrev pub NotYet : (List ℕ → Bool) → List ℕ → Type 0
 NotYet enough before = (decided more : List ℕ) → before ≡ decided ++ more → enough decided ≡ true → ⊥
 
 -- bytes that don't decide have no front that does
-pub not_settled : (read : List ℕ) → is_settled read ≡ false → NotYet is_settled read
-not_settled read e decided more is h =
-    let all : is_settled read ≡ true = ap is_settled is ∙ settled_more decided more h in
+pub not_settled : (road : Road) (read : List ℕ) → is_settled road read ≡ false → NotYet (is_settled road) read
+not_settled road read e decided more is h =
+    let all : is_settled road read ≡ true = ap (is_settled road) is ∙ settled_more road decided more h in
     absurd cc
 
 lt-of : (m n : ℕ) → nat_lt m n ≡ true → m < n
@@ -86,6 +87,9 @@ keeps : (known : Option (List ℕ)) → Keeps known known
 keeps None = tt
 keeps (Some xs) = refl
 
+pub nothing_read : (known : Option (List ℕ)) → Consumes known known []
+nothing_read known = kept known known (keeps known)
+
 -- or a read failed
 pub stops_failed : (enough : List ℕ → Bool) (old mid new : Option (List ℕ)) (before : List ℕ) → NotYet enough before
     → Consumes old mid before → Keeps mid new → IfSome old (λ bytes. StopsSoon enough bytes new)
@@ -107,10 +111,14 @@ untaken enough (Some bytes) = record {
       omega (arith, sizes, ap length same);
 }
 
-pub untaken_for : (command : Option Command) (left : Option (List ℕ)) → IfSome left (λ bytes. StopsSoonFor command bytes left)
-untaken_for command None = tt
-untaken_for None (Some bytes) = tt
-untaken_for (Some command) (Some bytes) = untaken (is_enough command) (Some bytes)
+pub untaken_all : (command : Command) (left : Option (List ℕ)) →
+    IfSome left (λ bytes. (coming : List (List ℕ)) → StopsSoon (is_enough command coming) bytes left)
+untaken_all command None = tt
+untaken_all command (Some bytes) = λ coming. untaken (is_enough command coming) (Some bytes)
+
+pub untaken_for : (command : Option Command) (coming : List (List ℕ)) (bytes : List ℕ) → StopsSoonFor command coming bytes (Some bytes)
+untaken_for None coming bytes = tt
+untaken_for (Some command) coming bytes = untaken (is_enough command coming) (Some bytes)
 
 -- ---- how far was read
 

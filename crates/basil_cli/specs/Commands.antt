@@ -4,12 +4,13 @@ use Rattle.std.specs.Str.{bytes_eq}
 use Rattle.lms_sign.specs.Sets.{leaves_of}
 use Rattle.lms_sign.specs.declared.sets.LmsSet.{LmsSet}
 use Rattle.lms_sign.specs.declared.sets.LmsSet.TheVariants.{W4H5, W4H10, W8H5, W8H10}
-use Rattle.schedule_text.specs.Fields.{hex, number}
+use Rattle.schedule_text.specs.Fields.{hex, number, number_in}
 use Rattle.schedule_text.specs.Words.{Word}
 use Rattle.schedule_text.specs.declared.complaint.Complaint.{Complaint}
 use Rattle.basil_cli.specs.declared.command.Command.{Command}
-use Rattle.basil_cli.specs.declared.command.Command.TheVariants.{Replay, Keys, Sign, Verify, Check, Audit}
+use Rattle.basil_cli.specs.declared.command.Command.TheVariants.{Replay, Generate, Load, Keys, Sign, Verify, Check, Audit}
 use Rattle.basil_cli.specs.declared.command.KeyMaterial.{KeyMaterial}
+use Rattle.basil_cli.specs.declared.command.LoadSize.{LoadSize}
 
 -- what a word says, whatever is wrong with another
 abbrev pub said : {A : Type 0} → Result A Complaint → Option A
@@ -59,10 +60,29 @@ verify_with None signature = None
 verify_with (Some public) None = None
 verify_with (Some public) (Some signature) = Some (Verify public signature)
 
--- `replay`
-abbrev pub replay_of : List Word → Option Command
-replay_of [] = Some Replay
-replay_of (word ∷ words) = None
+-- `replay`, and `loopback`, where links carry each delivery
+abbrev pub replay_of : (carried : Bool) → List Word → Option Command
+replay_of carried [] = Some (Replay carried)
+replay_of carried (word ∷ words) = None
+
+-- N and COUNT: a number, and 1 to 2,000 transactions
+abbrev pub size_with : Option ℕ → Option ℕ → Option LoadSize
+size_with None count = None
+size_with (Some seed) None = None
+size_with (Some seed) (Some count) = Some (record { seed = seed; count = count })
+
+abbrev pub size_of : Word → Word → Option LoadSize
+size_of seed count = size_with (said (number seed)) (said (number_in 1 2000 count))
+
+-- `generate N COUNT`
+abbrev pub generate_of : List Word → Option Command
+generate_of (seed ∷ count ∷ []) = option_map Generate (size_of seed count)
+generate_of _ = None
+
+-- `load N COUNT`
+abbrev pub load_of : List Word → Option Command
+load_of (seed ∷ count ∷ []) = option_map Load (size_of seed count)
+load_of _ = None
 
 -- `keys SET SEED IDENT`
 abbrev pub keys_of : List Word → Option Command
@@ -92,7 +112,10 @@ audit_of (word ∷ words) = None
 abbrev pub command_of : List Word → Option Command
 command_of [] = None
 command_of (name ∷ words) =
-    if bytes_eq name (codes "replay") then replay_of words
+    if bytes_eq name (codes "replay") then replay_of false words
+    else if bytes_eq name (codes "loopback") then replay_of true words
+    else if bytes_eq name (codes "generate") then generate_of words
+    else if bytes_eq name (codes "load") then load_of words
     else if bytes_eq name (codes "keys") then keys_of words
     else if bytes_eq name (codes "sign") then sign_of words
     else if bytes_eq name (codes "verify") then verify_of words
@@ -102,7 +125,9 @@ command_of (name ∷ words) =
 
 -- whether a command has an input
 abbrev pub reads : Command → Bool
-reads Replay = true
+reads (Replay carried) = true
+reads (Generate size) = false
+reads (Load size) = false
 reads (Keys m) = false
 reads (Sign m leaf) = true
 reads (Verify public signature) = true
@@ -114,9 +139,38 @@ abbrev pub words_read : Option Command → Bool
 words_read None = false
 words_read (Some command) = reads command
 
+-- whether a command runs the schedule that it reads
+abbrev pub runs : Command → Bool
+runs (Replay carried) = true
+runs (Generate size) = false
+runs (Load size) = false
+runs (Keys m) = false
+runs (Sign m leaf) = false
+runs (Verify public signature) = false
+runs Check = false
+runs Audit = false
+
+-- whether links carry a command's deliveries
+abbrev pub is_carried : Command → Bool
+is_carried (Replay carried) = carried
+is_carried (Generate size) = false
+is_carried (Load size) = false
+is_carried (Keys m) = false
+is_carried (Sign m leaf) = false
+is_carried (Verify public signature) = false
+is_carried Check = false
+is_carried Audit = false
+
+-- whether words are a command whose deliveries links carry
+abbrev pub words_carried : Option Command → Bool
+words_carried None = false
+words_carried (Some command) = is_carried command
+
 -- a command that signs names a leaf of its tree
 abbrev pub HasLeaf : Command → Type 0
-HasLeaf Replay = ⊤
+HasLeaf (Replay carried) = ⊤
+HasLeaf (Generate size) = ⊤
+HasLeaf (Load size) = ⊤
 HasLeaf (Keys m) = ⊤
 HasLeaf (Sign m leaf) = leaf < leaves_of m.set
 HasLeaf (Verify public signature) = ⊤

@@ -8,3 +8,4 @@ pub mod Answers
 pub mod Reading
 pub mod Parts
 pub mod Behind
+pub mod Linked

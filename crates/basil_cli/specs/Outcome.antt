@@ -46,6 +46,9 @@ text_of TooLong = codes "too long 16777216" ++ 10 ∷ []
 abbrev pub read_fault_text : List ℕ
 read_fault_text = codes "read fault" ++ 10 ∷ []
 
+abbrev pub link_fault_text : List ℕ
+link_fault_text = codes "link fault" ++ 10 ∷ []
+
 -- the most bytes of an input that is read whole
 abbrev pub longest_input : ℕ
 longest_input = 16777216

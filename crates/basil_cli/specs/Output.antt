@@ -1,9 +1,13 @@
--- What the words and the bytes of the source lead to.
+-- What the words, the bytes of the source, and what links give, lead to.
 use Rattle.std.specs.Prelude.{ℕ, List, [], ◌∷◌, ◌++◌, codes, Option, Some, None, Result, Ok, Err}
 use Rattle.audit_text.specs.Findings.{finding_of}
 use Rattle.audit_text.specs.declared.finding.Finding.{Finding}
 use Rattle.audit_text.specs.declared.finding.Finding.TheVariants as finding
-use Rattle.schedule_replay.specs.Outcomes as schedules
+use Rattle.load_maker.specs.Loads.{text_of_load}
+use Rattle.schedule_replay.specs.Outcomes.{outcome_on, replay_of}
+use Rattle.schedule_replay.specs.Replays.{ReplayValue}
+use Rattle.schedule_replay.specs.Roads.{road_with}
+use Rattle.schedule_replay.specs.Totals.{totals}
 use Rattle.schedule_replay.specs.declared.fault.ReplayFault.{ReplayFault}
 use Rattle.schedule_replay.specs.declared.fault.ReplayFault.TheVariants as fault
 use Rattle.basil_cli.specs.Checking.{checked}
@@ -11,7 +15,8 @@ use Rattle.basil_cli.specs.Commands.{command_of}
 use Rattle.basil_cli.specs.Outcome.{Outcome, Usage, BadLine, Written, Broken, Full, Stray, unless_too_long}
 use Rattle.basil_cli.specs.Signatures.{keys_made, signed, verified}
 use Rattle.basil_cli.specs.declared.command.Command.{Command}
-use Rattle.basil_cli.specs.declared.command.Command.TheVariants.{Replay, Keys, Sign, Verify, Check, Audit}
+use Rattle.basil_cli.specs.declared.command.LoadSize.{LoadSize}
+use Rattle.basil_cli.specs.declared.command.Command.TheVariants.{Replay, Generate, Load, Keys, Sign, Verify, Check, Audit}
 
 -- a schedule leads to its report, or to one of three faults; to the others none leads
 abbrev pub replayed : Result (List ℕ) ReplayFault → Outcome
@@ -21,22 +26,34 @@ replayed (Err (fault.Broken broken)) = Broken broken
 replayed (Err (fault.Full messages bytes)) = Full messages bytes
 replayed (Err other) = Usage
 
+-- the schedule of a number and a count of transactions
+abbrev pub load_text : LoadSize → List ℕ
+load_text size = text_of_load size.seed size.count
+
+-- a schedule's run leads to its totals, or to a fault as above
+abbrev pub loaded : Result ReplayValue ReplayFault → Outcome
+loaded (Ok r) = Written (totals r)
+loaded (Err f) = replayed (Err f)
+
 abbrev pub audited : Finding → Outcome
 audited (finding.BadLine line reason) = BadLine line reason
 audited finding.Serial = Written (codes "serial" ++ 10 ∷ [])
 audited (finding.Stray line) = Stray line
 
-abbrev pub output_of : Command → List ℕ → Outcome
-output_of Replay bytes = replayed (schedules.outcome_of bytes)
-output_of (Keys material) bytes = keys_made material
-output_of (Sign material leaf) bytes = unless_too_long bytes (signed material leaf bytes)
-output_of (Verify public signature) bytes = unless_too_long bytes (verified public signature bytes)
-output_of Check bytes = unless_too_long bytes (checked bytes)
-output_of Audit bytes = unless_too_long bytes (audited (finding_of bytes))
+-- where links carry deliveries, these are what they give, one for each
+abbrev pub output_of : Command → (coming : List (List ℕ)) → (bytes : List ℕ) → Outcome
+output_of (Replay carried) coming bytes = replayed (outcome_on (road_with carried coming) bytes)
+output_of (Generate size) coming bytes = Written (load_text size)
+output_of (Load size) coming bytes = loaded (replay_of (load_text size))
+output_of (Keys material) coming bytes = keys_made material
+output_of (Sign material leaf) coming bytes = unless_too_long bytes (signed material leaf bytes)
+output_of (Verify public signature) coming bytes = unless_too_long bytes (verified public signature bytes)
+output_of Check coming bytes = unless_too_long bytes (checked bytes)
+output_of Audit coming bytes = unless_too_long bytes (audited (finding_of bytes))
 
-abbrev pub outcome_with : Option Command → List ℕ → Outcome
-outcome_with None bytes = Usage
-outcome_with (Some command) bytes = output_of command bytes
+abbrev pub outcome_with : Option Command → (coming : List (List ℕ)) → (bytes : List ℕ) → Outcome
+outcome_with None coming bytes = Usage
+outcome_with (Some command) coming bytes = output_of command coming bytes
 
-abbrev pub outcome_of : List (List ℕ) → List ℕ → Outcome
-outcome_of words bytes = outcome_with (command_of words) bytes
+abbrev pub outcome_of : List (List ℕ) → (coming : List (List ℕ)) → (bytes : List ℕ) → Outcome
+outcome_of words coming bytes = outcome_with (command_of words) coming bytes

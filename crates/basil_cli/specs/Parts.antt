@@ -1,9 +1,11 @@
 -- What the parts of the code answer, beside the definitions.
-use Rattle.std.specs.Prelude.{◌≡◌, ◌<◌, ◌≤◌, ℕ, length, List, Result, Ok, Err, ⊤}
+use Rattle.std.specs.Prelude.{◌≡◌, ◌<◌, ◌≤◌, ℕ, length, List, Bool, true, false, Result, Ok, Err, ⊤}
 use Rattle.frame_views.specs.Shown.{writeback_of}
 use Rattle.frame_views.specs.Values.{WritebackValue}
 use Rattle.frame_views.specs.declared.frames.views.WritebackView.{WritebackView}
 use Rattle.basil_cli.specs.Outcome.{Outcome, BadLine, Written, Broken, Refused, Stray, Full, TooLong, longest_input}
+use Rattle.basil_cli.specs.declared.input.InputFail.{InputFail}
+use Rattle.basil_cli.specs.declared.input.InputFail.TheVariants as input
 use Rattle.basil_cli.specs.declared.input.Whole.{Whole}
 use Rattle.basil_cli.specs.declared.input.Whole.TheVariants as whole
 use Rattle.basil_cli.specs.declared.ending.Ending.{Ending}
@@ -17,6 +19,11 @@ outcome_is (ending.Refused reason) = Refused reason
 outcome_is (ending.Stray line) = Stray line
 outcome_is (ending.Full messages bytes) = Full messages bytes
 outcome_is ending.TooLong = TooLong
+
+-- whether a link failed
+abbrev pub is_link_fail : {A : Type 0} → Result A InputFail → Bool
+is_link_fail (Err input.Link) = true
+is_link_fail result = false
 
 -- an input that was read whole has these bytes; one that is too long has more than are read whole
 abbrev pub IsWhole : Whole → List ℕ → Type 0

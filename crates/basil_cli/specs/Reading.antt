@@ -6,8 +6,8 @@ use Rattle.schedule_replay.specs.Stages.{Begins, run_lines}
 use Rattle.schedule_text.specs.Limits.{longest_line}
 use Rattle.basil_cli.specs.Outcome.{is_too_long}
 use Rattle.basil_cli.specs.declared.command.Command.{Command}
-use Rattle.basil_cli.specs.declared.command.Command.TheVariants.{Replay, Keys, Sign, Verify, Check, Audit}
-use Rattle.schedule_replay.specs.Roads.{Direct}
+use Rattle.basil_cli.specs.declared.command.Command.TheVariants.{Replay, Generate, Load, Keys, Sign, Verify, Check, Audit}
+use Rattle.schedule_replay.specs.Roads.{Road, road_with}
 
 -- ---- the lines of bytes
 
@@ -29,20 +29,22 @@ open_line bytes = slice_index_or (pieces_of bytes) (length (pieces_of bytes) - 1
 
 -- ---- which bytes decide
 
--- whether no byte behind these changes what a schedule leads to: a line that ended leads to a fault, or the open one is
--- too long
-abbrev pub is_settled : List ℕ → Bool
-is_settled bytes =
-    is_err (run_lines (ended_lines bytes) 1 (Begins Direct)) || nat_lt longest_line (length (open_line bytes))
+-- whether no byte behind these changes what a schedule leads to by this road: a line that ended leads to a fault, or the
+-- open one is too long
+abbrev pub is_settled : Road → (bytes : List ℕ) → Bool
+is_settled road bytes =
+    is_err (run_lines (ended_lines bytes) 1 (Begins road)) || nat_lt longest_line (length (open_line bytes))
 
--- whether these bytes decide for a command, whatever follows
-abbrev pub is_enough : Command → List ℕ → Bool
-is_enough Replay = is_settled
-is_enough (Keys m) = is_too_long
-is_enough (Sign m leaf) = is_too_long
-is_enough (Verify public signature) = is_too_long
-is_enough Check = is_too_long
-is_enough Audit = is_too_long
+-- whether these bytes decide for a command, whatever follows, where links give these
+abbrev pub is_enough : Command → (coming : List (List ℕ)) → (bytes : List ℕ) → Bool
+is_enough (Replay carried) coming = is_settled (road_with carried coming)
+is_enough (Generate size) coming = is_too_long
+is_enough (Load size) coming = is_too_long
+is_enough (Keys m) coming = is_too_long
+is_enough (Sign m leaf) coming = is_too_long
+is_enough (Verify public signature) coming = is_too_long
+is_enough Check coming = is_too_long
+is_enough Audit coming = is_too_long
 
 -- of the bytes these were read: all, or enough of them
 pub record IsRead (enough : List ℕ → Bool) (bytes read : List ℕ) (left : Option (List ℕ)) : Type 0 where
@@ -66,10 +68,10 @@ pub record StopsSoon (enough : List ℕ → Bool) (bytes : List ℕ) (left : Opt
       enough decided ≡ true → length beyond < longest_piece
 
 -- both for words that are a command
-abbrev pub IsReadFor : Option Command → List ℕ → Option (List ℕ) → Type 0
-IsReadFor None bytes left = ⊤
-IsReadFor (Some command) bytes left = IsReadThrough (is_enough command) bytes left
+abbrev pub IsReadFor : Option Command → (coming : List (List ℕ)) → (bytes : List ℕ) → Option (List ℕ) → Type 0
+IsReadFor None coming bytes left = ⊤
+IsReadFor (Some command) coming bytes left = IsReadThrough (is_enough command coming) bytes left
 
-abbrev pub StopsSoonFor : Option Command → List ℕ → Option (List ℕ) → Type 0
-StopsSoonFor None bytes left = ⊤
-StopsSoonFor (Some command) bytes left = StopsSoon (is_enough command) bytes left
+abbrev pub StopsSoonFor : Option Command → (coming : List (List ℕ)) → (bytes : List ℕ) → Option (List ℕ) → Type 0
+StopsSoonFor None coming bytes left = ⊤
+StopsSoonFor (Some command) coming bytes left = StopsSoon (is_enough command coming) bytes left

@@ -1,16 +1,16 @@
 //! The commands, read from words.
 
 ghost use Rattle.std.specs.Prelude.{◌≡◌, ◌<◌, ◌≤◌, IfOk, IfSome, map, string_bytes};
-ghost use Rattle.schedule_text.specs.Fields.{hex};
+ghost use Rattle.schedule_text.specs.Fields.{hex, number_in};
 ghost use Rattle.lms_sign.specs.Sets.{leaves_of};
 ghost use Rattle.basil_cli.specs.Commands as commands;
-ghost use Rattle.basil_cli.specs.Commands.{said, hex_of, material_of, leaf_of, command_of, replay_of, keys_of, sign_of, verify_of, check_of, audit_of, HasLeaf};
+ghost use Rattle.basil_cli.specs.Commands.{said, hex_of, material_of, leaf_of, command_of, replay_of, generate_of, load_of, size_of, keys_of, sign_of, verify_of, check_of, audit_of, HasLeaf};
 
 use basil_types::bytes::Bytes;
 use basil_types::memory::NoMemory;
 use lms_sign::LmsSet;
 use schedule_text::fields::frames;
-use schedule_text::fields::numbers::read_number;
+use schedule_text::fields::numbers::{read_number, read_number_in};
 use std::alloc::Global;
 
 /// What an LMS key is made of: a parameter set, and the SEED and the identifier I of RFC 8554.
@@ -21,11 +21,23 @@ pub(crate) struct KeyMaterial {
     pub ident: [u8; 16],
 }
 
+/// What a load is made of: a number, and how many transactions, 1 to 2,000.
+#[derive(Clone, Copy)]
+pub(crate) struct LoadSize {
+    pub seed: u64,
+    pub count: u32,
+}
+
 /// What the program is asked to do.
 #[derive(Drop)]
 pub(crate) enum Command {
-    /// The report of a schedule.
-    Replay,
+    /// The report of a schedule. Where deliveries are carried, each node is handed what links give for a message, else
+    /// the message's own bytes.
+    Replay { carried: bool },
+    /// The schedule of a load.
+    Generate { size: LoadSize },
+    /// What becomes of the transactions of a load.
+    Load { size: LoadSize },
     /// The public key of a key.
     Keys { material: KeyMaterial },
     /// The signature of the input with a leaf, from 0.
@@ -123,14 +135,55 @@ fn read_leaf(set: LmsSet, word: &str) -> Option<u32>
     }
 }
 
-/// `replay`
-fn read_replay(words: &[String]) -> Option<Command>
-    ensures { result ≡ replay_of (map string_bytes words.now) }
+/// `replay`, and `loopback`, where links carry each delivery
+fn read_replay(carried: bool, words: &[String]) -> Option<Command>
+    ensures { result ≡ replay_of carried (map string_bytes words.now) }
 {
     match words {
-        [] => Some(Command::Replay),
+        [] => Some(Command::Replay { carried }),
         _ => None,
     }
+}
+
+/// COUNT: 1 to 2,000.
+fn read_count(word: &str) -> Option<u32>
+    ensures { result ≡ said (number_in 1 2000 word.now) }
+{
+    match read_number_in(word.as_bytes(), 1, 2000) {
+        Ok(count) => Some(count as u32),
+        Err(_) => None,
+    }
+}
+
+/// `N COUNT`
+fn read_size(seed: &str, count: &str) -> Option<LoadSize>
+    ensures { result ≡ size_of seed.now count.now }
+{
+    let seed = read_number(seed.as_bytes()).ok()?;
+    let count = read_count(count)?;
+    Some(LoadSize { seed, count })
+}
+
+/// `generate N COUNT`
+fn read_generate(words: &[String]) -> Option<Command>
+    ensures { result ≡ generate_of (map string_bytes words.now) }
+{
+    let [seed, count] = words else {
+        return None;
+    };
+    let size = read_size(seed.as_str(), count.as_str())?;
+    Some(Command::Generate { size })
+}
+
+/// `load N COUNT`
+fn read_load(words: &[String]) -> Option<Command>
+    ensures { result ≡ load_of (map string_bytes words.now) }
+{
+    let [seed, count] = words else {
+        return None;
+    };
+    let size = read_size(seed.as_str(), count.as_str())?;
+    Some(Command::Load { size })
 }
 
 /// `keys SET SEED IDENT`
@@ -208,7 +261,10 @@ pub(crate) fn read_command(alloc: Global, words: &[String]) -> Result<Option<Com
         return Ok(None);
     };
     match name.as_str() {
-        "replay" => Ok(read_replay(words)),
+        "replay" => Ok(read_replay(false, words)),
+        "loopback" => Ok(read_replay(true, words)),
+        "generate" => Ok(read_generate(words)),
+        "load" => Ok(read_load(words)),
         "keys" => read_keys(alloc, words),
         "sign" => read_sign(alloc, words),
         "verify" => read_verify(alloc, words),

@@ -17,11 +17,13 @@ const LONGEST_INPUT: usize = 16_777_216;
 /// The most bytes that are read at once.
 pub(crate) const PIECE: usize = 4096;
 
-/// Why a source was not read to its end.
+/// Why an input came to nothing.
 #[derive(Clone, Copy)]
 pub(crate) enum InputFail {
     /// The source failed.
     Failed,
+    /// A link failed.
+    Link,
     /// Memory is wanting.
     NoMemory,
 }
@@ -55,6 +57,7 @@ pub(crate) fn read_whole<S: Source>(alloc: Global, source: &mut S) -> Result<Who
     ensures soon { IfSome (S.left source.old) (λ bytes. StopsSoon is_too_long bytes (S.left source.new)) }
     ensures failed { IsErrOf result InputFail.Failed → Rose (S.faults source.old) (S.faults source.new) }
     ensures told { S.faults source.old < S.faults source.new → IsErrOf result InputFail.Failed }
+    ensures unlinked { IsErrOf result InputFail.Link → ⊥ }
 {
     let mut all = Vec::new(alloc);
     let mut buf = [0u8; PIECE];

@@ -1,21 +1,27 @@
 //! A schedule is run as it is read, line by line.
 
-ghost use Rattle.std.specs.Prelude.{◌≡◌, ◌≢◌, ◌<◌, ℕ, List, ◌++◌, ◌∷◌, [], false, IfOk, IfSome, MatchOption, length, position, ◌==◌};
+ghost use Rattle.std.specs.Prelude.{◌≡◌, ◌<◌, ℕ, Bool, List, ◌++◌, ◌∷◌, [], false, IfErr, IfOk, IfSome, MatchOption, length, position, ◌==◌};
 ghost use Rattle.std.specs.Result.{IsErrOf};
 ghost use Rattle.basil_types.specs.Causes.{Rose};
-ghost use Rattle.schedule_replay.specs.Outcomes.{replay_of};
+ghost use Rattle.schedule_replay.specs.Outcomes.{outcome_on, replay_of, replay_on};
+ghost use Rattle.schedule_replay.specs.Roads.{Carries, Uses, road_with};
 ghost use Rattle.schedule_replay.specs.Schedules.{Ends};
-ghost use Rattle.basil_cli.specs.Behind.{CanEnd, IsBehind, IsCut, IsOn, Reads};
-ghost use Rattle.basil_cli.specs.Output.{output_of, replayed};
-ghost use Rattle.basil_cli.specs.Parts.{outcome_is};
+ghost use Rattle.schedule_replay.specs.Shown.{is_link_fault, is_of_link};
+ghost use Rattle.basil_cli.specs.Behind.{CanDecide, CanEnd, Closes, HasRead, IsCut, IsOn, ReadsOn};
+ghost use Rattle.basil_cli.specs.Linked.{ByRoads};
+ghost use Rattle.basil_cli.specs.Outcome.{Written};
+ghost use Rattle.basil_cli.specs.Output.{load_text, loaded, replayed};
+ghost use Rattle.basil_cli.specs.Parts.{is_link_fail, outcome_is};
 ghost use Rattle.basil_cli.specs.Reading.{IsReadThrough, StopsSoon, has_newline, is_settled};
-ghost use Rattle.basil_cli.specs.declared.command.Command.{Command};
 
+use crate::command::LoadSize;
 use crate::ending::Ending;
 use crate::input::{InputFail, PIECE};
 use basil_types::bytes::Bytes;
-use basil_types::links::Links;
+use basil_types::links::{Links, SureLinks};
+use basil_types::memory::NoMemory;
 use basil_types::source::Source;
+use load_maker::load::schedule_of;
 use schedule_replay::fault::ReplayFault;
 use schedule_replay::replay::Replay;
 use schedule_replay::stages::Schedule;
@@ -56,7 +62,7 @@ fn ended_line(bytes: &[u8]) -> Option<(&[u8], &[u8])>
 impl Reading {
     /// No byte was read.
     fn new(alloc: Global) -> Reading
-        ensures { IsBehind result [] }
+        ensures { (carried : Bool) → HasRead carried result [] [] }
     {
         Reading {
             alloc,
@@ -67,11 +73,18 @@ impl Reading {
     }
 
     /// The line ends with these bytes, and is run.
-    fn end_line<L: Links>(self, last: &[u8], links: &mut L) -> Result<Reading, ReplayFault>
-        requires on { IsOn self }
+    fn end_line<L: Links>(
+        self,
+        last: &[u8],
+        links: &mut L,
+        carried: bool,
+    ) -> Result<Reading, ReplayFault>
+        requires on { IsOn carried self }
         requires whole { has_newline last.now ≡ false }
-        ensures unlinked { links.new ≡ links.old }
-        ensures reads { (read : List ℕ) → IsBehind self read → Reads result (read ++ (last.now ++ 10 ∷ [])) }
+        ensures reads { Carries carried (L.told links.old) (L.told links.new)
+            (ReadsOn carried self (last.now ++ 10 ∷ []) result) }
+        ensures links { Uses carried links.old links.new (L.faults links.old) (L.faults links.new)
+            (is_link_fault result) }
     {
         let Reading {
             alloc,
@@ -83,7 +96,7 @@ impl Reading {
         if line.extend_from_slice(last).is_err() {
             return Err(ReplayFault::NoMemory);
         }
-        match schedule.line(alloc, &line, number, links, false) {
+        match schedule.line(alloc, &line, number, links, carried) {
             Ok(schedule) => {
                 line.clear();
                 Ok(Reading {
@@ -98,14 +111,21 @@ impl Reading {
     }
 
     /// These bytes were read of the line, which hasn't ended. One that is too long is refused, whatever follows.
-    fn hold<L: Links>(self, bytes: &[u8], links: &mut L) -> Result<Reading, ReplayFault>
-        requires on { IsOn self }
+    fn hold<L: Links>(
+        self,
+        bytes: &[u8],
+        links: &mut L,
+        carried: bool,
+    ) -> Result<Reading, ReplayFault>
+        requires on { IsOn carried self }
         requires whole { has_newline bytes.now ≡ false }
-        ensures unlinked { links.new ≡ links.old }
-        ensures reads { (read : List ℕ) → IsBehind self read → Reads result (read ++ bytes.now) }
+        ensures reads { Carries carried (L.told links.old) (L.told links.new)
+            (ReadsOn carried self bytes.now result) }
+        ensures links { Uses carried links.old links.new (L.faults links.old) (L.faults links.new)
+            (is_link_fault result) }
     {
         if bytes.len() > LONGEST_LINE - self.line.len() {
-            return self.end_line(bytes, links);
+            return self.end_line(bytes, links, carried);
         }
         let mut reading = self;
         match reading.line.extend_from_slice(bytes) {
@@ -115,33 +135,43 @@ impl Reading {
     }
 
     /// A piece was read: its lines are run.
-    fn take<L: Links>(self, piece: &[u8], links: &mut L) -> Result<Reading, ReplayFault>
-        requires { IsOn self }
-        ensures unlinked { links.new ≡ links.old }
-        ensures reads { (read : List ℕ) → IsBehind self read → Reads result (read ++ piece.now) }
+    fn take<L: Links>(
+        self,
+        piece: &[u8],
+        links: &mut L,
+        carried: bool,
+    ) -> Result<Reading, ReplayFault>
+        requires { IsOn carried self }
+        ensures reads { Carries carried (L.told links.old) (L.told links.new)
+            (ReadsOn carried self piece.now result) }
+        ensures links { Uses carried links.old links.new (L.faults links.old) (L.faults links.new)
+            (is_link_fault result) }
     {
         let mut reading = self;
         let mut rest = piece;
         'lines: while let Some((line, more)) = ended_line(rest) {
-            match reading.end_line(line, links) {
+            match reading.end_line(line, links, carried) {
                 Ok(next) => reading = next,
                 Err(fault) => return Err(fault),
             }
             rest = more;
         }
-        reading.hold(rest, links)
+        reading.hold(rest, links, carried)
     }
 
     /// All was read: a last line without a newline is run too.
-    fn end<L: Links>(self, links: &mut L) -> Result<Replay, ReplayFault>
-        requires { IsOn self }
-        ensures unlinked { links.new ≡ links.old }
-        ensures ends { (read : List ℕ) → IsBehind self read → Ends result (replay_of read) }
+    fn end<L: Links>(self, links: &mut L, carried: bool) -> Result<Replay, ReplayFault>
+        requires { IsOn carried self }
+        ensures ends { Carries carried (L.told links.old) (L.told links.new) (λ more.
+            (gave later : List (List ℕ)) (read : List ℕ) → HasRead carried self gave read →
+            Closes result (replay_on (road_with carried ((gave ++ more) ++ later)) read)) }
+        ensures links { Uses carried links.old links.new (L.faults links.old) (L.faults links.new)
+            (is_link_fault result) }
     {
         if self.line.is_empty() {
             return self.schedule.end(self.alloc);
         }
-        match self.end_line(b"", links) {
+        match self.end_line(b"", links, carried) {
             Ok(reading) => reading.schedule.end(reading.alloc),
             Err(fault) => Err(fault),
         }
@@ -152,28 +182,31 @@ impl Reading {
 fn ending_of(fault: ReplayFault) -> Result<Ending, InputFail>
     requires { CanEnd fault }
     ensures outcome { IfOk result (λ e. outcome_is e ≡ replayed (Err fault)) }
-    ensures wanting { IfOk result (λ _. fault ≢ ReplayFault.NoMemory) }
+    ensures decides { IfOk result (λ _. CanDecide fault) }
+    ensures link { is_link_fail result ≡ is_of_link fault }
     ensures sure { IsErrOf result InputFail.Failed → ⊥ }
 {
     match fault {
         ReplayFault::BadInput { line, reason } => Ok(Ending::BadLine { line, reason }),
         ReplayFault::Broken(broken) => Ok(Ending::Broken(broken)),
         ReplayFault::Full { messages, bytes } => Ok(Ending::Full { messages, bytes }),
-        ReplayFault::LinkFault => unreachable!(),
+        ReplayFault::LinkFault => Err(InputFail::Link),
         ReplayFault::WriteFault => unreachable!(),
         ReplayFault::NoMemory => Err(InputFail::NoMemory),
     }
 }
 
 /// What the whole of a schedule leads to.
-fn ended<L: Links>(reading: Reading, links: &mut L) -> Result<Ending, InputFail>
-    requires { IsOn reading }
-    ensures unlinked { links.new ≡ links.old }
-    ensures outcome { IfOk result (λ e. (read : List ℕ) → IsBehind reading read →
-        outcome_is e ≡ output_of Command.Replay read) }
+fn ended<L: Links>(reading: Reading, links: &mut L, carried: bool) -> Result<Ending, InputFail>
+    requires { IsOn carried reading }
+    ensures outcome { Carries carried (L.told links.old) (L.told links.new) (λ more.
+        (gave later : List (List ℕ)) (read : List ℕ) → HasRead carried reading gave read →
+        IfOk result (λ e. outcome_is e ≡ replayed (outcome_on (road_with carried ((gave ++ more) ++ later)) read))) }
+    ensures links { Uses carried links.old links.new (L.faults links.old) (L.faults links.new)
+        (is_link_fail result) }
     ensures sure { IsErrOf result InputFail.Failed → ⊥ }
 {
-    match reading.end(links) {
+    match reading.end(links, carried) {
         Ok(replay) => {
             let text = replay.text()?;
             Ok(Ending::Written(Bytes::from_vec(text)))
@@ -182,30 +215,69 @@ fn ended<L: Links>(reading: Reading, links: &mut L) -> Result<Ending, InputFail>
     }
 }
 
-/// What a schedule leads to. A line is run before the next is read, and let go.
+/// What a schedule leads to that is read whole, where each message is handed over as it is.
+fn run_whole(alloc: Global, text: &[u8]) -> Result<Replay, ReplayFault>
+    ensures { Ends result (replay_of text.now) }
+{
+    let mut links = SureLinks::new(alloc, Vec::new(alloc), Vec::new(alloc));
+    let start = Reading::new(alloc);
+    let reading = start.take(text, &mut links, false)?;
+    reading.end(&mut links, false)
+}
+
+/// What becomes of the transactions of a load.
+pub(crate) fn load(alloc: Global, size: LoadSize) -> Result<Ending, NoMemory>
+    ensures { IfOk result (λ e. outcome_is e ≡ loaded (replay_of (load_text size))) }
+{
+    let text = schedule_of(alloc, size.seed, size.count)?;
+    match run_whole(alloc, &text) {
+        Ok(replay) => Ok(Ending::Written(Bytes::from_vec(replay.totals()?))),
+        Err(fault) => match ending_of(fault) {
+            Ok(ending) => Ok(ending),
+            Err(_) => Err(NoMemory),
+        },
+    }
+}
+
+/// The schedule of a load.
+pub(crate) fn generate(alloc: Global, size: LoadSize) -> Result<Ending, NoMemory>
+    ensures { IfOk result (λ e. outcome_is e ≡ Written (load_text size)) }
+{
+    let text = schedule_of(alloc, size.seed, size.count)?;
+    Ok(Ending::Written(Bytes::from_vec(text)))
+}
+
+/// What a schedule leads to. A line is run before the next is read, and let go. Where deliveries are carried, each node
+/// is handed what links give for a message, else the message's own bytes.
 pub(crate) fn replay<S: Source, L: Links>(
     alloc: Global,
     source: &mut S,
     links: &mut L,
+    carried: bool,
 ) -> Result<Ending, InputFail>
-    ensures unlinked { links.new ≡ links.old }
-    ensures outcome { IfOk result (λ e. IfSome (S.left source.old) (λ bytes.
-        outcome_is e ≡ output_of Command.Replay bytes)) }
-    ensures through { IfOk result (λ _. IfSome (S.left source.old) (λ bytes.
-        IsReadThrough is_settled bytes (S.left source.new))) }
-    ensures soon { IfSome (S.left source.old) (λ bytes. StopsSoon is_settled bytes (S.left source.new)) }
+    ensures outcome { IfSome (S.left source.old) (λ bytes.
+        ByRoads carried (L.told links.old) (L.told links.new) (λ road.
+        IfOk result (λ e. outcome_is e ≡ replayed (outcome_on road bytes)))) }
+    ensures through { IfSome (S.left source.old) (λ bytes.
+        ByRoads carried (L.told links.old) (L.told links.new) (λ road.
+        IfOk result (λ _. IsReadThrough (is_settled road) bytes (S.left source.new)))) }
+    ensures soon { IfSome (S.left source.old) (λ bytes.
+        ByRoads carried (L.told links.old) (L.told links.new) (λ road.
+        StopsSoon (is_settled road) bytes (S.left source.new))) }
     ensures failed { IsErrOf result InputFail.Failed → Rose (S.faults source.old) (S.faults source.new) }
     ensures told { S.faults source.old < S.faults source.new → IsErrOf result InputFail.Failed }
+    ensures links { Uses carried links.old links.new (L.faults links.old) (L.faults links.new)
+        (is_link_fail result) }
 {
     let mut reading = Reading::new(alloc);
     let mut buf = [0u8; PIECE];
     'turns: for _ in 0..u64::MAX {
         let count = match source.read(&mut buf) {
-            Ok(0) => return ended(reading, links),
+            Ok(0) => return ended(reading, links, carried),
             Ok(count) => count,
             Err(_) => return Err(InputFail::Failed),
         };
-        match reading.take(&buf[..count], links) {
+        match reading.take(&buf[..count], links, carried) {
             Ok(next) => reading = next,
             Err(fault) => return ending_of(fault),
         }

@@ -1,16 +1,19 @@
 //! The top call: all that the program does.
 
-ghost use Rattle.std.specs.Prelude.{◌≡◌, ◌⊎◌, ◌<◌, ℕ, true, false, Some, None, [], IfSome, IfOk, map, string_bytes};
+ghost use Rattle.std.specs.Prelude.{◌≡◌, ◌⊎◌, ◌<◌, ℕ, List, Bool, true, false, Some, None, [], IfSome, IfOk, map, string_bytes};
 ghost use Rattle.std.specs.Result.{IsErrOf};
 ghost use Rattle.basil_types.specs.Causes.{Rose, TookPrefix};
 ghost use Rattle.schedule_replay.specs.Outcomes as schedules;
-ghost use Rattle.basil_cli.specs.Answers.{Answers, IsBrokenEnd, IsTold, TookFault, WroteSafely, WroteSome};
-ghost use Rattle.basil_cli.specs.Answers.{is_outcomes, status_of};
+ghost use Rattle.schedule_replay.specs.Roads.{Direct, Uses};
+ghost use Rattle.basil_cli.specs.Answers.{Answers, Counts, IsBrokenEnd, IsTold, LoadedSafely, TookFault, WroteSafely, WroteSome};
+ghost use Rattle.basil_cli.specs.Answers.{counted, is_outcomes, status_of};
 ghost use Rattle.basil_cli.specs.Commands as commands;
-ghost use Rattle.basil_cli.specs.Commands.{command_of, words_read, reads, HasLeaf};
+ghost use Rattle.basil_cli.specs.Commands.{command_of, is_carried, runs, words_carried, words_read, reads, HasLeaf};
+ghost use Rattle.basil_cli.specs.Linked.{ByRoads, ByWords};
 ghost use Rattle.basil_cli.specs.Outcome.{text_of, Usage, BadLine, Refused};
-ghost use Rattle.basil_cli.specs.Output.{outcome_of, output_of};
-ghost use Rattle.basil_cli.specs.Parts.{outcome_is};
+ghost use Rattle.basil_cli.specs.Output.{load_text, outcome_of, output_of};
+ghost use Rattle.basil_cli.specs.Parts.{is_link_fail, outcome_is};
+ghost use Rattle.basil_cli.specs.declared.command.LoadSize.{LoadSize};
 ghost use Rattle.basil_cli.specs.Reading.{IsReadFor, IsReadThrough, StopsSoon, StopsSoonFor, is_enough};
 
 use crate::audit::audit;
@@ -18,7 +21,7 @@ use crate::check::check;
 use crate::command::{Command, read_command};
 use crate::ending::Ending;
 use crate::input::{InputFail, Whole, read_whole};
-use crate::replay::replay;
+use crate::replay::{generate, load, replay};
 use crate::signatures::{keys, sign, verify};
 use crate::status::Status;
 use crate::texts::{status_of_ending, text_of_ending};
@@ -32,13 +35,14 @@ use std::alloc::Global;
 
 /// Writes the text of an ending, and tells its status.
 fn write_ending<K: Sink>(alloc: Global, ending: &Ending, sink: &mut K) -> Status
-    ensures answers { (before now : ℕ) →
-        Answers result (outcome_is ending.now) before now (K.taken sink.old) (K.taken sink.new) }
+    ensures answers { (counts : Counts) →
+        Answers result (outcome_is ending.now) counts (K.taken sink.old) (K.taken sink.new) }
     ensures complete { (Rose (K.faults sink.old) (K.faults sink.new) → ⊥) → IsTold result (outcome_is ending.now) }
     ensures words { result ≡ Status.BadWords → ⊥ }
     ensures cause { result ≡ Status.WriteFault → Rose (K.faults sink.old) (K.faults sink.new) }
     ensures told { K.faults sink.old < K.faults sink.new → result ≡ Status.WriteFault }
     ensures no_read { result ≡ Status.ReadFault → ⊥ }
+    ensures no_link { result ≡ Status.LinkFault → ⊥ }
 {
     let Ok(text) = text_of_ending(alloc, ending) else {
         return Status::NoMemory;
@@ -51,7 +55,7 @@ fn write_ending<K: Sink>(alloc: Global, ending: &Ending, sink: &mut K) -> Status
 
 /// Writes that the words are no command.
 fn write_usage<K: Sink>(sink: &mut K) -> Status
-    ensures answers { (before now : ℕ) → Answers result Usage before now (K.taken sink.old) (K.taken sink.new) }
+    ensures answers { (counts : Counts) → Answers result Usage counts (K.taken sink.old) (K.taken sink.new) }
     ensures complete { (Rose (K.faults sink.old) (K.faults sink.new) → ⊥) → result ≡ Status.BadWords }
     ensures cause { result ≡ Status.WriteFault → Rose (K.faults sink.old) (K.faults sink.new) }
     ensures told { K.faults sink.old < K.faults sink.new → result ≡ Status.WriteFault }
@@ -63,28 +67,31 @@ fn write_usage<K: Sink>(sink: &mut K) -> Status
     }
 }
 
-/// What the command leads to.
-fn ending_for<S: Source, L: Links>(
+/// What a command leads to that runs no schedule.
+fn ending_alone<S: Source>(
     alloc: Global,
     command: &Command,
     source: &mut S,
-    links: &mut L,
 ) -> Result<Ending, InputFail>
-    requires { HasLeaf command.now }
+    requires leaf { HasLeaf command.now }
+    requires other { runs command.now ≡ false }
     ensures outcome { IfOk result (λ e. IfSome (S.left source.old) (λ bytes.
-        outcome_is e ≡ output_of command.now bytes)) }
-    ensures alone { reads command.now ≡ false → IfOk result (λ e. outcome_is e ≡ output_of command.now []) }
+        (coming : List (List ℕ)) → outcome_is e ≡ output_of command.now coming bytes)) }
+    ensures alone { reads command.now ≡ false → IfOk result (λ e.
+        (coming : List (List ℕ)) → outcome_is e ≡ output_of command.now coming []) }
     ensures unread { reads command.now ≡ false → source.new ≡ source.old }
     ensures through { reads command.now ≡ true → IfOk result (λ _. IfSome (S.left source.old) (λ bytes.
-        IsReadThrough (is_enough command.now) bytes (S.left source.new))) }
+        (coming : List (List ℕ)) → IsReadThrough (is_enough command.now coming) bytes (S.left source.new))) }
     ensures soon { IfSome (S.left source.old) (λ bytes.
-        StopsSoon (is_enough command.now) bytes (S.left source.new)) }
+        (coming : List (List ℕ)) → StopsSoon (is_enough command.now coming) bytes (S.left source.new)) }
     ensures failed { IsErrOf result InputFail.Failed → Rose (S.faults source.old) (S.faults source.new) }
     ensures told { S.faults source.old < S.faults source.new → IsErrOf result InputFail.Failed }
-    ensures unlinked { links.new ≡ links.old }
+    ensures unlinked { is_link_fail result ≡ false }
 {
     match command {
-        Command::Replay => replay(alloc, source, links),
+        Command::Replay { .. } => unreachable!(),
+        Command::Generate { size } => Ok(generate(alloc, *size)?),
+        Command::Load { size } => Ok(load(alloc, *size)?),
         Command::Keys { material } => Ok(keys(alloc, material)?),
         Command::Sign { material, leaf } => match read_whole(alloc, source)? {
             Whole::Bytes(message) => Ok(sign(alloc, material, *leaf, message.as_slice())?),
@@ -110,6 +117,37 @@ fn ending_for<S: Source, L: Links>(
     }
 }
 
+/// What the command leads to.
+fn ending_for<S: Source, L: Links>(
+    alloc: Global,
+    command: &Command,
+    source: &mut S,
+    links: &mut L,
+) -> Result<Ending, InputFail>
+    requires { HasLeaf command.now }
+    ensures outcome { IfSome (S.left source.old) (λ bytes.
+        ByWords (Some command.now) (L.told links.old) (L.told links.new) (λ coming.
+        IfOk result (λ e. outcome_is e ≡ output_of command.now coming bytes))) }
+    ensures alone { reads command.now ≡ false → IfOk result (λ e.
+        (coming : List (List ℕ)) → outcome_is e ≡ output_of command.now coming []) }
+    ensures unread { reads command.now ≡ false → source.new ≡ source.old }
+    ensures through { reads command.now ≡ true → IfSome (S.left source.old) (λ bytes.
+        ByWords (Some command.now) (L.told links.old) (L.told links.new) (λ coming.
+        IfOk result (λ _. IsReadThrough (is_enough command.now coming) bytes (S.left source.new)))) }
+    ensures soon { IfSome (S.left source.old) (λ bytes.
+        ByWords (Some command.now) (L.told links.old) (L.told links.new) (λ coming.
+        StopsSoon (is_enough command.now coming) bytes (S.left source.new))) }
+    ensures failed { IsErrOf result InputFail.Failed → Rose (S.faults source.old) (S.faults source.new) }
+    ensures told { S.faults source.old < S.faults source.new → IsErrOf result InputFail.Failed }
+    ensures links { Uses (is_carried command.now) links.old links.new (L.faults links.old) (L.faults links.new)
+        (is_link_fail result) }
+{
+    match command {
+        Command::Replay { carried } => replay(alloc, source, links, *carried),
+        _ => ending_alone(alloc, command, source),
+    }
+}
+
 /// Does what the command asks, and writes what comes of it.
 fn run_command<S: Source, K: Sink, L: Links>(
     alloc: Global,
@@ -119,32 +157,46 @@ fn run_command<S: Source, K: Sink, L: Links>(
     links: &mut L,
 ) -> Status
     requires { HasLeaf command.now }
-    ensures unlinked { links.new ≡ links.old }
-    ensures answers { IfSome (S.left source.old) (λ bytes.
-        Answers result (output_of command.now bytes) (S.faults source.old) (S.faults source.new)
-        (K.taken sink.old) (K.taken sink.new)) }
-    ensures alone { reads command.now ≡ false →
-        Answers result (output_of command.now []) (S.faults source.old) (S.faults source.new)
-        (K.taken sink.old) (K.taken sink.new) }
+    ensures answers { let counts =
+        counted (S.faults source.old) (S.faults source.new) (L.faults links.old) (L.faults links.new) in
+        IfSome (S.left source.old) (λ bytes.
+        ByWords (Some command.now) (L.told links.old) (L.told links.new) (λ coming.
+        Answers result (output_of command.now coming bytes) counts (K.taken sink.old) (K.taken sink.new))) }
+    ensures alone { let counts =
+        counted (S.faults source.old) (S.faults source.new) (L.faults links.old) (L.faults links.new) in
+        reads command.now ≡ false →
+        Answers result (output_of command.now [] []) counts (K.taken sink.old) (K.taken sink.new) }
     ensures unread { reads command.now ≡ false → source.new ≡ source.old }
     ensures through { reads command.now ≡ true → is_outcomes result ≡ true → IfSome (S.left source.old) (λ bytes.
-        IsReadThrough (is_enough command.now) bytes (S.left source.new)) }
+        ByWords (Some command.now) (L.told links.old) (L.told links.new) (λ coming.
+        IsReadThrough (is_enough command.now coming) bytes (S.left source.new))) }
     ensures soon { IfSome (S.left source.old) (λ bytes.
-        StopsSoon (is_enough command.now) bytes (S.left source.new)) }
+        ByWords (Some command.now) (L.told links.old) (L.told links.new) (λ coming.
+        StopsSoon (is_enough command.now coming) bytes (S.left source.new))) }
     ensures complete { (Rose (S.faults source.old) (S.faults source.new) → ⊥) →
-        (Rose (K.faults sink.old) (K.faults sink.new) → ⊥) →
-        IfSome (S.left source.old) (λ bytes. IsTold result (output_of command.now bytes)) }
+        (Rose (K.faults sink.old) (K.faults sink.new) → ⊥) → (Rose (L.faults links.old) (L.faults links.new) → ⊥) →
+        IfSome (S.left source.old) (λ bytes.
+        ByWords (Some command.now) (L.told links.old) (L.told links.new) (λ coming.
+        IsTold result (output_of command.now coming bytes))) }
     ensures words { result ≡ Status.BadWords → ⊥ }
     ensures read { result ≡ Status.ReadFault → Rose (S.faults source.old) (S.faults source.new) }
     ensures write { result ≡ Status.WriteFault → Rose (K.faults sink.old) (K.faults sink.new) }
+    ensures link { result ≡ Status.LinkFault → Rose (L.faults links.old) (L.faults links.new) }
     ensures read_told { S.faults source.old < S.faults source.new →
         (result ≡ Status.ReadFault) ⊎ (result ≡ Status.WriteFault) }
+    ensures link_told { L.faults links.old < L.faults links.new →
+        (result ≡ Status.LinkFault) ⊎ (result ≡ Status.WriteFault) }
     ensures write_told { K.faults sink.old < K.faults sink.new → result ≡ Status.WriteFault }
+    ensures unlinked { is_carried command.now ≡ false → links.new ≡ links.old }
 {
     match ending_for(alloc, command, source, links) {
         Ok(ending) => write_ending(alloc, &ending, sink),
         Err(InputFail::Failed) => match sink.write(b"read fault\n") {
             Ok(()) => Status::ReadFault,
+            Err(_) => Status::WriteFault,
+        },
+        Err(InputFail::Link) => match sink.write(b"link fault\n") {
+            Ok(()) => Status::LinkFault,
             Err(_) => Status::WriteFault,
         },
         Err(InputFail::NoMemory) => Status::NoMemory,
@@ -154,6 +206,10 @@ fn run_command<S: Source, K: Sink, L: Links>(
 /// All that the program does, with the words behind its own name. Every text goes to the sink.
 ///
 /// - `replay` reads a schedule from the source and writes the report of the run that its lines describe.
+/// - `loopback` does the same for a run in which each delivery hands the node what the links' `carry` gave.
+/// - `generate N COUNT` writes the schedule of so many transactions that is drawn from that number.
+/// - `load N COUNT` runs that schedule and writes how many of its transactions committed, aborted and are open, and the number
+///   of messages.
 /// - `keys SET SEED IDENT` writes the LMS public key (RFC 8554) of that parameter set, SEED and identifier, in hex.
 /// - `sign SET SEED IDENT Q` reads a message and writes its signature with leaf Q of that key, in hex.
 /// - `verify PUBLIC SIGNATURE` reads a message and writes `accepted` where the signature is valid, else `refused R`.
@@ -169,45 +225,66 @@ pub fn run<S: Source, K: Sink, L: Links, C: Clock>(
     links: &mut L,
     clock: &mut C,
 ) -> Status
-    // Where the source tells its bytes, the status and what was written are those of the words and the bytes. After a
-    // fault of the sink it is some of that text, or, where the source's count rose, some of the text of its fault.
-    ensures answers { IfSome (S.left source.old) (λ bytes.
-        Answers result (outcome_of (map string_bytes words.now) bytes) (S.faults source.old) (S.faults source.new)
-        (K.taken sink.old) (K.taken sink.new)) }
-    // Where a report was written, it is that of a run with at most f faulty replicas of each shard. No transaction has
-    // both a commit and an abort certificate there, and each committed transaction of a correct client read, key by key,
-    // what the latest committed writer before it wrote.
-    ensures safe { IfSome (S.left source.old) (λ bytes.
-        command_of (map string_bytes words.now) ≡ Some Command.Replay → result ≡ Status.Done →
-        WroteSafely bytes (K.taken sink.old) (K.taken sink.new)) }
+    // Where the source tells its bytes, the status and what was written are those of the words, the bytes, and what the
+    // links gave. After a fault of the sink it is some of that text, or, where another count rose, some of the text of its
+    // fault.
+    ensures answers { let command = command_of (map string_bytes words.now) in let counts =
+        counted (S.faults source.old) (S.faults source.new) (L.faults links.old) (L.faults links.new) in
+        IfSome (S.left source.old) (λ bytes. ByWords command (L.told links.old) (L.told links.new) (λ coming.
+        Answers result (outcome_of (map string_bytes words.now) coming bytes) counts
+        (K.taken sink.old) (K.taken sink.new))) }
+    // Where a report was written, it is that of a run with at most f faulty replicas of each shard, in which each node was
+    // handed each message as it is or, by `loopback`, what the links gave for it. No transaction has both a commit and an
+    // abort certificate there, and each committed transaction of a correct client read, key by key, what the latest
+    // committed writer before it wrote.
+    ensures safe { (carried : Bool) → command_of (map string_bytes words.now) ≡ Some (Command.Replay carried) →
+        result ≡ Status.Done → IfSome (S.left source.old) (λ bytes.
+        ByRoads carried (L.told links.old) (L.told links.new) (λ road.
+        WroteSafely road bytes (K.taken sink.old) (K.taken sink.new))) }
     // So it is where any byte of a report was written before the sink failed.
-    ensures safe_in_part { IfSome (S.left source.old) (λ bytes.
-        command_of (map string_bytes words.now) ≡ Some Command.Replay → result ≡ Status.WriteFault →
-        WroteSome (schedules.outcome_of bytes) bytes (K.taken sink.old) (K.taken sink.new)
-        ⊎ TookFault (S.faults source.old) (S.faults source.new) (K.taken sink.old) (K.taken sink.new)) }
+    ensures safe_in_part { let counts =
+        counted (S.faults source.old) (S.faults source.new) (L.faults links.old) (L.faults links.new) in
+        (carried : Bool) → command_of (map string_bytes words.now) ≡ Some (Command.Replay carried) →
+        result ≡ Status.WriteFault → IfSome (S.left source.old) (λ bytes.
+        ByRoads carried (L.told links.old) (L.told links.new) (λ road.
+        WroteSome (schedules.outcome_on road bytes) road bytes (K.taken sink.old) (K.taken sink.new)
+        ⊎ TookFault counts (K.taken sink.old) (K.taken sink.new))) }
     // Where a breach was told, it is the first of such a run, and real: of a correct party a signature that its key
     // accepts on words that it had not signed, or two texts that differ and have one SHA-256. Until there the run is
     // safe.
-    ensures broken { IfSome (S.left source.old) (λ bytes.
-        command_of (map string_bytes words.now) ≡ Some Command.Replay → result ≡ Status.Broken →
-        IsBrokenEnd bytes (K.taken sink.old) (K.taken sink.new)) }
-    // Where no count rose, the status is that of the words and the bytes, or memory is wanting: a valid schedule gives
-    // its whole report, and every other command its output or its refusal.
-    ensures complete { (Rose (S.faults source.old) (S.faults source.new) → ⊥) →
-        (Rose (K.faults sink.old) (K.faults sink.new) → ⊥) →
-        IfSome (S.left source.old) (λ bytes. IsTold result (outcome_of (map string_bytes words.now) bytes)) }
+    ensures broken { (carried : Bool) → command_of (map string_bytes words.now) ≡ Some (Command.Replay carried) →
+        result ≡ Status.Broken → IfSome (S.left source.old) (λ bytes.
+        ByRoads carried (L.told links.old) (L.told links.new) (λ road.
+        IsBrokenEnd road bytes (K.taken sink.old) (K.taken sink.new))) }
+    // Where the totals of a load were written, they are those of such a run by the load's schedule, where each message was
+    // handed over as it is.
+    ensures load_safe { (size : LoadSize) → command_of (map string_bytes words.now) ≡ Some (Command.Load size) →
+        result ≡ Status.Done → LoadedSafely size (K.taken sink.old) (K.taken sink.new) }
+    // A breach that a load leads to is told and real as well.
+    ensures load_broken { (size : LoadSize) → command_of (map string_bytes words.now) ≡ Some (Command.Load size) →
+        result ≡ Status.Broken → IsBrokenEnd Direct (load_text size) (K.taken sink.old) (K.taken sink.new) }
+    // Where no count rose, the status is that of the words, the bytes, and what the links gave, or memory is wanting: a
+    // valid schedule gives its whole report, and every other command its output or its refusal.
+    ensures complete { let command = command_of (map string_bytes words.now) in
+        (Rose (S.faults source.old) (S.faults source.new) → ⊥) →
+        (Rose (K.faults sink.old) (K.faults sink.new) → ⊥) → (Rose (L.faults links.old) (L.faults links.new) → ⊥) →
+        IfSome (S.left source.old) (λ bytes. ByWords command (L.told links.old) (L.told links.new) (λ coming.
+        IsTold result (outcome_of (map string_bytes words.now) coming bytes))) }
     // Words that aren't a command with an input decide alone, and nothing is read.
-    ensures alone { words_read (command_of (map string_bytes words.now)) ≡ false →
-        Answers result (outcome_of (map string_bytes words.now) []) (S.faults source.old) (S.faults source.new)
-        (K.taken sink.old) (K.taken sink.new) }
+    ensures alone { let counts =
+        counted (S.faults source.old) (S.faults source.new) (L.faults links.old) (L.faults links.new) in
+        words_read (command_of (map string_bytes words.now)) ≡ false →
+        Answers result (outcome_of (map string_bytes words.now) [] []) counts (K.taken sink.old) (K.taken sink.new) }
     ensures unread { words_read (command_of (map string_bytes words.now)) ≡ false → source.new ≡ source.old }
     // The status of an outcome is answered when the input was read to its end, or as far as it decides.
-    ensures through { words_read (command_of (map string_bytes words.now)) ≡ true → is_outcomes result ≡ true →
-        IfSome (S.left source.old) (λ bytes.
-        IsReadFor (command_of (map string_bytes words.now)) bytes (S.left source.new)) }
+    ensures through { let command = command_of (map string_bytes words.now) in
+        words_read command ≡ true → is_outcomes result ≡ true → IfSome (S.left source.old) (λ bytes.
+        ByWords command (L.told links.old) (L.told links.new) (λ coming.
+        IsReadFor command coming bytes (S.left source.new))) }
     // Whatever is answered, fewer than a piece of the source's bytes were taken beyond those that decide.
-    ensures soon { IfSome (S.left source.old) (λ bytes.
-        StopsSoonFor (command_of (map string_bytes words.now)) bytes (S.left source.new)) }
+    ensures soon { let command = command_of (map string_bytes words.now) in
+        IfSome (S.left source.old) (λ bytes. ByWords command (L.told links.old) (L.told links.new) (λ coming.
+        StopsSoonFor command coming bytes (S.left source.new))) }
     // The words alone decide on this answer.
     ensures words { result ≡ Status.BadWords → command_of (map string_bytes words.now) ≡ None }
     ensures other_words { command_of (map string_bytes words.now) ≡ None →
@@ -215,12 +292,15 @@ pub fn run<S: Source, K: Sink, L: Links, C: Clock>(
     // A fault has its cause.
     ensures read { result ≡ Status.ReadFault → Rose (S.faults source.old) (S.faults source.new) }
     ensures write { result ≡ Status.WriteFault → Rose (K.faults sink.old) (K.faults sink.new) }
+    ensures link { result ≡ Status.LinkFault → Rose (L.faults links.old) (L.faults links.new) }
     // A fault is told.
     ensures read_told { S.faults source.old < S.faults source.new →
         (result ≡ Status.ReadFault) ⊎ (result ≡ Status.WriteFault) }
+    ensures link_told { L.faults links.old < L.faults links.new →
+        (result ≡ Status.LinkFault) ⊎ (result ≡ Status.WriteFault) }
     ensures write_told { K.faults sink.old < K.faults sink.new → result ≡ Status.WriteFault }
-    // No command uses the links or the clock.
-    ensures links { links.new ≡ links.old }
+    // No command but `loopback` uses the links, and none the clock.
+    ensures links { words_carried (command_of (map string_bytes words.now)) ≡ false → links.new ≡ links.old }
     ensures clock { clock.new ≡ clock.old }
 {
     reports_are_safe();

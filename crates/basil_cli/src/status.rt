@@ -16,6 +16,8 @@ pub enum Status {
     ReadFault,
     /// 5: the sink failed; a prefix of a text was written.
     WriteFault,
+    /// 6: a link failed; `link fault` was written.
+    LinkFault,
     /// 7: a premise of the run is broken: a signature is accepted for a correct party on words that it never signed, or two
     /// transactions have one id; `broken forged PARTY WORDS SIGNATURE` or `broken collision BYTES BYTES` was written.
     Broken,
@@ -41,6 +43,7 @@ impl Status {
             Status::BadInput { .. } => 3,
             Status::ReadFault => 4,
             Status::WriteFault => 5,
+            Status::LinkFault => 6,
             Status::Broken => 7,
             Status::Refused { .. } => 8,
             Status::NoMemory => 9,

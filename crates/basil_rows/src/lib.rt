@@ -12,6 +12,10 @@ mod checked;
 #[cfg(test)]
 mod lines;
 #[cfg(test)]
+mod loads;
+#[cfg(test)]
+mod loopback;
+#[cfg(test)]
 mod refused;
 #[cfg(test)]
 mod replayed;

@@ -7,12 +7,12 @@ use std::alloc::Global;
 use std::test::Fail;
 
 /// A schedule, and its report.
-struct Replayed {
-    schedule: &'static [u8],
-    report: &'static [u8],
+pub(crate) struct Replayed {
+    pub(crate) schedule: &'static [u8],
+    pub(crate) report: &'static [u8],
 }
 
-const REPLAYED: &[Replayed] = &[
+pub(crate) const REPLAYED: &[Replayed] = &[
     // one write
     Replayed {
         schedule: b"\
@@ -330,7 +330,7 @@ fn each_schedule_gives_its_report(rt: HostRuntime) -> Result<(), Fail> {
     Ok(())
 }
 
-const ONE_WRITE: &[u8] = b"\
+pub(crate) const ONE_WRITE: &[u8] = b"\
     basil 1 f=0 shards=1 reads=1 delta=100 clock=50 keys=plain\n\
     begin t1 1 10\n\
     write t1 a x1\n\
@@ -366,13 +366,6 @@ const ENDED: &[Ended] = &[
     },
     Ended {
         words: &["Replay"],
-        failing_reads: &[],
-        failing_writes: &[],
-        status: Status::BadWords,
-        text: b"usage\n",
-    },
-    Ended {
-        words: &["generate", "1", "2"],
         failing_reads: &[],
         failing_writes: &[],
         status: Status::BadWords,
@@ -446,6 +439,7 @@ const CODES: &[(Status, u8)] = &[
     (Status::BadInput { line: 5, reason: 9 }, 3),
     (Status::ReadFault, 4),
     (Status::WriteFault, 5),
+    (Status::LinkFault, 6),
     (Status::Broken, 7),
     (Status::Refused { reason: 7 }, 8),
     (Status::NoMemory, 9),

@@ -17,6 +17,24 @@ fn followed(alloc: Global, front: &[u8], byte: u8, count: u32) -> Result<Vec<u8>
     Ok(bytes)
 }
 
+/// A schedule of so many transactions of sixteen clients in turn. Each of them writes an empty value to a key of each of
+/// eight shards, and so sends 248 first stages: one to each of the 31 replicas of each shard.
+fn crowd(alloc: Global, count: u32) -> Result<String, NoMemory> {
+    let mut text = String::from_str(
+        alloc,
+        "basil 1 f=6 shards=8 reads=7 delta=100 clock=50 keys=plain\n",
+    )?;
+    for number in 0..count {
+        let (client, time) = (number % 16 + 1, number + 1);
+        text.push_str(&format!(in alloc; "begin t{number} {client} {time}\n")?)?;
+        for key in "abcdefgh".chars() {
+            text.push_str(&format!(in alloc; "write t{number} {key} %\n")?)?;
+        }
+        text.push_str(&format!(in alloc; "prepare t{number}\n")?)?;
+    }
+    Ok(text)
+}
+
 /// Whether a schedule's replay ends so.
 fn ends_so(alloc: Global, schedule: &[u8], status: Status, text: &[u8]) -> Result<bool, NoMemory> {
     let given = replay(alloc, schedule)?;
@@ -33,6 +51,24 @@ fn a_million_lines_and_one_more(rt: HostRuntime) -> Result<(), Fail> {
         schedule.push(b'\n')?;
         assert!(rt; ends_so(rt.alloc(), &schedule, refused, b"line 1000001 reason 8\n")?);
     }
+    Ok(())
+}
+
+/// The pool takes a million messages. 4,032 transactions send 999,936 of them, of 79 bytes each, and the next one 248
+/// more.
+#[test]
+fn one_transaction_more_than_a_pool_takes(rt: HostRuntime) -> Result<(), Fail> {
+    let schedule = crowd(rt.alloc(), 4_033)?;
+    let (messages, bytes) = (999_936, 78_994_944);
+    let full = Status::Full { messages, bytes };
+    assert!(rt;
+        ends_so(
+            rt.alloc(),
+            schedule.as_bytes(),
+            full,
+            b"full 999936 78994944\n"
+        )?
+    );
     Ok(())
 }
 

@@ -3,7 +3,7 @@
 use basil_cli::run::run;
 use basil_cli::status::Status;
 use basil_types::clock::MemClock;
-use basil_types::links::SureLinks;
+use basil_types::links::{Links, MemLinks, SureLinks};
 use basil_types::memory::NoMemory;
 use basil_types::sink::MemSink;
 use basil_types::source::MemSource;
@@ -25,8 +25,27 @@ fn given_words(alloc: Global, words: &[&str]) -> Result<Vec<String>, NoMemory> {
     Ok(given)
 }
 
-/// Runs one command word, and more where given, over a source that gives these bytes in pieces; the listed reads and
-/// writes fail.
+/// Runs one command word, and more where given, over a source that gives these bytes in pieces, and over these links;
+/// the listed reads and writes fail.
+fn run_over<L: Links>(
+    alloc: Global,
+    words: &[&str],
+    input: &[u8],
+    failing_reads: &[u64],
+    failing_writes: &[u64],
+    links: &mut L,
+) -> Result<Answer, NoMemory> {
+    let given = given_words(alloc, words)?;
+    let bytes = Vec::from_slice(alloc, input)?;
+    let mut source = MemSource::new(bytes, 1000, Vec::from_slice(alloc, failing_reads)?);
+    let mut sink = MemSink::new(alloc, 100_000, Vec::from_slice(alloc, failing_writes)?)?;
+    let mut clock = MemClock::new(Vec::new(alloc));
+    let status = run(alloc, &given, &mut source, &mut sink, links, &mut clock);
+    let text = Vec::from_slice(alloc, sink.bytes())?;
+    Ok(Answer { status, text })
+}
+
+/// The same over links that never fail.
 pub(crate) fn run_words(
     alloc: Global,
     words: &[&str],
@@ -34,22 +53,37 @@ pub(crate) fn run_words(
     failing_reads: &[u64],
     failing_writes: &[u64],
 ) -> Result<Answer, NoMemory> {
-    let given = given_words(alloc, words)?;
-    let bytes = Vec::from_slice(alloc, input)?;
-    let mut source = MemSource::new(bytes, 1000, Vec::from_slice(alloc, failing_reads)?);
-    let mut sink = MemSink::new(alloc, 10_000, Vec::from_slice(alloc, failing_writes)?)?;
     let mut links = SureLinks::new(alloc, Vec::new(alloc), Vec::new(alloc));
-    let mut clock = MemClock::new(Vec::new(alloc));
-    let status = run(
+    run_over(
         alloc,
-        &given,
-        &mut source,
-        &mut sink,
+        words,
+        input,
+        failing_reads,
+        failing_writes,
         &mut links,
-        &mut clock,
-    );
-    let text = Vec::from_slice(alloc, sink.bytes())?;
-    Ok(Answer { status, text })
+    )
+}
+
+/// Runs a schedule whose deliveries are carried; the listed carries change a bit of the last byte, or fail, and so do
+/// the listed writes.
+pub(crate) fn loopback(
+    alloc: Global,
+    schedule: &[u8],
+    changed: &[u64],
+    failing: &[u64],
+    failing_writes: &[u64],
+) -> Result<Answer, NoMemory> {
+    let changed = Vec::from_slice(alloc, changed)?;
+    let failing = Vec::from_slice(alloc, failing)?;
+    let mut links = MemLinks::new(alloc, Vec::new(alloc), changed, failing);
+    run_over(
+        alloc,
+        &["loopback"],
+        schedule,
+        &[],
+        failing_writes,
+        &mut links,
+    )
 }
 
 /// Replays a schedule.

@@ -1,14 +1,44 @@
-use Rattle.std.proofs.Common.{rules}
+use Rattle.std.proofs.Common.{rules, inl, inr}
+use Rattle.basil_types.specs.Causes.{Rose, TookPrefix}
+use Rattle.basil_cli.specs.Answers.{counted}
+use Rattle.basil_cli.specs.Outcome.{link_fault_text, read_fault_text}
+use Rattle.basil_cli.specs.declared.status.Status.TheVariants as ends
+use Rattle.basil_cli.proofs.Wordings.{ending_answers, ending_told, fault_answers, fault_told}
 use Rattle.basil_cli.proofs.run.run_command.Goals as goal
 
 pub returns-in-Ok-clause-answers : goal.returns-in-Ok-clause-answers
-returns-in-Ok-clause-answers g c = search rules
-
-pub returns-in-Ok-clause-alone : goal.returns-in-Ok-clause-alone
-returns-in-Ok-clause-alone g c = search rules
+returns-in-Ok-clause-answers g c =
+    let counts = counted (g.S.Source.faults c.args.source.now) (g.S.Source.faults c.ending_for.new.source)
+    (g.L.Links.faults c.args.links.now) (g.L.Links.faults c.ending_for.new.links) in
+    ending_answers c.args.command.now (g.L.Links.told c.args.links.now) (g.L.Links.told c.ending_for.new.links)
+    (g.S.Source.left c.args.source.now) c.write_ending.result c.in-Ok.ending counts (g.K.Sink.taken c.args.sink.now)
+    (g.K.Sink.taken c.write_ending.new.sink) c.in-Ok.ensures.outcome (c.write_ending.ensures.answers counts)
 
 pub returns-in-Ok-clause-complete : goal.returns-in-Ok-clause-complete
-returns-in-Ok-clause-complete g c = search rules
+returns-in-Ok-clause-complete g c = λ read write link.
+    ending_told c.args.command.now (g.L.Links.told c.args.links.now) (g.L.Links.told c.ending_for.new.links)
+    (g.S.Source.left c.args.source.now) c.write_ending.result c.in-Ok.ending c.in-Ok.ensures.outcome (c.write_ending.ensures.complete write)
 
-pub returns-in-Ok-clause-read : goal.returns-in-Ok-clause-read
-returns-in-Ok-clause-read g c = search rules
+pub returns-in-Err-clause-answers : goal.returns-in-Err-clause-answers
+returns-in-Err-clause-answers g c =
+    let counts = counted (g.S.Source.faults c.args.source.now) (g.S.Source.faults c.ending_for.new.source)
+    (g.L.Links.faults c.args.links.now) (g.L.Links.faults c.ending_for.new.links) in
+    let old = g.K.Sink.taken c.args.sink.now in
+    let new = g.K.Sink.taken c.write.new.self in
+    let rose : Rose (g.S.Source.faults c.args.source.now) (g.S.Source.faults c.ending_for.new.source) = search rules in
+    let prefix : TookPrefix old new read_fault_text = search rules in
+    fault_answers c.args.command.now (g.L.Links.told c.args.links.now) (g.L.Links.told c.ending_for.new.links)
+    (g.S.Source.left c.args.source.now) ends.WriteFault (g.S.Source.left c.ending_for.new.source) counts old new
+    c.in-Err-Failed.ensures.soon (λ o. inr (inl (record { rose = rose; prefix = prefix })))
+
+pub returns-in-Err-write-clause-answers : goal.returns-in-Err-write-clause-answers
+returns-in-Err-write-clause-answers g c =
+    let counts = counted (g.S.Source.faults c.args.source.now) (g.S.Source.faults c.ending_for.new.source)
+    (g.L.Links.faults c.args.links.now) (g.L.Links.faults c.ending_for.new.links) in
+    let old = g.K.Sink.taken c.args.sink.now in
+    let new = g.K.Sink.taken c.write-in-Err-Link.new.self in
+    let rose : Rose (g.L.Links.faults c.args.links.now) (g.L.Links.faults c.ending_for.new.links) = search rules in
+    let prefix : TookPrefix old new link_fault_text = search rules in
+    fault_answers c.args.command.now (g.L.Links.told c.args.links.now) (g.L.Links.told c.ending_for.new.links)
+    (g.S.Source.left c.args.source.now) ends.WriteFault (g.S.Source.left c.ending_for.new.source) counts old new
+    c.in-Err-Link.ensures.soon (λ o. inr (inr (record { rose = rose; prefix = prefix })))

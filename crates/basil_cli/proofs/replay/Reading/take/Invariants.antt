@@ -1,12 +1,14 @@
-use Rattle.std.proofs.Common.{◌≡◌, List, ℕ, ◌++◌, length}
-use Rattle.basil_cli.specs.Behind.{IsBehind}
-use Rattle.basil_cli.proofs.Behind.{Midway}
+use Rattle.std.proofs.Common.{◌≡◌, false, length}
+use Rattle.schedule_replay.specs.Roads.{Carries}
+use Rattle.basil_cli.proofs.Behind.{Passed}
 use Rattle.basil_cli.proofs.replay.Reading.take.Given as goal
 
 abbrev pub invariant-lines : goal.invariant-lines
 invariant-lines g l = record {
-  unlinked : l.links ≡ l.fn.links;
-  reads : (read : List ℕ) → IsBehind l.fn.self read → Midway l.reading (read ++ l.piece) l.rest;
+  reads : Carries l.fn.carried (g.L.Links.told l.fn.links) (g.L.Links.told l.links)
+      (Passed l.fn.carried l.fn.self l.reading l.piece l.rest);
+  unused : l.fn.carried ≡ false → l.links ≡ l.fn.links;
+  faults : g.L.Links.faults l.links ≡ g.L.Links.faults l.fn.links;
 }
 
 abbrev pub decreases-lines : goal.decreases-lines

@@ -1,0 +1,95 @@
+//! Loads: schedules that are made from a number, and what becomes of their transactions.
+
+use crate::support::{is_answer, replay, run_words};
+use basil_cli::status::Status;
+use basil_types::memory::NoMemory;
+use std::alloc::Global;
+use std::test::Fail;
+
+/// How many lines of a report say this of a transaction.
+fn count_of(report: &[u8], word: &[u8]) -> usize {
+    report
+        .split(|b| *b == b'\n')
+        .filter(|line| line.starts_with(b"tx ") && line.ends_with(word))
+        .count()
+}
+
+/// The last line of a report.
+fn last_line(report: &[u8]) -> &[u8] {
+    match report.strip_suffix(b"\n") {
+        Some(lines) => lines.rsplit(|b| *b == b'\n').next().unwrap_or(lines),
+        None => report,
+    }
+}
+
+/// The totals that a report comes to.
+fn totals_of(alloc: Global, report: &[u8]) -> Result<Vec<u8>, NoMemory> {
+    let commits = count_of(report, b" commit");
+    let aborts = count_of(report, b" abort");
+    let open = count_of(report, b" open");
+    let counts = format!(in alloc; "commit {commits}\nabort {aborts}\nopen {open}\n")?;
+    let mut totals = Vec::from_slice(alloc, counts.as_bytes())?;
+    totals.extend_from_slice(last_line(report))?;
+    totals.push(b'\n')?;
+    Ok(totals)
+}
+
+/// Whether a load's totals are those of the report of its schedule, and stand for so many transactions.
+fn is_counted(
+    alloc: Global,
+    seed: &str,
+    count: &str,
+    transactions: usize,
+) -> Result<bool, NoMemory> {
+    let schedule = run_words(alloc, &["generate", seed, count], b"", &[], &[])?;
+    let report = replay(alloc, &schedule.text)?;
+    let totals = totals_of(alloc, &report.text)?;
+    let given = run_words(alloc, &["load", seed, count], b"", &[], &[])?;
+    Ok(
+        report.status == Status::Done
+            && count_of(&report.text, b"") == transactions
+            && is_answer(&given, Status::Done, &totals),
+    )
+}
+
+/// A number, how many transactions, as a word and as a number.
+const LOADS: &[(&str, &str, usize)] = &[
+    ("7", "200", 200),
+    ("7", "1", 1),
+    ("0", "20", 20),
+    ("18446744073709551615", "20", 20),
+];
+
+#[test]
+fn a_load_has_the_totals_of_its_schedules_report(rt: HostRuntime) -> Result<(), Fail> {
+    for &(seed, count, transactions) in LOADS {
+        assert!(rt; is_counted(rt.alloc(), seed, count, transactions)?);
+    }
+    Ok(())
+}
+
+const NO_COMMANDS: &[&[&str]] = &[
+    &["generate", "7", "0"],
+    &["generate", "7", "2001"],
+    &["generate", "7", "007"],
+    &["generate", "18446744073709551616", "1"],
+    &["generate", "-7", "1"],
+    &["generate", "7"],
+    &["generate", "7", "1", "1"],
+    &["load", "7", "0"],
+    &["load", "7", "2001"],
+    &["load", "x", "1"],
+    &["load", "7"],
+    &["load"],
+    &["help"],
+    &["replay", "--help"],
+];
+
+#[test]
+fn other_words_are_no_command(rt: HostRuntime) -> Result<(), Fail> {
+    for words in NO_COMMANDS {
+        let given = run_words(rt.alloc(), words, b"", &[], &[])?;
+        assert!(rt; is_answer(&given, Status::BadWords, b"usage\n"));
+    }
+    Ok(())
+}
