@@ -1,0 +1,8 @@
+pub mod Digits
+pub mod Objects
+pub mod EachLaws
+pub mod SeatLaws
+pub mod BelowLaws
+pub mod AddressLaws
+pub mod ListingLaws
+pub mod TextLaws
