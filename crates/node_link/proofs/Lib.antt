@@ -1,0 +1,10 @@
+pub mod FieldLaws
+pub mod DialogueLaws
+pub mod FindingLaws
+pub mod StandingLaws
+pub mod ServingLaws
+pub mod AnsweringLaws
+pub mod WaitingLaws
+pub mod TalkingLaws
+pub mod ClosingLaws
+pub mod ServeLaws
