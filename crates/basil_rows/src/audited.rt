@@ -1,9 +1,7 @@
-//! Inputs to `audit`: transactions with their reads and writes.
+//! Inputs to `audit`: transactions with their reads and writes. Those of an independent program stand in
+//! `examples/audits`.
 
-mod lines;
 mod reasons;
-mod serial;
-mod strays;
 mod worked;
 
 use crate::support::run_words;

@@ -1,7 +1,8 @@
 -- What a call of a node has served.
-use Rattle.std.proofs.Common.{◌≡◌, ℕ, List, [], ◌∷◌, ◌++◌, drop, take, Option, Some, None, Result, Ok, Err, OnErr, refl, sym, ap, subst, ◌∙◌, append_assoc, arith}
+use Rattle.std.proofs.Common.{◌≡◌, ℕ, List, [], ◌∷◌, ◌++◌, drop, take, Option, Some, Result, Ok, Err, OnErr, refl, sym, ap, subst}
+use Rattle.std.proofs.Common.{◌∙◌, append_assoc, arith}
 use Rattle.std.specs.Prelude.{option_map}
-use Rattle.std.proofs.lemmas.List.{append-nil, take-append-drop}
+use Rattle.std.proofs.lemmas.List.{take-append-drop}
 use Rattle.basil_types.specs.declared.outbox.Envelope.{Envelope}
 use Rattle.basil_types.specs.Causes.{Ticks}
 use Rattle.basil_types.specs.Links.{LinkState, WrotePrefix, writes}
@@ -69,17 +70,16 @@ written_front written bytes count =
 -- its frame was handled, and some of the answer was written
 pub handled_one : {V S : Type 0} {v : verifiers.Ghosts V} {g : signers.Ghosts S} (new : Replica V S v g)
     (ticks later : Option (List ℕ)) (told after : Option LinkState) (me : ReplicaSelf) (state : LinkState) (s : Served)
-    (e : Envelope) (moment handled : ℕ) (sent : List Envelope) (bytes : List ℕ) → handled ≡ 1 → ticks ≡ Some s.moments →
-    Ticks ticks later moment → told ≡ Some (record state { written = s.written }) →
-    Handles (answer me moment e.to s.book e.frame) s.book new sent → bytes ≡ answer_bytes sent → WrotePrefix told after bytes →
-    HasServed new later after me state s (e ∷ []) handled
-handled_one new ticks later told after me state s e moment handled sent bytes one at h l did is w =
+    (e : Envelope) (moment handled : ℕ) (bytes : List ℕ) → handled ≡ 1 → ticks ≡ Some s.moments → Ticks ticks later moment →
+    told ≡ Some (record state { written = s.written }) → Handles (answer me moment e.to s.book e.frame) s.book new bytes →
+    WrotePrefix told after bytes → HasServed new later after me state s (e ∷ []) handled
+handled_one new ticks later told after me state s e moment handled bytes one at h l did w =
     let tick = ticked s.moments ticks later moment at h in
     let answered = answer me (next_moment s.moments) e.to s.book e.frame in
     let moved : answer me moment e.to s.book e.frame ≡ answered =
     ap (λ (m : ℕ). answer me m e.to s.book e.frame) tick.moment_is in
     let bytes-are : bytes ≡ answer_bytes (sent_by answered) =
-    is ∙ ap answer_bytes (did.messages ∙ ap sent_by moved) in
+    did.text ∙ ap (λ a. answer_bytes (sent_by a)) moved in
     let t : Served = record (serves me s e) { written = s.written ++ take w.count bytes } in
     let single = serves_one me s e in
     rw one (
@@ -98,13 +98,3 @@ handled_one new ticks later told after me state s e moment handled sent bytes on
             (written_front s.written bytes w.count));
       },
     )
-
--- nothing of an answer was written
-pub wrote_nothing : (told : Option LinkState) (bytes : List ℕ) → WrotePrefix told told bytes
-wrote_nothing None bytes = record { count = 0; within = omega arith; is = refl }
-wrote_nothing (Some state) bytes =
-    record {
-      count = 0;
-      within = omega arith;
-      is = ap (λ (text : List ℕ). Some (record state { written = text })) (sym (append-nil state.written));
-    }

@@ -1,5 +1,6 @@
 -- The dialogue of bytes, and of more bytes behind them.
-use Rattle.std.proofs.Common.{◌≡◌, ℕ, zero, suc, ◌<◌, ◌≤◌, List, [], ◌∷◌, ◌++◌, length, Option, Some, None, Ok, Err, IfOk, refl, sym, ap, subst, ◌∙◌, arith}
+use Rattle.std.proofs.Common.{◌≡◌, ℕ, zero, suc, ◌<◌, ◌≤◌, List, [], ◌∷◌, ◌++◌, length, Option, Some, None, Ok, Err, IfOk, refl, sym, ap}
+use Rattle.std.proofs.Common.{subst, ◌∙◌, arith}
 use Rattle.basil_types.specs.declared.outbox.Envelope.{Envelope}
 use Rattle.basil_types.specs.Setting.{Setting}
 use Rattle.node_link.specs.declared.cause.EndCause.{EndCause}

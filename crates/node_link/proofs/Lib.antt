@@ -2,6 +2,7 @@ pub mod FieldLaws
 pub mod DialogueLaws
 pub mod FindingLaws
 pub mod StandingLaws
+pub mod SizeLaws
 pub mod ServingLaws
 pub mod AnsweringLaws
 pub mod WaitingLaws

@@ -13,7 +13,8 @@ use Rattle.replica_core.specs.Replicas.{ReplicaSelf}
 use Rattle.node_link.specs.declared.fault.ServeFault.TheVariants as faults
 use Rattle.node_link.specs.Faults.{fault_of}
 use Rattle.node_link.specs.Serving.{Served, IsAt, HasServed, serves_all, own}
-use Rattle.node_link.specs.Connections.{Node, IsNode, served_of, envelopes_of, after_connection, serves_connection, serves_connections, ServesPart, ServesParts, Stopped, listening}
+use Rattle.node_link.specs.Connections.{Node, IsNode, served_of, envelopes_of, after_connection, serves_connection, serves_connections}
+use Rattle.node_link.specs.Connections.{ServesPart, ServesParts, Stopped, listening}
 
 -- a count that rose within a call rose in the call
 pub rose_within : (before first last after : ℕ) → before ≤ first → last ≤ after → Rose first last → Rose before after

@@ -1,19 +1,20 @@
 -- What was served of some envelopes, and of more.
-use Rattle.std.proofs.Common.{◌≡◌, ℕ, zero, suc, ◌+◌, ◌-◌, ◌≤◌, List, [], ◌∷◌, ◌++◌, length, drop, take, map, fold, Result, Ok, Err, refl, sym, ap, subst, ◌∙◌, append_assoc, arith}
+use Rattle.std.proofs.Common.{◌≡◌, ℕ, zero, suc, ◌+◌, ◌-◌, ◌≤◌, List, [], ◌∷◌, ◌++◌, length, drop, take, fold, Result, Ok, Err, refl, sym}
+use Rattle.std.proofs.Common.{ap, subst, ◌∙◌, append_assoc, arith}
 use Rattle.std.proofs.lemmas.List.{append-nil, length-append, take_all, take-append-le, take-append-drop}
 use Rattle.std.proofs.Math.Seq.{take-append-add}
 use Rattle.basil_types.specs.declared.outbox.Envelope.{Envelope}
 use Rattle.replica_core.specs.Replicas.{ReplicaSelf, BookValue, Done}
 use Rattle.replica_core.specs.declared.parts.Parts.{Parts}
-use Rattle.replica_core.specs.Nodes.{Shows, ShowsSame, Steps}
-use Rattle.node_steps.specs.Pens.{PenValue, pen_value}
-use Rattle.node_steps.specs.Framed.{framed}
-use Rattle.basil_types.specs.declared.outbox.Outbox.{Outbox}
+use Rattle.replica_core.specs.Nodes.{Shows, ShowsSame}
+use Rattle.replica_core.specs.Telling.{Told, told, told_of}
+use Rattle.node_steps.specs.Pens.{PenValue}
 use Rattle.keyring.specs.declared.verifier.Verifier as verifiers
 use Rattle.keyring.specs.declared.signer.Signer as signers
 use Rattle.replica_core.specs.declared.replica.Replica.{Replica}
 use Rattle.replica_core.specs.declared.refusal.Refusal.{Refusal}
-use Rattle.node_link.specs.Serving.{Served, serves, serves_all, Begins, ServedSome, Handles}
+use Rattle.node_link.specs.Answering.{answer_bytes}
+use Rattle.node_link.specs.Serving.{Served, serves, serves_all, Begins, Carries, ServedSome, Handles, ShowsBook}
 
 -- ---- one after the other
 
@@ -133,14 +134,22 @@ shown_same old new pen book same s =
       noted = same.noted book.noted s.noted;
     }
 
--- a step without a fault did what is answered, and its outbox had no messages before
-pub handles_done : {V S : Type 0} {v : verifiers.Ghosts V} {g : signers.Ghosts S} (replica : Replica V S v g) (old new : Outbox)
-    (answered : Result Done Refusal) (before : BookValue) → old.messages.items ≡ [] →
-    Steps replica.parts (pen_value (g.spent replica.pen) (g.left_of replica.pen)) old new (Ok tt) answered →
-    Handles answered before replica new.messages.items
-handles_done replica old new (Ok done) before e steps =
+-- a plan that was carried out did what is answered
+pub carried_out : {V S : Type 0} {v : verifiers.Ghosts V} {g : signers.Ghosts S} (replica : Replica V S v g)
+    (answered : Result Done Refusal)
+    (before : BookValue) (t : Told) (bytes : List ℕ) → told_of answered ≡ Ok t → Carries replica t bytes →
+    Handles answered before replica bytes
+carried_out replica (Ok done) before t bytes e c =
+    let same : told done ≡ t = cc in
     record {
-      book = steps.book;
-      messages = steps.messages ∙ ap (λ (sent : List Envelope). sent ++ map framed done.sent) e;
+      book = subst (λ (u : Told). ShowsBook replica u.book) (sym same) c.book;
+      text = c.text ∙ ap (λ (u : Told). answer_bytes u.sent) (sym same);
     }
-handles_done replica old new (Err refusal) before e steps = absurd steps
+carried_out replica (Err refusal) before t bytes e c = absurd cc
+
+-- a frame that is refused changes nothing, and nothing is sent
+pub refused_by : {V S : Type 0} {v : verifiers.Ghosts V} {g : signers.Ghosts S} (replica : Replica V S v g) (answered : Result Done Refusal)
+    (before : BookValue) (refusal : Refusal) (bytes : List ℕ) → answered ≡ Err refusal → ShowsBook replica before →
+    bytes ≡ answer_bytes [] → Handles answered before replica bytes
+refused_by replica answered before refusal bytes is shown text =
+    subst (λ (a : Result Done Refusal). Handles a before replica bytes) (sym is) (record { book = shown; text = text })

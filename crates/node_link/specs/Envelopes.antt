@@ -1,6 +1,7 @@
 -- The envelope at the front of bytes: a party, three bytes; the length of a frame, four bytes; and the frame. Where
 -- there is none, more bytes are wanted, or the rules end the connection and the cause is told.
-use Rattle.std.specs.Prelude.{ℕ, List, ◌∷◌, length, take, drop, Option, Some, None, Result, Ok, Err, Bool, ◌==◌, ◌&&◌, nat_le, nat_lt, if◌then◌else◌}
+use Rattle.std.specs.Prelude.{ℕ, List, ◌∷◌, length, take, drop, Option, Some, None, Result, Ok, Err, Bool, ◌==◌, ◌&&◌}
+use Rattle.std.specs.Prelude.{nat_le, nat_lt, if◌then◌else◌}
 use Rattle.std.specs.Int.{w32, from_be_bytes}
 use Rattle.quorum_laws.specs.Numbers.{replicas}
 use Rattle.basil_types.specs.declared.outbox.Envelope.{Envelope}

@@ -1,17 +1,21 @@
 -- A replica that serves connections: what it writes, whatever pieces the bytes come in.
-use Rattle.std.specs.Prelude.{◌≡◌, ℕ, ◌-◌, ◌≤◌, List, [], ◌∷◌, ◌++◌, length, drop, take, map, fold, Option, Some, Result, Ok, Err}
+use Rattle.std.specs.Prelude.{◌≡◌, ℕ, ◌-◌, ◌≤◌, List, [], ◌∷◌, ◌++◌, length, drop, take, map, fold, Option, Some}
+use Rattle.std.specs.Prelude.{Result, Ok, Err}
 use Rattle.basil_types.specs.declared.outbox.Envelope.{Envelope}
 use Rattle.basil_types.specs.Links.{LinkState}
 use Rattle.keyring.specs.declared.verifier.Verifier as verifiers
 use Rattle.keyring.specs.declared.signer.Signer as signers
 use Rattle.node_steps.specs.Framed.{framed}
 use Rattle.node_steps.specs.Pens.{pen_value}
+use Rattle.replica_core.specs.declared.plan.Plan.{Plan}
 use Rattle.replica_core.specs.declared.refusal.Refusal.{Refusal}
 use Rattle.replica_core.specs.declared.replica.Replica.{Replica}
 use Rattle.replica_core.specs.Answers.{answer}
-use Rattle.replica_core.specs.Nodes.{Shows}
+use Rattle.replica_core.specs.Leads.{kept_next}
+use Rattle.replica_core.specs.Nodes.{Shows, perform_plan}
 use Rattle.replica_core.specs.Replicas.{ReplicaSelf, BookValue, Done}
 use Rattle.replica_core.specs.Seats.{self_at}
+use Rattle.replica_core.specs.Telling.{Told, begun}
 use Rattle.node_link.specs.Answering.{answer_bytes}
 
 -- ---- envelopes
@@ -83,11 +87,24 @@ pub record IsAt {V S : Type 0} {v : verifiers.Ghosts V} {g : signers.Ghosts S} (
   pub moments : ticks ≡ Some s.moments
   pub links : told ≡ Some (record state { written = s.written })
 
--- the replica did what it answers, or is as before where it refuses, and these are the messages that it sends
+-- the replica did what it answers, or is as before where it refuses, and these are the bytes of the messages that it
+-- sends
 pub record Handles {V S : Type 0} {v : verifiers.Ghosts V} {g : signers.Ghosts S} (answered : Result Done Refusal)
-    (before : BookValue) (replica : Replica V S v g) (sent : List Envelope) : Type 0 where
+    (before : BookValue) (replica : Replica V S v g) (bytes : List ℕ) : Type 0 where
   pub book : ShowsBook replica (book_after before answered)
-  pub messages : sent ≡ sent_by answered
+  pub text : bytes ≡ answer_bytes (sent_by answered)
+
+-- what a plan does to a replica that shows this book
+abbrev pub planned : {V S : Type 0} {v : verifiers.Ghosts V} {g : signers.Ghosts S} → Replica V S v g → BookValue →
+    Plan → Told
+planned {V} {S} {v} {g} replica book plan =
+    perform_plan (g.fixed replica.pen) (kept_next replica.parts.leading) (begun book) plan
+
+-- the replica shows what was done, and these are the bytes of what it sent
+pub record Carries {V S : Type 0} {v : verifiers.Ghosts V} {g : signers.Ghosts S} (replica : Replica V S v g) (t : Told)
+    (bytes : List ℕ) : Type 0 where
+  pub book : ShowsBook replica t.book
+  pub text : bytes ≡ answer_bytes t.sent
 
 -- so many of the envelopes were handled, and their answers written but for the end of the last
 abbrev pub HasServed : {V S : Type 0} {v : verifiers.Ghosts V} {g : signers.Ghosts S} → Replica V S v g →

@@ -1,6 +1,7 @@
 //! Answers in bytes.
 
-ghost use Rattle.std.specs.Prelude.{◌≡◌, ◌++◌, IfOk, OnOk};
+ghost use Rattle.std.specs.Prelude.{◌≡◌, ◌++◌, ◌+◌, ◌*◌, ◌^◌, ◌<◌, ◌≤◌, [], IfOk, IfSome, length, vec_len};
+ghost use Rattle.std.specs.Prelude.{vec_capacity};
 ghost use Rattle.std.specs.Int.{w32, to_be_bytes};
 ghost use Rattle.std.specs.List.{flat_map};
 ghost use Rattle.node_link.specs.Answering as answers;
@@ -10,6 +11,28 @@ use basil_types::memory::NoMemory;
 use basil_types::outbox::Envelope;
 use basil_types::party::Party;
 use std::alloc::Global;
+
+/// How many bytes an answer of so many messages has, whose frames have so many bytes together; none where that number
+/// has no four bytes.
+fn answer_size(messages: u64, bytes: u64) -> Option<u32>
+    ensures { IfSome result (λ n. n ≡ 4 + (7 * messages + bytes)) }
+{
+    let size = messages.checked_mul(7)?.checked_add(bytes)?.checked_add(4)?;
+    u32::try_from(size).ok()
+}
+
+/// Room for an answer of so many messages, whose frames have so many bytes together; or memory is wanting, also where
+/// the number of its bytes has no four bytes.
+pub(crate) fn answer_room(alloc: Global, messages: u64, bytes: u64) -> Result<Vec<u8>, NoMemory>
+    ensures empty { IfOk result (λ out. out.items ≡ []) }
+    ensures short { IfOk result (λ _. 4 + (7 * messages + bytes) < 2 ^ 32) }
+    ensures room { IfOk result (λ out. 4 + (7 * messages + bytes) ≤ vec_capacity out) }
+{
+    let size = answer_size(messages, bytes).ok_or(NoMemory)?;
+    let mut out = Vec::new(alloc);
+    out.reserve(size as usize)?;
+    Ok(out)
+}
 
 /// The three bytes of a party.
 fn party_bytes(party: Party) -> [u8; 3]
@@ -21,50 +44,55 @@ fn party_bytes(party: Party) -> [u8; 3]
     }
 }
 
-/// Appends bytes.
-fn put(out: &mut Vec<u8>, bytes: &[u8]) -> Result<(), NoMemory>
-    ensures { OnOk result (out.new.items ≡ out.old.items ++ bytes.now) }
+/// Appends bytes for which there is room.
+fn put(out: &mut Vec<u8>, bytes: &[u8])
+    requires { vec_len out.old + length bytes.now ≤ vec_capacity out.old }
+    ensures appended { out.new.items ≡ out.old.items ++ bytes.now }
+    ensures room { vec_capacity out.old ≤ vec_capacity out.new }
 {
-    out.extend_from_slice(bytes)?;
-    Ok(())
+    out.extend_from_slice(bytes).unwrap();
 }
 
-/// Appends a count in four bytes. One that has no four bytes counts things that no memory holds.
-fn put_count(out: &mut Vec<u8>, count: usize) -> Result<(), NoMemory>
-    ensures { OnOk result (out.new.items ≡ out.old.items ++ to_be_bytes w32 count) }
+/// Appends a count in four bytes, for which there is room.
+fn put_count(out: &mut Vec<u8>, count: usize)
+    requires few { count < 2 ^ 32 }
+    requires room { vec_len out.old + 4 ≤ vec_capacity out.old }
+    ensures appended { out.new.items ≡ out.old.items ++ to_be_bytes w32 count }
+    ensures room { vec_capacity out.old ≤ vec_capacity out.new }
 {
-    match u32::try_from(count) {
-        Ok(count) => put(out, &count.to_be_bytes()),
-        Err(_) => Err(NoMemory),
-    }
+    put(out, &(count as u32).to_be_bytes());
 }
 
-/// Appends an envelope.
-fn put_envelope(out: &mut Vec<u8>, envelope: &Envelope) -> Result<(), NoMemory>
-    ensures { OnOk result (out.new.items ≡ out.old.items ++ envelope_bytes envelope.now) }
+/// Appends an envelope, for which there is room.
+fn put_envelope(out: &mut Vec<u8>, envelope: &Envelope)
+    requires short { length (envelope_bytes envelope.now) < 2 ^ 32 }
+    requires room { vec_len out.old + length (envelope_bytes envelope.now) ≤ vec_capacity out.old }
+    ensures appended { out.new.items ≡ out.old.items ++ envelope_bytes envelope.now }
+    ensures room { vec_capacity out.old ≤ vec_capacity out.new }
 {
-    put(out, &party_bytes(envelope.to))?;
+    put(out, &party_bytes(envelope.to));
     let frame = envelope.frame.as_slice();
-    put_count(out, frame.len())?;
-    put(out, frame)
+    put_count(out, frame.len());
+    put(out, frame);
 }
 
-/// Appends envelopes in order.
-fn put_envelopes(out: &mut Vec<u8>, envelopes: &[Envelope]) -> Result<(), NoMemory>
-    ensures { OnOk result (out.new.items ≡ out.old.items ++ flat_map envelope_bytes envelopes.now) }
+/// Appends envelopes in order, for which there is room.
+fn put_envelopes(out: &mut Vec<u8>, envelopes: &[Envelope])
+    requires short { length (flat_map envelope_bytes envelopes.now) < 2 ^ 32 }
+    requires room { vec_len out.old + length (flat_map envelope_bytes envelopes.now) ≤ vec_capacity out.old }
+    ensures { out.new.items ≡ out.old.items ++ flat_map envelope_bytes envelopes.now }
 {
     for envelope in envelopes {
-        put_envelope(out, envelope)?;
+        put_envelope(out, envelope);
     }
-    Ok(())
 }
 
-/// The answer of which these are the envelopes.
-pub(crate) fn answer_of(alloc: Global, sent: &[Envelope]) -> Result<Vec<u8>, NoMemory>
-    ensures { IfOk result (λ bytes. bytes.items ≡ answer_bytes sent.now) }
+/// Appends the answer of which these are the envelopes, for which there is room. Takes no memory.
+pub(crate) fn put_answer(out: &mut Vec<u8>, sent: &[Envelope])
+    requires short { length (answer_bytes sent.now) < 2 ^ 32 }
+    requires room { vec_len out.old + length (answer_bytes sent.now) ≤ vec_capacity out.old }
+    ensures { out.new.items ≡ out.old.items ++ answer_bytes sent.now }
 {
-    let mut out = Vec::new(alloc);
-    put_count(&mut out, sent.len())?;
-    put_envelopes(&mut out, sent)?;
-    Ok(out)
+    put_count(out, sent.len());
+    put_envelopes(out, sent);
 }

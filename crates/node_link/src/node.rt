@@ -3,60 +3,86 @@
 ghost use Rattle.std.specs.Prelude.{◌≡◌, ◌+◌, ◌-◌, ◌^◌, ◌<◌, ◌≤◌, ◌∷◌, [], IfOk, OnErr, OnOk};
 ghost use Rattle.basil_types.specs.Causes.{HasLinkCause};
 ghost use Rattle.basil_types.specs.Links.{LinkState};
-ghost use Rattle.node_link.specs.Serving.{Handles, HasServed, IsAt, Served, ShowsBook, own, serves};
+ghost use Rattle.node_link.specs.Answering.{answer_bytes};
+ghost use Rattle.node_link.specs.Serving.{Carries, Handles, HasServed, IsAt, Served, ShowsBook, own, planned, serves};
 ghost use Rattle.replica_core.specs.Answers.{answer};
+ghost use Rattle.replica_core.specs.Nodes.{CanCommit};
 ghost use Rattle.replica_core.specs.Replicas.{BookValue};
 
-use crate::answer::answer_of;
+use crate::answer::{answer_room, put_answer};
 use basil_types::clock::Clock;
 use basil_types::links::{LinkFail, Links};
-use basil_types::list::List;
 use basil_types::memory::NoMemory;
-use basil_types::outbox::{Envelope, Outbox};
+use basil_types::outbox::Envelope;
 use keyring::signer::Signer;
 use keyring::verifier::Verifier;
-use replica_core::{Refusal, Replica};
+use replica_core::{Plan, Refusal, Replica};
 use std::alloc::Global;
 
-/// An outbox without messages.
-fn empty_outbox(alloc: Global) -> Outbox
-    ensures messages { result.messages.items ≡ [] }
-    ensures signed { result.signed.items ≡ [] }
+/// Carries a plan out, and gives the bytes of its answer. Where memory is wanting for these, the plan is let go, and
+/// the replica is as before.
+fn carry_out<V: Verifier, S: Signer>(
+    alloc: Global,
+    replica: &mut Replica<V, S>,
+    plan: Plan,
+) -> Result<Vec<u8>, NoMemory>
+    requires { CanCommit (S.fixed replica.old.pen).size (S.left_of replica.old.pen) replica.old.parts plan }
+    ensures done { (book : BookValue) → ShowsBook replica.old book → IfOk result (λ bytes.
+        Carries replica.new (planned replica.old book plan) bytes.items) }
+    ensures as_before { (book : BookValue) → ShowsBook replica.old book → OnErr result (ShowsBook replica.new book) }
+    ensures own { own replica.new ≡ own replica.old }
 {
-    Outbox {
-        messages: List::new(alloc),
-        signed: List::new(alloc),
+    match answer_room(alloc, plan.messages(), plan.bytes()) {
+        Ok(room) => {
+            let mut out = room;
+            let sent = replica.commit(plan);
+            put_answer(&mut out, sent.messages.as_slice());
+            Ok(out)
+        }
+        Err(wanting) => {
+            replica.give_up(plan);
+            Err(wanting)
+        }
     }
 }
 
-/// What the replica sends for the frame of an envelope at this moment: nothing where it refuses it. Want of memory
-/// leaves the replica as before.
+/// The answer without a message.
+fn empty_answer(alloc: Global) -> Result<Vec<u8>, NoMemory>
+    ensures { IfOk result (λ bytes. bytes.items ≡ answer_bytes []) }
+{
+    let mut out = answer_room(alloc, 0, 0)?;
+    put_answer(&mut out, &[]);
+    Ok(out)
+}
+
+/// What the replica answers to the frame of an envelope at this moment, in bytes: no message where it refuses it. Want
+/// of memory leaves the replica as before.
 fn handle<V: Verifier, S: Signer>(
     alloc: Global,
     replica: &mut Replica<V, S>,
     now: u64,
     envelope: &Envelope,
-) -> Result<Outbox, NoMemory>
+) -> Result<Vec<u8>, NoMemory>
     ensures handled { (book : BookValue) → ShowsBook replica.old book →
-        IfOk result (λ out. Handles (answer (own replica.old) now envelope.now.to book envelope.now.frame) book
-        replica.new out.messages.items) }
+        IfOk result (λ bytes. Handles (answer (own replica.old) now envelope.now.to book envelope.now.frame) book
+        replica.new bytes.items) }
     ensures as_before { (book : BookValue) → ShowsBook replica.old book → OnErr result (ShowsBook replica.new book) }
     ensures own { own replica.new ≡ own replica.old }
 {
-    let mut out = empty_outbox(alloc);
-    match replica.step(now, envelope.to, envelope.frame.as_slice(), &mut out) {
-        Ok(()) => Ok(out),
+    match replica.plan(now, envelope.to, envelope.frame.as_slice()) {
+        Ok(plan) => carry_out(alloc, replica, plan),
         Err(refused) => {
             if refused == Refusal::NoMemory {
                 Err(NoMemory)
             } else {
-                Ok(out)
+                empty_answer(alloc)
             }
         }
     }
 }
 
-/// Handles the frame of an envelope at the clock's next moment, counts it, and writes the answer.
+/// Handles the frame of an envelope at the clock's next moment, counts it, and writes the answer. Memory may be wanting
+/// only before it is handled.
 pub(crate) fn answer_one<V: Verifier, S: Signer, L: Links, C: Clock>(
     alloc: Global,
     replica: &mut Replica<V, S>,
@@ -81,8 +107,7 @@ pub(crate) fn answer_one<V: Verifier, S: Signer, L: Links, C: Clock>(
     ensures cause { HasLinkCause (L.faults links.old) (L.faults links.new) result }
 {
     let now = clock.now();
-    let out = handle(alloc, replica, now, envelope)?;
+    let answer = handle(alloc, replica, now, envelope)?;
     *frames += 1;
-    let answer = answer_of(alloc, out.messages.as_slice())?;
     links.write(&answer)
 }

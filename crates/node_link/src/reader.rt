@@ -1,6 +1,7 @@
 //! A reader of the bytes of one connection.
 
-ghost use Rattle.std.specs.Prelude.{◌≡◌, ◌++◌, ◌-◌, ◌≤◌, ℕ, List, [], IfOk, MatchOption, OnErr, OnOk, drop, length, slice_get};
+ghost use Rattle.std.specs.Prelude.{◌≡◌, ◌++◌, ◌-◌, ◌≤◌, ℕ, List, [], IfOk, MatchOption, OnErr, OnOk, drop, length};
+ghost use Rattle.std.specs.Prelude.{slice_get};
 ghost use Rattle.node_link.specs.Dialogue.{dialogue_of, or_connection, spoken_in};
 ghost use Rattle.node_link.specs.Standing.{Adds, Stands, and_taken};
 

@@ -2,7 +2,8 @@
 
 ghost use Rattle.std.specs.Prelude.{◌≡◌, ◌+◌, ◌^◌, ◌<◌, ◌≤◌, IfOk, OnErr, OnOk};
 ghost use Rattle.basil_types.specs.Causes.{Rose};
-ghost use Rattle.node_link.specs.Connections.{HasListened, IsNode, Node, ServesPart, ServesParts, Stopped, listening, serves_connection, serves_connections};
+ghost use Rattle.node_link.specs.Connections.{HasListened, IsNode, Node, ServesPart, ServesParts, Stopped, listening};
+ghost use Rattle.node_link.specs.Connections.{serves_connection, serves_connections};
 ghost use Rattle.node_link.specs.Serving.{own};
 
 use crate::connection::converse;
@@ -84,11 +85,11 @@ fn serve_each<V: Verifier, S: Signer, L: Links, C: Clock>(
     Ok(frames)
 }
 
-/// Serves a replica: listens at the address and accepts so many connections, at most 1,000,000, one after another. On each
-/// it handles the envelopes that the bytes hold, each frame at the clock's next moment, and writes the answers, until the
-/// peer closes it, a read or a write of it fails, or the rules end it. Answers how many frames the replica was handed,
-/// those that it refused too. A failing listen or accept is LinkFault. What was handled before a fault, or before memory
-/// was wanting, stands.
+/// Serves a replica: listens at the address and accepts so many connections, at most 1,000,000, one after another. On
+/// each it handles the envelopes that the bytes hold, each frame at the clock's next moment, and writes the answers,
+/// until the peer closes it, a read or a write of it fails, or the rules end it. Answers how many frames the replica
+/// was handed, those that it refused too. A failing listen or accept is LinkFault. What was handled before a fault, or
+/// before memory was wanting, stands.
 pub fn serve<V: Verifier, S: Signer, L: Links, C: Clock>(
     alloc: Global,
     replica: &mut Replica<V, S>,

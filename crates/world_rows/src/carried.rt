@@ -87,8 +87,22 @@ fn take_all(
     Ok(())
 }
 
-/// Whether one write by one replica, with these lines before its rounds, has this report over links that alter these
-/// carries.
+/// Whether one write, with these lines before its rounds, has this report.
+fn writes_one(
+    alloc: Global,
+    replay: &mut Replay,
+    before: &[&str],
+    links: &mut MemLinks,
+    carried: bool,
+    report: &str,
+) -> Result<bool, Fail> {
+    take_all(alloc, replay, WRITE, links, carried)?;
+    take_all(alloc, replay, before, links, carried)?;
+    take_all(alloc, replay, ROUNDS, links, carried)?;
+    has_text(replay, report)
+}
+
+/// The same by one replica, over links that alter these carries.
 fn reports(
     alloc: Global,
     before: &[&str],
@@ -96,12 +110,9 @@ fn reports(
     carried: bool,
     report: &str,
 ) -> Result<bool, Fail> {
-    let mut replay = plain_replay(alloc, 0)?;
     let mut links = links_of(alloc, changed, &[])?;
-    take_all(alloc, &mut replay, WRITE, &mut links, carried)?;
-    take_all(alloc, &mut replay, before, &mut links, carried)?;
-    take_all(alloc, &mut replay, ROUNDS, &mut links, carried)?;
-    has_text(&replay, report)
+    let mut replay = plain_replay(alloc, 0)?;
+    writes_one(alloc, &mut replay, before, &mut links, carried, report)
 }
 
 #[test]
@@ -119,16 +130,21 @@ fn a_node_is_handed_what_was_carried(rt: HostRuntime) -> Result<(), Fail> {
     Ok(())
 }
 
-/// Whether a round that is cut short by a failing third carry leaves its first two deliveries, and goes on.
-fn is_cut_short(alloc: Global) -> Result<bool, Fail> {
-    let mut replay = plain_replay(alloc, 1)?;
-    let mut links = links_of(alloc, &[], &[3])?;
-    take_all(alloc, &mut replay, WRITE, &mut links, true)?;
-    let done = take(alloc, &mut replay, "round", &mut links, true)?;
+/// Whether a round that fails leaves its first two deliveries, and goes on.
+fn leaves_half(alloc: Global, replay: &mut Replay, links: &mut MemLinks) -> Result<bool, Fail> {
+    take_all(alloc, replay, WRITE, links, true)?;
+    let done = take(alloc, replay, "round", links, true)?;
     let failed = matches!(&done, Err(ReplayFault::LinkFault));
-    let left = has_text(&replay, HALF_ROUND)?;
-    take_all(alloc, &mut replay, ROUNDS, &mut links, true)?;
-    Ok(failed && left && has_text(&replay, WHOLE)?)
+    let left = has_text(replay, HALF_ROUND)?;
+    take_all(alloc, replay, ROUNDS, links, true)?;
+    Ok(failed && left && has_text(replay, WHOLE)?)
+}
+
+/// Whether it does so where the third carry fails.
+fn is_cut_short(alloc: Global) -> Result<bool, Fail> {
+    let mut links = links_of(alloc, &[], &[3])?;
+    let mut replay = plain_replay(alloc, 1)?;
+    leaves_half(alloc, &mut replay, &mut links)
 }
 
 #[test]

@@ -10,6 +10,8 @@ mod limits;
 #[cfg(test)]
 mod telling;
 #[cfg(test)]
+mod trials;
+#[cfg(test)]
 mod trusting;
 #[cfg(test)]
 mod worlds;

@@ -1,6 +1,7 @@
 //! The limits of a pool.
 
-use crate::worlds::{AMPLE, deliver, plain_world, step, take, take_all, write_one};
+use crate::trials::{Trial, comes_out};
+use crate::worlds::{AMPLE, deliver, step, take, take_all, write_one};
 use basil_types::party::Party;
 use cluster_run::fault::WorldFault;
 use cluster_world::event::Event;
@@ -33,7 +34,7 @@ fn holds(world: &World<ReplayKit>, messages: u64, waits: Option<u64>) -> bool {
 }
 
 /// Whether the six first-stage messages of a transaction have no room.
-fn prepares_in_vain(world: &mut World<ReplayKit>) -> Result<bool, Fail> {
+pub(crate) fn prepares_in_vain(world: &mut World<ReplayKit>) -> Result<bool, Fail> {
     write_one(world)?;
     let done = step(world, Event::Prepare { tx: 0 })?;
     Ok(full(done) == Some((0, 0)) && holds(world, 0, None) && world.transaction(0).is_none())
@@ -42,8 +43,7 @@ fn prepares_in_vain(world: &mut World<ReplayKit>) -> Result<bool, Fail> {
 /// In a pool of five messages nothing happens where six would enter.
 #[test]
 fn six_messages_have_no_room_for_five(rt: HostRuntime) -> Result<(), Fail> {
-    let mut world = plain_world(rt.alloc(), 1, few(5))?;
-    assert!(rt; prepares_in_vain(&mut world)?);
+    assert!(rt; comes_out(rt.alloc(), 1, few(5), Trial::PreparesInVain)?);
     Ok(())
 }
 
@@ -67,33 +67,29 @@ fn votes_in_vain(alloc: Global, world: &mut World<ReplayKit>) -> Result<bool, Fa
 
 /// The same, twice, where the pool holds the first stage, of 53 bytes, and the vote, of 71: nothing happens, the vote still
 /// waits, and nothing was seen.
-fn is_left_as_before(alloc: Global, world: &mut World<ReplayKit>) -> Result<bool, Fail> {
+pub(crate) fn is_left_as_before(alloc: Global, world: &mut World<ReplayKit>) -> Result<bool, Fail> {
     vote(alloc, world)?;
     Ok(votes_in_vain(alloc, world)? && votes_in_vain(alloc, world)?)
 }
 
 #[test]
 fn a_delivery_without_room_leaves_all_as_before(rt: HostRuntime) -> Result<(), Fail> {
-    let alloc = rt.alloc();
-    let mut world = plain_world(alloc, 0, few(2))?;
-    assert!(rt; is_left_as_before(alloc, &mut world)?);
+    assert!(rt; comes_out(rt.alloc(), 0, few(2), Trial::LeftAsBefore)?);
     Ok(())
 }
 
 #[test]
 fn a_delivery_without_bytes_leaves_all_as_before(rt: HostRuntime) -> Result<(), Fail> {
-    let alloc = rt.alloc();
     let limits = Room {
         messages: AMPLE.messages,
         bytes: 124,
     };
-    let mut world = plain_world(alloc, 0, limits)?;
-    assert!(rt; is_left_as_before(alloc, &mut world)?);
+    assert!(rt; comes_out(rt.alloc(), 0, limits, Trial::LeftAsBefore)?);
     Ok(())
 }
 
 /// Whether with room for the writeback it is sent.
-fn is_written_back(alloc: Global, world: &mut World<ReplayKit>) -> Result<bool, Fail> {
+pub(crate) fn is_written_back(alloc: Global, world: &mut World<ReplayKit>) -> Result<bool, Fail> {
     vote(alloc, world)?;
     deliver(alloc, world, 2)?;
     Ok(holds(world, 3, Some(3)))
@@ -101,14 +97,12 @@ fn is_written_back(alloc: Global, world: &mut World<ReplayKit>) -> Result<bool, 
 
 #[test]
 fn a_delivery_with_room_is_done(rt: HostRuntime) -> Result<(), Fail> {
-    let alloc = rt.alloc();
-    let mut world = plain_world(alloc, 0, few(3))?;
-    assert!(rt; is_written_back(alloc, &mut world)?);
+    assert!(rt; comes_out(rt.alloc(), 0, few(3), Trial::WrittenBack)?);
     Ok(())
 }
 
 /// Whether of two raw frames only the first enters.
-fn takes_one(world: &mut World<ReplayKit>) -> Result<bool, Fail> {
+pub(crate) fn takes_one(world: &mut World<ReplayKit>) -> Result<bool, Fail> {
     let raw = Event::Raw {
         from: Party::Client { number: 1 },
         to: Party::Replica { shard: 0, index: 0 },
@@ -121,7 +115,6 @@ fn takes_one(world: &mut World<ReplayKit>) -> Result<bool, Fail> {
 
 #[test]
 fn a_raw_frame_needs_room(rt: HostRuntime) -> Result<(), Fail> {
-    let mut world = plain_world(rt.alloc(), 0, few(1))?;
-    assert!(rt; takes_one(&mut world)?);
+    assert!(rt; comes_out(rt.alloc(), 0, few(1), Trial::TakesOne)?);
     Ok(())
 }

@@ -1,6 +1,7 @@
 //! What a world tells.
 
-use crate::worlds::{AMPLE, deliver, plain_world, take, take_all, write_one};
+use crate::trials::{Trial, comes_out};
+use crate::worlds::{AMPLE, deliver, take, take_all, write_one};
 use basil_types::bytes::id_of;
 use basil_types::party::{Decision, Party};
 use client_core::ReadState;
@@ -15,7 +16,7 @@ const CLIENT: Party = Party::Client { number: 1 };
 const REPLICA: Party = Party::Replica { shard: 0, index: 0 };
 
 /// Whether nothing is told.
-fn is_empty(world: &World<ReplayKit>) -> Result<bool, Fail> {
+pub(crate) fn is_empty(world: &World<ReplayKit>) -> Result<bool, Fail> {
     Ok(
         world.messages() == 0
             && world.undelivered(1).is_none()
@@ -32,8 +33,7 @@ fn is_empty(world: &World<ReplayKit>) -> Result<bool, Fail> {
 
 #[test]
 fn a_new_world_tells_nothing(rt: HostRuntime) -> Result<(), Fail> {
-    let world = plain_world(rt.alloc(), 0, AMPLE)?;
-    assert!(rt; is_empty(&world)?);
+    assert!(rt; comes_out(rt.alloc(), 0, AMPLE, Trial::Empty)?);
     Ok(())
 }
 
@@ -68,11 +68,14 @@ fn writebacks_are_seen(alloc: Global, world: &mut World<ReplayKit>) -> Result<bo
     Ok(sent && world.committed()?.len() == 1 && world.undelivered(1).is_none())
 }
 
+/// Whether a write, its votes and its writebacks are told.
+pub(crate) fn is_written(alloc: Global, world: &mut World<ReplayKit>) -> Result<bool, Fail> {
+    Ok(votes_are_told(alloc, world)? && writebacks_are_seen(alloc, world)?)
+}
+
 #[test]
 fn a_write_is_told(rt: HostRuntime) -> Result<(), Fail> {
-    let alloc = rt.alloc();
-    let mut world = plain_world(alloc, 0, AMPLE)?;
-    assert!(rt; votes_are_told(alloc, &mut world)? && writebacks_are_seen(alloc, &mut world)?);
+    assert!(rt; comes_out(rt.alloc(), 0, AMPLE, Trial::Written)?);
     Ok(())
 }
 
@@ -107,16 +110,19 @@ fn own_writes_are_told(world: &mut World<ReplayKit>) -> Result<bool, Fail> {
     Ok(written && matches!(world.value(0, b"b"), ReadState::OwnDeleted))
 }
 
+/// Whether a read and own writes are told.
+pub(crate) fn is_read(alloc: Global, world: &mut World<ReplayKit>) -> Result<bool, Fail> {
+    Ok(reads_are_told(alloc, world)? && own_writes_are_told(world)?)
+}
+
 #[test]
 fn reads_and_own_writes_are_told(rt: HostRuntime) -> Result<(), Fail> {
-    let alloc = rt.alloc();
-    let mut world = plain_world(alloc, 0, AMPLE)?;
-    assert!(rt; reads_are_told(alloc, &mut world)? && own_writes_are_told(&mut world)?);
+    assert!(rt; comes_out(rt.alloc(), 0, AMPLE, Trial::Read)?);
     Ok(())
 }
 
 /// Whether a byte that is no frame is refused by its receiver.
-fn refusals_are_told(alloc: Global, world: &mut World<ReplayKit>) -> Result<bool, Fail> {
+pub(crate) fn is_refused(alloc: Global, world: &mut World<ReplayKit>) -> Result<bool, Fail> {
     let raw = Event::Raw {
         from: CLIENT,
         to: REPLICA,
@@ -129,8 +135,6 @@ fn refusals_are_told(alloc: Global, world: &mut World<ReplayKit>) -> Result<bool
 
 #[test]
 fn a_refusal_is_told(rt: HostRuntime) -> Result<(), Fail> {
-    let alloc = rt.alloc();
-    let mut world = plain_world(alloc, 0, AMPLE)?;
-    assert!(rt; refusals_are_told(alloc, &mut world)?);
+    assert!(rt; comes_out(rt.alloc(), 0, AMPLE, Trial::Refused)?);
     Ok(())
 }

@@ -7,7 +7,6 @@ use cluster_world::fault::StepFault;
 use cluster_world::world::World;
 use message_pool::Room;
 use premise_watch::faulty::Faulty;
-use replay_kit::{KitKind, ReplayKit};
 use run_kit::Kit;
 use std::alloc::Global;
 use std::test::Fail;
@@ -40,12 +39,6 @@ pub(crate) fn world_of<K: Kit + Drop>(
         limits,
     };
     Ok(World::new(alloc, beginning, Faulty::new(), kit)?)
-}
-
-/// The same over plain keys.
-pub(crate) fn plain_world(alloc: Global, f: u8, limits: Room) -> Result<World<ReplayKit>, Fail> {
-    let kit = ReplayKit::new(alloc, cluster_of(f)?, KitKind::Plain)?;
-    world_of(alloc, f, limits, kit)
 }
 
 /// What an event comes to in a world that hasn't ended.

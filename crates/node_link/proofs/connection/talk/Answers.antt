@@ -1,7 +1,8 @@
 -- What was read is answered at each turn; and how a connection ends: by its peer, by the rules, or by a call that fails.
 use Rattle.std.proofs.Common.{◌+◌, ◌≤◌, refl, ap, ◌∙◌, take, length, arith}
 use Rattle.node_link.proofs.AnsweringLaws.{on_err}
-use Rattle.node_link.proofs.TalkingLaws.{talking_none, talking_more, fed_by, has_room, few_frames, talked_to_end, talked_by_rules, talked_until_read, talked_until_fed, talked_until_answered}
+use Rattle.node_link.proofs.TalkingLaws.{talking_none, talking_more, fed_by, has_room, few_frames, talked_to_end, talked_by_rules}
+use Rattle.node_link.proofs.TalkingLaws.{talked_until_read, talked_until_fed, talked_until_answered}
 use Rattle.node_link.proofs.connection.talk.Goals as goal
 
 pub loop-alloc-init : goal.loop-alloc-init
