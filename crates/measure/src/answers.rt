@@ -177,14 +177,14 @@ pub fn flood(alloc: Global, handing: Handing, known: u32, count: u32) -> Result<
     };
     let mut client = client(alloc, cluster);
     let mut out = outbox(alloc);
-    let Some(id) = form(&mut client, &mut out) else {
-        return Ok(0);
-    };
-    flood_by(
-        alloc,
-        &mut client,
-        handing,
-        &id,
-        0..known.saturating_add(count),
-    )
+    match form(&mut client, &mut out) {
+        Some(id) => flood_by(
+            alloc,
+            &mut client,
+            handing,
+            &id,
+            0..known.saturating_add(count),
+        ),
+        None => Ok(0),
+    }
 }

@@ -173,17 +173,19 @@ pub fn plain_steps(
     let keys = PlainKeys::new(&cluster);
     let mut replica = Replica::new(alloc, cluster, 0, 0, keys, PlainPen::new(REPLICA));
     let mut client = PlainPen::new(CLIENT);
-    fill(alloc, &mut replica, &mut client, known)?;
-    step_often(
-        alloc,
-        &cluster,
-        &mut replica,
-        &mut client,
-        stepping,
-        handing,
-        known,
-        count,
-    )
+    match fill(alloc, &mut replica, &mut client, known) {
+        Ok(()) => step_often(
+            alloc,
+            &cluster,
+            &mut replica,
+            &mut client,
+            stepping,
+            handing,
+            known,
+            count,
+        ),
+        Err(wanting) => Err(wanting),
+    }
 }
 
 /// Hands a replica of the replay's LMS keys of a set the first stages of so many transactions.
@@ -197,9 +199,9 @@ pub fn lms_steps(
         return Ok(0);
     };
     let keys = LmsKeys::replay(alloc, &cluster, set)?;
+    let mut client = LmsPen::replay(alloc, CLIENT, set)?;
     let pen = LmsPen::replay(alloc, REPLICA, set)?;
     let mut replica = Replica::new(alloc, cluster, 0, 0, keys, pen);
-    let mut client = LmsPen::replay(alloc, CLIENT, set)?;
     let stepping = Stepping::FirstStage;
     step_often(
         alloc,

@@ -105,7 +105,11 @@ fn served(
     links: &mut MemLinks,
     connections: u64,
 ) -> Result<Result<u64, ServeFault>, Fail> {
+    if connections > 1000 {
+        return Err("too many".into());
+    }
     let cluster = Cluster::new(0, 1, 1, 100)?;
+    let mut clock = MemClock::new(Vec::from_slice(alloc, &[10u64])?);
     let party = Party::Replica { shard: 0, index: 0 };
     let mut replica = Replica::new(
         alloc,
@@ -115,10 +119,6 @@ fn served(
         PlainKeys::new(&cluster),
         PlainPen::new(party),
     );
-    let mut clock = MemClock::new(Vec::from_slice(alloc, &[10u64])?);
-    if connections > 1000 {
-        return Err("too many".into());
-    }
     Ok(serve(
         alloc,
         &mut replica,
