@@ -134,4 +134,4 @@ pub record IsBrokenEnd (road : Road) (bytes : List ℕ) (old new : Option (List 
   pub broken : premise.Broken
   pub leads : outcome_on road bytes ≡ Err (fault.Broken broken)
   pub text : TookAll old new (text_of (Broken broken))
-  pub real : IsRealBreak broken
+  pub real : IsRealBreak road bytes broken

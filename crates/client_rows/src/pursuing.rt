@@ -6,13 +6,12 @@ use crate::told;
 use crate::vectors::{WRITES_A, WRITES_BOTH};
 use basil_types::bytes::Bytes;
 use basil_types::cluster::Cluster;
-use basil_types::party::Decision;
 use basil_types::transaction::TransactionView;
 use client_recover::{FrameFault, Pursuit};
-use frame_values::owned::Certificate;
 use frame_views::frames::{MessageView, check};
 use keyring::plain::PlainKeys;
 use std::alloc::Global;
+use std::process::Abort;
 use std::test::Fail;
 use txn_meta::form::check_form;
 
@@ -98,25 +97,60 @@ fn follow(
     }
 }
 
-/// A pursuit that took the frames of these names, in order, with all that `follow` reads among them.
-pub(crate) fn after(alloc: Global, shards: u8, words: &str) -> Result<Pursuit, Fail> {
+/// What is asked of a pursuit.
+#[derive(Clone, Copy)]
+pub(crate) enum Asked {
+    /// Its outcome.
+    Outcome,
+    /// How many votes and log replies it holds.
+    Held,
+    /// Its second stage.
+    Second,
+    /// Its invoke.
+    Invoke,
+    /// How many it held and what it had decided before its last add, to which it goes back.
+    Back,
+}
+
+/// What a pursuit answers once it took the frames of these names, in order, with all that `follow` reads among them.
+fn answer(
+    alloc: Global,
+    pursuit: &mut Pursuit,
+    pursued: &Pursued<'_>,
+    words: &str,
+    asked: Asked,
+) -> Result<String, Fail> {
+    for word in words.split(' ') {
+        follow(alloc, pursuit, pursued, word)?;
+    }
+    match asked {
+        Asked::Outcome => told::outcome(alloc, pursuit.outcome()),
+        Asked::Held => Ok(format!(in alloc; "{}", pursuit.held())?),
+        Asked::Second => told::asking(alloc, &pursuit.second()?),
+        Asked::Invoke => told::asking(alloc, &pursuit.invoke()?),
+        Asked::Back => told::back(alloc, pursuit),
+    }
+}
+
+/// What a new pursuit answers once it took the frames of these names. It is owned here alone, and let go in one place.
+fn after(alloc: Global, shards: u8, words: &str, asked: Asked) -> Result<String, Fail> {
     let cluster = Cluster::new(1, shards, 2, 100)?;
     let rival = fast_commit(alloc, READS_A, &[(shards.saturating_sub(1), 6)])?;
     let pursued = pursued(shards, &rival);
     let mut pursuit = pursuit_of(alloc, pursued.transaction, &cluster)?;
-    for word in words.split(' ') {
-        follow(alloc, &mut pursuit, &pursued, word)?;
-    }
-    Ok(pursuit)
+    answer(alloc, &mut pursuit, &pursued, words, asked)
 }
 
-/// An outcome as a text, empty where there is none.
-pub(crate) fn outcome_text(
+/// Each row's answer is its last text: the shards of a cluster with f = 1, the frames that were taken, and the answer.
+pub(crate) fn are_answered(
+    rt: &impl Abort,
     alloc: Global,
-    outcome: Option<(Decision, &Certificate)>,
-) -> Result<String, Fail> {
-    match outcome {
-        Some((_, certificate)) => Ok(told::certificate(alloc, certificate)?),
-        None => Ok(String::new(alloc)),
+    rows: &[(u8, &str, &str)],
+    asked: Asked,
+) -> Result<(), Fail> {
+    for &(shards, words, wanted) in rows {
+        let found = after(alloc, shards, words, asked)?;
+        assert!(rt; found.as_str() == wanted, "{words}: {found}");
     }
+    Ok(())
 }

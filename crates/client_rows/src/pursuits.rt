@@ -2,11 +2,11 @@
 
 use crate::answers::{Pursued, frame_of};
 use crate::made::fast_commit;
-use crate::pursuing::{READS_A, after, outcome_text, pursuit_of, take};
+use crate::pursuing::{Asked, READS_A, are_answered, pursuit_of, take};
 use crate::vectors::{WRITES_A, WRITES_B, WRITES_BOTH};
 use basil_types::cluster::Cluster;
 use certificates::CertRefusal;
-use client_recover::FrameFault;
+use client_recover::{FrameFault, Pursuit};
 use std::alloc::Global;
 use std::test::Fail;
 
@@ -60,6 +60,13 @@ const OUTCOMES: &[(u8, &str, &str)] = &[
     (1, "p03 w", "conflict 0:3"),
     (1, "a00 a01 a02 a03 p04 w", "fast abort 0:0123"),
     (1, "w x", "fast commit 0:012345"),
+    (1, "w a00 a01 a02 a03", "fast commit 0:012345"),
+    (1, "w p03", "fast commit 0:012345"),
+    (
+        1,
+        "C0000 C0100 C0200 C0300 C0400 c00 c01 c02 c03 c04 c05",
+        "logged commit in 0: 0@0 1@0 2@0 3@0 4@0",
+    ),
     (1, "c00 c01 c02 c03 c04 x c05", "fast abort 0:0123"),
     // One frame that ends two ways: a fast abort comes before the conflict that its last vote shows.
     (1, "a00 a01 a02 p05", "fast abort 0:0125"),
@@ -67,12 +74,7 @@ const OUTCOMES: &[(u8, &str, &str)] = &[
 
 #[test]
 fn five_rules_decide_in_their_order(rt: HostRuntime) -> Result<(), Fail> {
-    for (shards, words, wanted) in OUTCOMES {
-        let pursuit = after(rt.alloc(), *shards, words)?;
-        let found = outcome_text(rt.alloc(), pursuit.outcome())?;
-        assert!(rt; found.as_str() == *wanted, "{words}: {found}");
-    }
-    Ok(())
+    are_answered(&rt, rt.alloc(), OUTCOMES, Asked::Outcome)
 }
 
 /// What a frame with one byte changed meets: the shards of the cluster, the transaction that is pursued, the committed one
@@ -128,26 +130,37 @@ const FAULTS: &[Row] = &[
     (1, WRITES_A, READS_A, "w", 264, 1, SIXTH),
 ];
 
-/// The answer to a row's frame; fails where it is no frame of the cluster. What is held is as before where it is refused.
-fn answer(alloc: Global, row: &Row) -> Result<Result<(), FrameFault>, Fail> {
-    let (shards, transaction, rival, word, place, mask, _) = *row;
-    let cluster = Cluster::new(1, shards, 2, 100)?;
+/// A row's frame with its byte changed.
+fn changed(alloc: Global, row: &Row) -> Result<Vec<u8>, Fail> {
+    let (_, transaction, rival, word, place, mask, _) = *row;
     let writeback = fast_commit(alloc, rival, &[(0, 6)])?;
     let pursued = Pursued {
         transaction,
         rival: &writeback,
         tallies: &[(0, 6)],
     };
-    let mut pursuit = pursuit_of(alloc, transaction, &cluster)?;
     let mut frame = frame_of(alloc, &pursued, word)?;
     if place < frame.len() {
         frame[place] ^= mask;
     }
-    let answer = take(&mut pursuit, &frame)?;
+    Ok(frame)
+}
+
+/// The answer to a frame; fails where it is no frame of the cluster, or is refused and something is held.
+fn taken(pursuit: &mut Pursuit, frame: &[u8]) -> Result<Result<(), FrameFault>, Fail> {
+    let answer = take(pursuit, frame)?;
     if answer.is_err() && (pursuit.held() != 0 || pursuit.outcome().is_some()) {
         return Err(Fail::new("a refused frame was taken"));
     }
     Ok(answer)
+}
+
+/// The answer to a row's frame.
+fn answer(alloc: Global, row: &Row) -> Result<Result<(), FrameFault>, Fail> {
+    let cluster = Cluster::new(1, row.0, 2, 100)?;
+    let frame = changed(alloc, row)?;
+    let mut pursuit = pursuit_of(alloc, row.1, &cluster)?;
+    taken(&mut pursuit, &frame)
 }
 
 #[test]

@@ -1,30 +1,7 @@
 //! What a client sends by the frames that it took: the second stage, and what invokes the fallback.
 
-use crate::pursuing::after;
-use crate::told;
-use frame_values::owned::Message;
-use std::alloc::Global;
+use crate::pursuing::{Asked, are_answered};
 use std::test::Fail;
-
-/// A message as a text, empty where there is none.
-fn message_text(alloc: Global, message: Option<Message>) -> Result<String, Fail> {
-    match message {
-        Some(message) => Ok(told::message(alloc, &message)?),
-        None => Ok(String::new(alloc)),
-    }
-}
-
-/// The second stage of a pursuit that took these frames.
-fn second(alloc: Global, shards: u8, words: &str) -> Result<String, Fail> {
-    let pursuit = after(alloc, shards, words)?;
-    message_text(alloc, pursuit.second()?)
-}
-
-/// The invoke of a pursuit that took these frames.
-fn invoke(alloc: Global, shards: u8, words: &str) -> Result<String, Fail> {
-    let pursuit = after(alloc, shards, words)?;
-    message_text(alloc, pursuit.invoke()?)
-}
 
 /// The shards of the cluster, the frames, and the second stage with its voters, with f = 1: a commit wants four votes of each
 /// shard, an abort two of one.
@@ -56,11 +33,7 @@ const SECONDS: &[(u8, &str, &str)] = &[
 
 #[test]
 fn second_stages_name_the_lowest_voters(rt: HostRuntime) -> Result<(), Fail> {
-    for &(shards, words, wanted) in SECONDS {
-        let found = second(rt.alloc(), shards, words)?;
-        assert!(rt; found.as_str() == wanted, "{words}: {found}");
-    }
-    Ok(())
+    are_answered(&rt, rt.alloc(), SECONDS, Asked::Second)
 }
 
 /// The shards of the cluster, the frames, and the invoke: the log shard, and the log reply of each replica.
@@ -94,9 +67,5 @@ const INVOKES: &[(u8, &str, &str)] = &[
 
 #[test]
 fn invokes_have_the_latest_log_replies(rt: HostRuntime) -> Result<(), Fail> {
-    for &(shards, words, wanted) in INVOKES {
-        let found = invoke(rt.alloc(), shards, words)?;
-        assert!(rt; found.as_str() == wanted, "{words}: {found}");
-    }
-    Ok(())
+    are_answered(&rt, rt.alloc(), INVOKES, Asked::Invoke)
 }

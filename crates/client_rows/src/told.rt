@@ -1,10 +1,12 @@
-//! Certificates, second stages and invokes as short texts.
+//! Certificates, second stages, invokes and what a pursuit goes back to, as short texts.
 
 use basil_types::party::Decision;
+use client_recover::Pursuit;
 use frame_values::owned::{
     Certificate, CertificateBody, InvokePart, LogPart, Message, ShardVotes, VotePart,
 };
 use std::alloc::{AllocError, Global};
+use std::test::Fail;
 
 /// A decision by its name.
 pub(crate) fn name_of(decision: Decision) -> &'static str {
@@ -39,7 +41,7 @@ fn put_logs(text: &mut String, logs: &[LogPart]) -> Result<(), AllocError> {
 }
 
 /// A certificate: what it is, and by whom.
-pub(crate) fn certificate(alloc: Global, told: &Certificate) -> Result<String, AllocError> {
+fn certificate(alloc: Global, told: &Certificate) -> Result<String, AllocError> {
     let mut text = String::new(alloc);
     match &told.body {
         CertificateBody::FastCommit { tallies } => {
@@ -76,7 +78,7 @@ fn put_replies(text: &mut String, replies: &[InvokePart]) -> Result<(), AllocErr
 }
 
 /// A second stage or an invoke: what it says, and by whom. Empty for another message.
-pub(crate) fn message(alloc: Global, told: &Message) -> Result<String, AllocError> {
+fn message(alloc: Global, told: &Message) -> Result<String, AllocError> {
     let mut text = String::new(alloc);
     match told {
         Message::St2(m) => {
@@ -90,4 +92,57 @@ pub(crate) fn message(alloc: Global, told: &Message) -> Result<String, AllocErro
         _ => {}
     }
     Ok(text)
+}
+
+/// An outcome, empty where there is none.
+pub(crate) fn outcome(
+    alloc: Global,
+    outcome: Option<(Decision, &Certificate)>,
+) -> Result<String, Fail> {
+    match outcome {
+        Some((_, told)) => Ok(certificate(alloc, told)?),
+        None => Ok(String::new(alloc)),
+    }
+}
+
+/// What a pursuit sends, empty where it sends nothing.
+pub(crate) fn asking(alloc: Global, sent: &Option<Message>) -> Result<String, Fail> {
+    match sent {
+        Some(told) => Ok(message(alloc, told)?),
+        None => Ok(String::new(alloc)),
+    }
+}
+
+/// `2 fast commit 0:012345`, how many are held and the outcome, if there is one.
+fn state(
+    alloc: Global,
+    held: u32,
+    decided: Option<(Decision, &Certificate)>,
+) -> Result<String, Fail> {
+    let told = outcome(alloc, decided)?;
+    let space = if told.is_empty() { "" } else { " " };
+    Ok(format!(in alloc; "{held}{space}{told}")?)
+}
+
+fn before(alloc: Global, pursuit: &Pursuit) -> Result<String, Fail> {
+    state(alloc, pursuit.held_before(), pursuit.outcome_before())
+}
+
+/// Whether a pursuit is in this state, and was before its last add.
+fn is_in(alloc: Global, pursuit: &Pursuit, told: &str) -> Result<bool, Fail> {
+    let now = state(alloc, pursuit.held(), pursuit.outcome())?;
+    Ok(now.as_str() == told && before(alloc, pursuit)?.as_str() == told)
+}
+
+/// The state of a pursuit before its last add; fails where it isn't in it once that is taken back, or is taken back twice.
+pub(crate) fn back(alloc: Global, pursuit: &mut Pursuit) -> Result<String, Fail> {
+    let told = before(alloc, pursuit)?;
+    pursuit.undo();
+    let is_back = is_in(alloc, pursuit, &told)?;
+    pursuit.undo();
+    if is_back && is_in(alloc, pursuit, &told)? {
+        Ok(told)
+    } else {
+        Err(Fail::new("another state came back"))
+    }
 }

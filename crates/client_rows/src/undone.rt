@@ -1,122 +1,64 @@
 //! What a client holds of the frames that it took, and what it goes back to.
 
-use crate::pursuing::{after, outcome_text};
-use client_recover::Pursuit;
-use std::alloc::Global;
-use std::process::Abort;
+use crate::pursuing::{Asked, are_answered};
 use std::test::Fail;
 
-/// How many votes and log replies a pursuit holds that took these frames.
-fn held(alloc: Global, shards: u8, words: &str) -> Result<u32, Fail> {
-    let pursuit = after(alloc, shards, words)?;
-    Ok(pursuit.held())
-}
-
 /// The shards of the cluster, the frames, and how many votes and log replies are held.
-const HELD: &[(u8, &str, u32)] = &[
-    (1, "c00", 1),
-    (1, "c00 a01", 2),
-    (2, "c00 c10", 2),
+const HELD: &[(u8, &str, &str)] = &[
+    (1, "c00", "1"),
+    (1, "c00 a01", "2"),
+    (2, "c00 c10", "2"),
     // A replica's votes after its first don't count, and each of its log replies does.
-    (1, "c00 c00", 1),
-    (1, "c00 a00", 1),
-    (1, "C0000", 1),
-    (1, "C0000 C0000", 2),
-    (1, "C0000 C0001 A0012", 3),
-    (1, "c00 C0103 a00 A0103 c00", 3),
+    (1, "c00 c00", "1"),
+    (1, "c00 a00", "1"),
+    (1, "C0000", "1"),
+    (1, "C0000 C0000", "2"),
+    (1, "C0000 C0001 A0012", "3"),
+    (1, "c00 C0103 a00 A0103 c00", "3"),
     // A certificate isn't counted, nor what comes after an outcome.
-    (1, "w", 0),
-    (1, "c00 C0000 w", 2),
-    (1, "w c00 C0000", 0),
-    (1, "p03 c00", 1),
-    (1, "a00 a01 a02 a03 a04", 4),
+    (1, "w", "0"),
+    (1, "c00 C0000 w", "2"),
+    (1, "w c00 C0000", "0"),
+    (1, "p03 c00", "1"),
+    (1, "a00 a01 a02 a03 a04", "4"),
 ];
 
 #[test]
 fn votes_count_once_and_log_replies_each(rt: HostRuntime) -> Result<(), Fail> {
-    for &(shards, words, wanted) in HELD {
-        let found = held(rt.alloc(), shards, words)?;
-        assert!(rt; found == wanted, "{words}: {found}");
-    }
-    Ok(())
+    are_answered(&rt, rt.alloc(), HELD, Asked::Held)
 }
 
-/// The shards of the cluster, the frames, and what is held and decided without the last add.
-type Row = (u8, &'static str, u32, &'static str);
-
-const UNDONE: &[Row] = &[
+/// The shards of the cluster, the frames, how many are held without the last add, and what is decided then.
+const UNDONE: &[(u8, &str, &str)] = &[
     // A vote, and one that decides.
-    (1, "c00 c01", 1, ""),
-    (1, "c05 c04 c03 c02 c01 c00", 5, ""),
-    (1, "a00 a01 a02 a03", 3, ""),
-    (1, "c00 p03", 1, ""),
+    (1, "c00 c01", "1"),
+    (1, "c05 c04 c03 c02 c01 c00", "5"),
+    (1, "a00 a01 a02 a03", "3"),
+    (1, "c00 p03", "1"),
     // A log reply, and one that decides.
-    (1, "C0000", 0, ""),
-    (1, "C0203 C0205", 1, ""),
-    (1, "C0000 C0100 C0200 C0300 C0400", 4, ""),
+    (1, "C0000", "0"),
+    (1, "C0203 C0205", "1"),
+    (1, "C0000 C0100 C0200 C0300 C0400", "4"),
     // A certificate.
-    (1, "w", 0, ""),
-    (1, "c00 C0000 x", 2, ""),
+    (1, "w", "0"),
+    (1, "c00 C0000 x", "2"),
     // What changed nothing.
-    (1, "c00 a00", 1, ""),
-    (1, "w x", 0, "fast commit 0:012345"),
-    (1, "w c00", 0, "fast commit 0:012345"),
-    (1, "p03 C0000", 1, "conflict 0:3"),
+    (1, "c00 a00", "1"),
+    (1, "w x", "0 fast commit 0:012345"),
+    (1, "w c00", "0 fast commit 0:012345"),
+    (1, "p03 C0000", "1 conflict 0:3"),
     // A frame that was refused: the last add is the one before it.
-    (2, "c00 c01 !C1000", 1, ""),
-    (2, "C0000 !C1000", 0, ""),
-    (2, "w !C1000", 0, ""),
+    (2, "c00 c01 !C1000", "1"),
+    (2, "C0000 !C1000", "0"),
+    (2, "w !C1000", "0"),
     // What was taken back before.
-    (1, "c00 c01 u", 1, ""),
-    (1, "c00 u", 0, ""),
-    (1, "c00 c01 u c02", 1, ""),
-    (1, "w u c00", 0, ""),
+    (1, "c00 c01 u", "1"),
+    (1, "c00 u", "0"),
+    (1, "c00 c01 u c02", "1"),
+    (1, "w u c00", "0"),
 ];
-
-/// What a pursuit holds and decides is so.
-fn tells(
-    rt: &impl Abort,
-    alloc: Global,
-    pursuit: &Pursuit,
-    held: u32,
-    outcome: &str,
-) -> Result<(), Fail> {
-    let found = outcome_text(alloc, pursuit.outcome())?;
-    assert!(rt; pursuit.held() == held);
-    assert!(rt; found.as_str() == outcome);
-    Ok(())
-}
-
-/// What a pursuit held and decided before its last add is so.
-fn told_before(
-    rt: &impl Abort,
-    alloc: Global,
-    pursuit: &Pursuit,
-    held: u32,
-    outcome: &str,
-) -> Result<(), Fail> {
-    let found = outcome_text(alloc, pursuit.outcome_before())?;
-    assert!(rt; pursuit.held_before() == held);
-    assert!(rt; found.as_str() == outcome);
-    Ok(())
-}
-
-/// A pursuit goes back to what it was before its last add, once.
-fn goes_back(rt: &impl Abort, alloc: Global, row: &Row) -> Result<(), Fail> {
-    let &(shards, words, held, outcome) = row;
-    let mut pursuit = after(alloc, shards, words)?;
-    told_before(rt, alloc, &pursuit, held, outcome)?;
-    pursuit.undo();
-    tells(rt, alloc, &pursuit, held, outcome)?;
-    told_before(rt, alloc, &pursuit, held, outcome)?;
-    pursuit.undo();
-    tells(rt, alloc, &pursuit, held, outcome)
-}
 
 #[test]
 fn the_last_add_is_taken_back_once(rt: HostRuntime) -> Result<(), Fail> {
-    for row in UNDONE {
-        goes_back(&rt, rt.alloc(), row)?;
-    }
-    Ok(())
+    are_answered(&rt, rt.alloc(), UNDONE, Asked::Back)
 }

@@ -72,13 +72,11 @@ impl Three {
     }
 
     // A and C are committed, B is prepared, and a read of b is noted at 60.
-    fn store(&self, alloc: Global) -> Result<Store, Fail> {
-        let mut store = Store::new(alloc);
-        enter(&mut store, &self.a, 0, true)?;
-        enter(&mut store, &self.b, 1, false)?;
-        enter(&mut store, &self.c, 2, true)?;
-        note(&mut store, b"b", 60, 4)?;
-        Ok(store)
+    fn fill(&self, store: &mut Store) -> Result<(), NoMemory> {
+        enter(store, &self.a, 0, true)?;
+        enter(store, &self.b, 1, false)?;
+        enter(store, &self.c, 2, true)?;
+        note(store, b"b", 60, 4)
     }
 }
 
@@ -120,16 +118,12 @@ const LATEST: &[(&str, Spot, Option<u32>, Option<u32>)] = &[
     ("d", At(99, 1), None, None),
 ];
 
-#[test]
-fn the_latest_stands_below(rt: HostRuntime) -> Result<(), Fail> {
-    let three = Three::new(rt.alloc())?;
-    let store = three.store(rt.alloc())?;
-    for &(key, bound, committed, prepared) in LATEST {
+fn tell_the_latest(three: &Three, store: &Store) -> bool {
+    LATEST.iter().all(|&(key, bound, committed, prepared)| {
         let below = three.version(bound);
-        assert!(rt; store.latest_committed(key.as_bytes(), &below) == three.told(committed));
-        assert!(rt; store.latest_prepared(key.as_bytes(), &below) == three.told(prepared));
-    }
-    Ok(())
+        store.latest_committed(key.as_bytes(), &below) == three.told(committed)
+            && store.latest_prepared(key.as_bytes(), &below) == three.told(prepared)
+    })
 }
 
 /// A key, two bounds, and the writers between them.
@@ -144,15 +138,11 @@ const BETWEEN: &[(&str, Spot, Spot, Hits)] = &[
     ("d", At(0, 0), At(99, 1), NONE),
 ];
 
-#[test]
-fn writers_stand_strictly_between(rt: HostRuntime) -> Result<(), Fail> {
-    let three = Three::new(rt.alloc())?;
-    let store = three.store(rt.alloc())?;
-    for &(key, low, high, hits) in BETWEEN {
+fn tell_writers(three: &Three, store: &Store) -> bool {
+    BETWEEN.iter().all(|&(key, low, high, hits)| {
         let (low, high) = (three.version(low), three.version(high));
-        assert!(rt; store.writer_between(key.as_bytes(), &low, &high) == hits);
-    }
-    Ok(())
+        store.writer_between(key.as_bytes(), &low, &high) == hits
+    })
 }
 
 /// A key, a version, and the readers above it that read below it.
@@ -165,13 +155,32 @@ const ACROSS: &[(&str, Spot, Hits)] = &[
     ("d", At(20, 1), NONE),
 ];
 
+fn tell_readers(three: &Three, store: &Store) -> bool {
+    ACROSS.iter().all(|&(key, version, hits)| {
+        store.reader_across(key.as_bytes(), &three.version(version)) == hits
+    })
+}
+
+/// The latest writers below a bound, the writers between two versions, and the readers across one, which a store tells.
+fn are_told(alloc: Global, store: &mut Store) -> Result<(bool, bool, bool), Fail> {
+    let three = Three::new(alloc)?;
+    three.fill(store)?;
+    Ok((
+        tell_the_latest(&three, store),
+        tell_writers(&three, store),
+        tell_readers(&three, store),
+    ))
+}
+
 #[test]
-fn readers_stand_across(rt: HostRuntime) -> Result<(), Fail> {
-    let three = Three::new(rt.alloc())?;
-    let store = three.store(rt.alloc())?;
-    for &(key, version, hits) in ACROSS {
-        assert!(rt; store.reader_across(key.as_bytes(), &three.version(version)) == hits);
-    }
+fn writers_and_readers_are_told(rt: HostRuntime) -> Result<(), Fail> {
+    let mut store = Store::new(rt.alloc());
+    let told = are_told(rt.alloc(), &mut store);
+    drop(store);
+    let (latest, between, across) = told?;
+    assert!(rt; latest, "the latest writers");
+    assert!(rt; between, "the writers between");
+    assert!(rt; across, "the readers across");
     Ok(())
 }
 
@@ -185,65 +194,141 @@ const ABOVE: &[(&str, u64, u8, bool)] = &[
     ("a", 1, 1, false),
 ];
 
+fn tells_the_greatest_read(store: &mut Store) -> Result<bool, NoMemory> {
+    note(store, b"b", 60, 4)?;
+    note(store, b"b", 50, 9)?;
+    let told = ABOVE.iter().all(|&(key, time, client, above)| {
+        store.read_above(key.as_bytes(), time, client) == above
+    });
+    note(store, b"b", 60, 5)?;
+    Ok(told && store.read_above(b"b", 60, 4))
+}
+
 #[test]
 fn the_greatest_noted_read_answers(rt: HostRuntime) -> Result<(), Fail> {
     let mut store = Store::new(rt.alloc());
-    note(&mut store, b"b", 60, 4)?;
-    note(&mut store, b"b", 50, 9)?;
-    for &(key, time, client, above) in ABOVE {
-        assert!(rt; store.read_above(key.as_bytes(), time, client) == above);
-    }
-    note(&mut store, b"b", 60, 5)?;
-    assert!(rt; store.read_above(b"b", 60, 4));
+    let told = tells_the_greatest_read(&mut store);
+    drop(store);
+    assert!(rt; told?);
     Ok(())
 }
 
-/// The writers below 99 and the readers across 25, after each of the removals below.
-const REMOVED: &[(Hits, Hits)] = &[(FIRST, FOURTH), (FIRST, NONE), (FIRST, NONE), (NONE, NONE)];
+/// Three writers and a reader of one key, which read the first of them, in the order in which they are taken out: the place,
+/// the time, and whether it is the reader.
+const TAKEN: &[(u32, u64, bool)] = &[
+    (1, 20, false),
+    (3, 40, true),
+    (2, 30, false),
+    (0, 10, false),
+];
 
-// Of three writers and a reader of one key each in turn is taken out: the writers at 10, 20 and 30, the reader, which
-// read the first of them, at 40.
-#[test]
-fn what_is_removed_tells_nothing(rt: HostRuntime) -> Result<(), Fail> {
-    let alloc = rt.alloc();
-    let genesis = Version::genesis();
-    let first = transaction(alloc, 10, 1, &[], &[b"a"])?;
-    let read = version_of(first.view());
-    let all = [
-        transaction(alloc, 20, 1, &[], &[b"a"])?,
-        transaction(alloc, 40, 1, &[(b"a", read, false)], &[])?,
-        transaction(alloc, 30, 1, &[], &[b"a"])?,
-        first,
-    ];
-    let mut store = Store::new(alloc);
-    for (place, t) in [(1, &all[0]), (3, &all[1]), (2, &all[2]), (0, &all[3])] {
-        enter(&mut store, t, place, true)?;
+/// One of them, where the first writer is this version.
+fn one_of(alloc: Global, time: u64, reads: bool, first: Version) -> Result<Transaction, Fail> {
+    if reads {
+        transaction(alloc, time, 1, &[(b"a", first, false)], &[])
+    } else {
+        transaction(alloc, time, 1, &[], &[b"a"])
     }
-    let third = Some((version_of(all[2].view()), 2));
-    let latest = [third, third, Some((read, 0)), None];
-    for (t, (latest, (between, across))) in all.iter().zip(latest.iter().zip(REMOVED)) {
+}
+
+/// The version of the writer at a time.
+fn writer_at(alloc: Global, time: u64) -> Result<Version, Fail> {
+    let writer = one_of(alloc, time, false, Version::genesis())?;
+    Ok(version_of(writer.view()))
+}
+
+/// Enters one of them as committed, or takes it out.
+fn change(
+    alloc: Global,
+    store: &mut Store,
+    row: &(u32, u64, bool),
+    first: Version,
+    enters: bool,
+) -> Result<(), Fail> {
+    let &(place, time, reads) = row;
+    let t = one_of(alloc, time, reads, first)?;
+    if enters {
+        enter(store, &t, place, true)?;
+    } else {
         store.remove(t.view());
-        assert!(rt; store.latest_committed(b"a", &at(99, 1)) == *latest);
-        assert!(rt; store.writer_between(b"a", &genesis, &at(99, 1)) == *between);
-        assert!(rt; store.reader_across(b"a", &at(25, 1)) == *across);
-        assert!(rt; store.latest_prepared(b"a", &at(99, 1)).is_none());
     }
     Ok(())
+}
+
+/// After each of them is taken out: the time and the place of the latest writer, the writers below 99, and the readers across 25.
+const LEFT: &[(Option<(u64, u32)>, Hits, Hits)] = &[
+    (Some((30, 2)), FIRST, FOURTH),
+    (Some((30, 2)), FIRST, NONE),
+    (Some((10, 0)), FIRST, NONE),
+    (None, NONE, NONE),
+];
+
+/// Whether a store tells so of the key.
+fn tells(
+    alloc: Global,
+    store: &Store,
+    left: &(Option<(u64, u32)>, Hits, Hits),
+) -> Result<bool, Fail> {
+    let latest = match left.0 {
+        Some((time, place)) => Some((writer_at(alloc, time)?, place)),
+        None => None,
+    };
+    let (genesis, end) = (Version::genesis(), at(99, 1));
+    Ok(
+        store.latest_committed(b"a", &end) == latest
+            && store.writer_between(b"a", &genesis, &end) == left.1
+            && store.reader_across(b"a", &at(25, 1)) == left.2
+            && store.latest_prepared(b"a", &end).is_none(),
+    )
+}
+
+/// Whether what is taken out of a store tells nothing any more.
+fn are_forgotten(alloc: Global, store: &mut Store) -> Result<bool, Fail> {
+    let first = writer_at(alloc, 10)?;
+    for row in TAKEN {
+        change(alloc, store, row, first, true)?;
+    }
+    for (row, left) in TAKEN.iter().zip(LEFT) {
+        change(alloc, store, row, first, false)?;
+        if !tells(alloc, store, left)? {
+            return Ok(false);
+        }
+    }
+    Ok(true)
+}
+
+#[test]
+fn what_is_removed_tells_nothing(rt: HostRuntime) -> Result<(), Fail> {
+    let mut store = Store::new(rt.alloc());
+    let forgotten = are_forgotten(rt.alloc(), &mut store);
+    drop(store);
+    assert!(rt; forgotten?);
+    Ok(())
+}
+
+/// The latest committed and the latest prepared writer of a below 20.
+fn latest(store: &Store) -> (Option<(Version, u32)>, Option<(Version, u32)>) {
+    let below = at(20, 1);
+    (
+        store.latest_committed(b"a", &below),
+        store.latest_prepared(b"a", &below),
+    )
+}
+
+fn becomes_committed(alloc: Global, store: &mut Store) -> Result<bool, Fail> {
+    let one = transaction(alloc, 10, 1, &[], &[b"a"])?;
+    let told = Some((version_of(one.view()), 7));
+    enter(store, &one, 7, false)?;
+    let prepared = latest(store) == (None, told);
+    enter(store, &one, 7, true)?;
+    Ok(prepared && latest(store) == (told, None))
 }
 
 #[test]
 fn a_prepared_one_becomes_committed(rt: HostRuntime) -> Result<(), Fail> {
-    let alloc = rt.alloc();
-    let one = transaction(alloc, 10, 1, &[], &[b"a"])?;
-    let view = one.view();
-    let told = Some((version_of(view), 7));
-    let mut store = Store::new(alloc);
-    store.make_room(view)?;
-    store.set(view, 7, false);
-    assert!(rt; store.latest_committed(b"a", &at(20, 1)).is_none());
-    assert!(rt; store.latest_prepared(b"a", &at(20, 1)) == told);
-    store.set(view, 7, true);
-    assert!(rt; store.latest_committed(b"a", &at(20, 1)) == told);
-    assert!(rt; store.latest_prepared(b"a", &at(20, 1)).is_none());
+    let mut store = Store::new(rt.alloc());
+    let committed = becomes_committed(rt.alloc(), &mut store);
+    drop(store);
+    assert!(rt; committed?);
     Ok(())
 }

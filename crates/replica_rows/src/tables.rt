@@ -31,13 +31,21 @@ fn arrives_in_turn(alloc: Global, table: &mut Table, time: u64) -> Result<bool, 
     Ok(is_new && u64::from(place) + 1 == time && table.entry_with(&id).is_some())
 }
 
+fn arrive_in_turn(alloc: Global, table: &mut Table) -> Result<bool, Fail> {
+    for time in 1..4u64 {
+        if !arrives_in_turn(alloc, table, time)? {
+            return Ok(false);
+        }
+    }
+    Ok(table.len() == 3)
+}
+
 #[test]
 fn places_follow_the_order_of_arrival(rt: HostRuntime) -> Result<(), Fail> {
     let mut table = Table::new(rt.alloc());
-    for time in 1..4u64 {
-        assert!(rt; arrives_in_turn(rt.alloc(), &mut table, time)?);
-    }
-    assert!(rt; table.len() == 3);
+    let arrived = arrive_in_turn(rt.alloc(), &mut table);
+    drop(table);
+    assert!(rt; arrived?);
     Ok(())
 }
 
@@ -79,15 +87,22 @@ fn has_ended(table: &Table, id: &[u8; 32]) -> bool {
     })
 }
 
+// Whether two wait for the vote on a transaction that a table takes, until it is given.
+fn wait_until_the_vote(alloc: Global, table: &mut Table) -> Result<bool, Fail> {
+    let t = writer(alloc, 1)?;
+    let id = id_of(t.view().bytes());
+    let place = wait_twice(alloc, table, &t)?;
+    let waited = both_wait(table, &id);
+    vote_and_end(alloc, table, place)?;
+    Ok(waited && has_ended(table, &id))
+}
+
 #[test]
 fn askers_wait_once_each_until_the_vote(rt: HostRuntime) -> Result<(), Fail> {
     let mut table = Table::new(rt.alloc());
-    let t = writer(rt.alloc(), 1)?;
-    let id = id_of(t.view().bytes());
-    let place = wait_twice(rt.alloc(), &mut table, &t)?;
-    assert!(rt; both_wait(&table, &id));
-    vote_and_end(rt.alloc(), &mut table, place)?;
-    assert!(rt; has_ended(&table, &id));
+    let waited = wait_until_the_vote(rt.alloc(), &mut table);
+    drop(table);
+    assert!(rt; waited?);
     Ok(())
 }
 
@@ -167,17 +182,16 @@ fn take(alloc: Global, table: &mut Table, row: &Reader) -> Result<(), Fail> {
     Ok(())
 }
 
-fn readers(alloc: Global) -> Result<Table, Fail> {
-    let mut table = Table::new(alloc);
+// Takes the writers and the readers.
+fn take_all(alloc: Global, table: &mut Table) -> Result<(), Fail> {
     for time in 1..3u64 {
         let t = writer(alloc, time)?;
-        arrive(alloc, &mut table, &t)?;
+        arrive(alloc, table, &t)?;
     }
     for row in READERS {
-        take(alloc, &mut table, row)?;
+        take(alloc, table, row)?;
     }
-    end(alloc, &mut table, 5, ABORT)?;
-    Ok(table)
+    end(alloc, table, 5, ABORT)
 }
 
 /// Shards, a shard, a place, an outcome, and the votes that it releases. Of two shards b is of 0 and c of 1.
@@ -194,31 +208,52 @@ const RELEASED: &[(u8, u8, u32, Decision, &[(u32, Decision)])] = &[
     (2, 1, 1, COMMIT, &[(2, COMMIT)]),
 ];
 
+fn are_released(alloc: Global, table: &mut Table) -> Result<bool, Fail> {
+    take_all(alloc, table)?;
+    for &(shards, shard, place, outcome, votes) in RELEASED {
+        if released(table, shards, shard, place, outcome)?.as_slice() != votes {
+            return Ok(false);
+        }
+    }
+    Ok(true)
+}
+
 #[test]
 fn an_outcome_releases_these_votes(rt: HostRuntime) -> Result<(), Fail> {
-    let alloc = rt.alloc();
-    let table = readers(alloc)?;
-    for &(shards, shard, place, outcome, votes) in RELEASED {
-        assert!(rt; released(&table, shards, shard, place, outcome)?.as_slice() == votes);
-    }
+    let mut table = Table::new(rt.alloc());
+    let released = are_released(rt.alloc(), &mut table);
+    drop(table);
+    assert!(rt; released?);
     Ok(())
 }
 
 /// The outcomes of both writers, and the votes that the second releases.
-const AFTER: &[(Decision, Decision, &[(u32, Decision)])] = &[
+type After = (Decision, Decision, &'static [(u32, Decision)]);
+
+const AFTER: &[After] = &[
     (COMMIT, COMMIT, &[(2, COMMIT)]),
     (COMMIT, ABORT, &[(2, ABORT)]),
     (ABORT, COMMIT, &[(2, ABORT)]),
     (ABORT, ABORT, &[(2, ABORT)]),
 ];
 
+fn is_released_after(alloc: Global, table: &mut Table, row: &After) -> Result<bool, Fail> {
+    let &(before, outcome, votes) = row;
+    take_all(alloc, table)?;
+    end(alloc, table, 0, before)?;
+    Ok(released(table, 1, 0, 1, outcome)?.as_slice() == votes)
+}
+
+// The same in a table of its own.
+fn is_after(alloc: Global, row: &After) -> Result<bool, Fail> {
+    let mut table = Table::new(alloc);
+    is_released_after(alloc, &mut table, row)
+}
+
 #[test]
 fn an_outcome_counts_with_those_before_it(rt: HostRuntime) -> Result<(), Fail> {
-    let alloc = rt.alloc();
-    for &(before, outcome, votes) in AFTER {
-        let mut table = readers(alloc)?;
-        end(alloc, &mut table, 0, before)?;
-        assert!(rt; released(&table, 1, 0, 1, outcome)?.as_slice() == votes);
+    for row in AFTER {
+        assert!(rt; is_after(rt.alloc(), row)?);
     }
     Ok(())
 }

@@ -187,16 +187,24 @@ const VERDICTS: &[(u64, u8, Asks, Verdict)] = &[
     ),
 ];
 
-#[test]
-fn verdicts_follow_the_rules(rt: HostRuntime) -> Result<(), Fail> {
-    let alloc = rt.alloc();
+fn follow_the_rules(alloc: Global, book: &mut Book) -> Result<bool, Fail> {
     let cluster = Cluster::new(0, 1, 1, 100)?;
-    let mut book = Book::new(alloc);
-    fill(alloc, &mut book)?;
+    fill(alloc, book)?;
     for &(time, key, asks, verdict) in VERDICTS {
         let t = asked(alloc, time, key, asks)?;
-        assert!(rt; check(&book.store, &book.table, &cluster, 0, 50, t.view()) == verdict);
+        if check(&book.store, &book.table, &cluster, 0, 50, t.view()) != verdict {
+            return Ok(false);
+        }
     }
+    Ok(true)
+}
+
+#[test]
+fn verdicts_follow_the_rules(rt: HostRuntime) -> Result<(), Fail> {
+    let mut book = Book::new(rt.alloc());
+    let followed = follow_the_rules(rt.alloc(), &mut book);
+    drop(book);
+    assert!(rt; followed?);
     Ok(())
 }
 
@@ -213,13 +221,19 @@ fn verdict_for(alloc: Global, book: &Book, shard: u8) -> Result<Verdict, Fail> {
     Ok(check(&book.store, &book.table, &cluster, shard, 50, t.view()))
 }
 
+fn decides_in_its_shard(alloc: Global, book: &mut Book) -> Result<bool, Fail> {
+    enter_one(alloc, book)?;
+    let apart = verdict_for(alloc, book, 0)? == Verdict::Commit;
+    Ok(apart && verdict_for(alloc, book, 1)? == Verdict::AbortBy { place: 0 })
+}
+
 // Of two shards key a is in shard 1.
 #[test]
 fn keys_of_another_shard_decide_nothing(rt: HostRuntime) -> Result<(), Fail> {
     let mut book = Book::new(rt.alloc());
-    enter_one(rt.alloc(), &mut book)?;
-    assert!(rt; verdict_for(rt.alloc(), &book, 0)? == Verdict::Commit);
-    assert!(rt; verdict_for(rt.alloc(), &book, 1)? == Verdict::AbortBy { place: 0 });
+    let decided = decides_in_its_shard(rt.alloc(), &mut book);
+    drop(book);
+    assert!(rt; decided?);
     Ok(())
 }
 
@@ -268,15 +282,23 @@ fn verdict_on(alloc: Global, book: &Book, number: u32) -> Result<Verdict, Fail> 
     Ok(check(&book.store, &book.table, &cluster, 0, 10, t.view()))
 }
 
+fn are_found(alloc: Global, book: &mut Book) -> Result<bool, Fail> {
+    let versions = enter_many(alloc, book)?;
+    for (number, version) in (0..MANY).zip(&versions) {
+        let found = is_found(alloc, book, number, *version)?;
+        if !found || verdict_on(alloc, book, number)? != Verdict::Commit {
+            return Ok(false);
+        }
+    }
+    Ok(true)
+}
+
 // Searching lists, this would look at 160,000,000,000 entries.
 #[test]
 fn many_transactions_are_found_by_indexes(rt: HostRuntime) -> Result<(), Fail> {
-    let alloc = rt.alloc();
-    let mut book = Book::new(alloc);
-    let versions = enter_many(alloc, &mut book)?;
-    for (number, version) in (0..MANY).zip(&versions) {
-        assert!(rt; is_found(alloc, &book, number, *version)?);
-        assert!(rt; verdict_on(alloc, &book, number)? == Verdict::Commit);
-    }
+    let mut book = Book::new(rt.alloc());
+    let found = are_found(rt.alloc(), &mut book);
+    drop(book);
+    assert!(rt; found?);
     Ok(())
 }

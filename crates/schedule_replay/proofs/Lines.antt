@@ -2,7 +2,6 @@
 use Rattle.std.proofs.Common.{◌≡◌, ℕ, List, [], ◌∷◌, Option, Some, None, refl, sym, ap, subst, ◌∙◌}
 use Rattle.std.specs.Prelude.{Result, Ok, Err, option_map}
 use Rattle.basil_types.specs.Steps.{◌>>=◌}
-use Rattle.cluster_run.specs.Breaking.{RunsUpToABreachAreSafe}
 use Rattle.cluster_run.specs.Events as events
 use Rattle.cluster_run.specs.Events.{EventValue, happens}
 use Rattle.cluster_run.specs.Safety.{IsEvent}
@@ -17,7 +16,7 @@ use Rattle.schedule_text.specs.declared.line.Line.TheVariants.{Round}
 use Rattle.schedule_replay.proofs.Fitting.{event_fits}
 use Rattle.schedule_replay.proofs.Running.{Goes, between, goes_on, one_breaks, one_goes}
 use Rattle.schedule_replay.specs.Events.{deliver, deliver_all, event_of, frame_at, given_to, happen, line_does, road_behind, waiting}
-use Rattle.schedule_replay.specs.Laws.{IsReplayed, IsRealBreak}
+use Rattle.schedule_replay.specs.Laws.{IsReplayed}
 use Rattle.schedule_replay.specs.Lines.{answered, line_step, names_after}
 use Rattle.schedule_replay.specs.Reasons.{reason_of}
 use Rattle.schedule_replay.specs.Replays.{NamesValue, ReplayValue}
@@ -39,17 +38,6 @@ at_state r st road i g =
 renamed : (r : ReplayValue) (names : NamesValue) → IsReplayed r → IsReplayed (record r { names = names })
 renamed r names i = record { sound = i.sound; events = i.events; sized = i.sized; ends = i.ends }
 
-breaks_in : RunsUpToABreachAreSafe → (r : ReplayValue) (b : Broken) → IsReplayed r → Goes r.setup r.state (Err b) → IsRealBreak b
-breaks_in law r b i g =
-    let whole = goes_on r.setup (start r.setup) r.state (Err b) (as_goes r i) g in
-    record {
-      setup = r.setup;
-      sound = i.sound;
-      events = whole.events;
-      sized = whole.sized;
-      until = law r.setup i.sound.setup i.sound.signed whole.events b whole.sized whole.ends;
-    }
-
 -- ---- an event
 
 event_keeps : (r : ReplayValue) (e : EventValue) (road : Road) (after : ReplayValue) → IsEvent e → IsReplayed r →
@@ -64,11 +52,21 @@ is_broken : {A : Type 0} (x : Result State WorldFault) (f : State → A) (b : Br
 is_broken (Ok st) f b h = absurd cc
 is_broken (Err e) f b h = let same : e ≡ world.Broken b = cc in ap (λ (z : WorldFault). Err z) same
 
-event_breaks : RunsUpToABreachAreSafe → (r : ReplayValue) (e : EventValue) (road : Road) (b : Broken) → IsEvent e → IsReplayed r →
-    (happens r.setup e r.state >>= λ st. Ok (record r { state = st; road = road })) ≡ Err (world.Broken b) → IsRealBreak b
-event_breaks law r e road b sized i h =
-    breaks_in law r b i
-    (one_breaks r.setup e r.state b sized (is_broken (happens r.setup e r.state) (λ st. record r { state = st; road = road }) b h))
+event_breaks : (r : ReplayValue) (e : EventValue) (road : Road) (b : Broken) → IsEvent e →
+    (happens r.setup e r.state >>= λ st. Ok (record r { state = st; road = road })) ≡ Err (world.Broken b) →
+    Goes r.setup r.state (Err b)
+event_breaks r e road b sized h =
+    one_breaks r.setup e r.state b sized (is_broken (happens r.setup e r.state) (λ st. record r { state = st; road = road }) b h)
+
+-- what goes on behind an event
+behind_event : (r : ReplayValue) (e : EventValue) (road : Road) (after : ReplayValue) (b : Broken) → IsEvent e →
+    (happens r.setup e r.state >>= λ st. Ok (record r { state = st; road = road })) ≡ Ok after →
+    Goes after.setup after.state (Err b) → Goes r.setup r.state (Err b)
+behind_event r e road after b sized h g =
+    let x = between (happens r.setup e r.state) (λ st. Ok (record r { state = st; road = road })) after h in
+    let same : record r { state = x.start; road = road } ≡ after = cc in
+    goes_on r.setup r.state x.start (Err b) (one_goes r.setup e r.state x.start sized x.first)
+    (subst (λ (t : ReplayValue). Goes t.setup t.state (Err b)) (sym same) g)
 
 -- ---- a round
 
@@ -81,17 +79,16 @@ all_keep (m ∷ ms) r after i h =
     let b = between (deliver r m) (deliver_all ms) after h in
     all_keep ms b.start after (event_keeps r (delivered_by r m) (behind_one r.road) b.start tt i b.first) b.second
 
-all_break : RunsUpToABreachAreSafe → (ms : List ℕ) (r : ReplayValue) (b : Broken) → IsReplayed r →
-    deliver_all ms r ≡ Err (world.Broken b) → IsRealBreak b
-all_break law [] r b i h = absurd cc
-all_break law (m ∷ ms) r b i h = by (deliver r m) refl h (λ t k e. all_break law ms t b k e)
+all_break : (ms : List ℕ) (r : ReplayValue) (b : Broken) → deliver_all ms r ≡ Err (world.Broken b) → Goes r.setup r.state (Err b)
+all_break [] r b h = absurd cc
+all_break (m ∷ ms) r b h = by (deliver r m) refl h (λ t e. all_break ms t b e)
   where
     by : (x : Result ReplayValue WorldFault) → deliver r m ≡ x → (x >>= deliver_all ms) ≡ Err (world.Broken b) →
-        ((t : ReplayValue) → IsReplayed t → deliver_all ms t ≡ Err (world.Broken b) → IsRealBreak b) → IsRealBreak b
-    by (Ok t) e h rest = rest t (event_keeps r (delivered_by r m) (behind_one r.road) t tt i e) h
+        ((t : ReplayValue) → deliver_all ms t ≡ Err (world.Broken b) → Goes t.setup t.state (Err b)) → Goes r.setup r.state (Err b)
+    by (Ok t) e h rest = behind_event r (delivered_by r m) (behind_one r.road) t b tt e (rest t h)
     by (Err f) e h rest =
         let same : f ≡ world.Broken b = cc in
-        event_breaks law r (delivered_by r m) (behind_one r.road) b tt i (e ∙ ap (λ (x : WorldFault). Err x) same)
+        event_breaks r (delivered_by r m) (behind_one r.road) b tt (e ∙ ap (λ (x : WorldFault). Err x) same)
 
 -- ---- another line
 
@@ -103,11 +100,11 @@ happen_keeps r None road after sized i h =
     subst IsReplayed same (record { sound = i.sound; events = i.events; sized = i.sized; ends = i.ends })
 happen_keeps r (Some e) road after sized i h = event_keeps r e road after (sized e refl) i h
 
-happen_breaks : RunsUpToABreachAreSafe → (r : ReplayValue) (o : Option EventValue) (road : Road) (b : Broken) →
-    ((e : EventValue) → o ≡ Some e → IsEvent e) → IsReplayed r →
-    (happen r.setup r.state o >>= λ st. Ok (record r { state = st; road = road })) ≡ Err (world.Broken b) → IsRealBreak b
-happen_breaks law r None road b sized i h = absurd cc
-happen_breaks law r (Some e) road b sized i h = event_breaks law r e road b (sized e refl) i h
+happen_breaks : (r : ReplayValue) (o : Option EventValue) (road : Road) (b : Broken) → ((e : EventValue) → o ≡ Some e → IsEvent e) →
+    (happen r.setup r.state o >>= λ st. Ok (record r { state = st; road = road })) ≡ Err (world.Broken b) →
+    Goes r.setup r.state (Err b)
+happen_breaks r None road b sized h = absurd cc
+happen_breaks r (Some e) road b sized h = event_breaks r e road b (sized e refl) h
 
 does_keep : (r : ReplayValue) (line : Line) (after : ReplayValue) → Fits line → IsReplayed r → line_does r line ≡ Ok after →
     IsReplayed after
@@ -116,12 +113,12 @@ does_keep r line after f i h =
     happen_keeps r (event_of r.names (given_to r line) line) (road_behind line r.road) after
     (λ e k. event_fits r.names (given_to r line) line e f k) i h
 
-does_break : RunsUpToABreachAreSafe → (r : ReplayValue) (line : Line) (b : Broken) → Fits line → IsReplayed r →
-    line_does r line ≡ Err (world.Broken b) → IsRealBreak b
-does_break law r Round b f i h = all_break law (waiting r.state) r b i h
-does_break law r line b f i h =
-    happen_breaks law r (event_of r.names (given_to r line) line) (road_behind line r.road) b
-    (λ e k. event_fits r.names (given_to r line) line e f k) i h
+pub does_break : (r : ReplayValue) (line : Line) (b : Broken) → Fits line → line_does r line ≡ Err (world.Broken b) →
+    Goes r.setup r.state (Err b)
+does_break r Round b f h = all_break (waiting r.state) r b h
+does_break r line b f h =
+    happen_breaks r (event_of r.names (given_to r line) line) (road_behind line r.road) b
+    (λ e k. event_fits r.names (given_to r line) line e f k) h
 
 -- ---- no reason holds
 
@@ -164,9 +161,7 @@ line_keeps r line number after f i h =
     answer_keeps line number (line_does r line) after (λ mid e. does_keep r line mid f i e)
     (not_refused number (reason_of r line) (answered line number (line_does r line)) after h)
 
-pub line_breaks : RunsUpToABreachAreSafe → (r : ReplayValue) (line : Line) (number : ℕ) (b : Broken) → Fits line → IsReplayed r →
-    line_step r line number ≡ Err (fault.Broken b) → IsRealBreak b
-line_breaks law r line number b f i h =
-    does_break law r line b f i
-    (answer_breaks line number (line_does r line) b
-    (not_bad number (reason_of r line) (answered line number (line_does r line)) b h))
+pub line_breaks : (r : ReplayValue) (line : Line) (number : ℕ) (b : Broken) → line_step r line number ≡ Err (fault.Broken b) →
+    line_does r line ≡ Err (world.Broken b)
+line_breaks r line number b h =
+    answer_breaks line number (line_does r line) b (not_bad number (reason_of r line) (answered line number (line_does r line)) b h)

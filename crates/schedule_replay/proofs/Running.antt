@@ -2,7 +2,6 @@
 use Rattle.std.proofs.Common.{◌≡◌, List, [], ◌∷◌, ◌++◌, refl, ap, ◌∙◌}
 use Rattle.std.specs.Prelude.{Result, Ok, Err}
 use Rattle.basil_types.specs.Steps.{◌>>=◌}
-use Rattle.cluster_run.specs.Events as events
 use Rattle.cluster_run.specs.Events.{EventValue, happens, kept, run}
 use Rattle.cluster_run.specs.Safety.{IsEvent, AreEvents}
 use Rattle.cluster_run.specs.States.{Setup, State}
@@ -28,7 +27,7 @@ pub record Goes (s : Setup) (from : State) (to : Result State Broken) : Type 0 w
   pub sized : AreEvents events
   pub ends : run s events from ≡ to
 
-sized_append : (xs ys : List EventValue) → AreEvents xs → AreEvents ys → AreEvents (xs ++ ys)
+pub sized_append : (xs ys : List EventValue) → AreEvents xs → AreEvents ys → AreEvents (xs ++ ys)
 sized_append [] ys h k = k
 sized_append (x ∷ xs) ys h k = (h.0, sized_append xs ys h.1 k)
 
@@ -42,6 +41,11 @@ module _ (s : Setup) where
       by (Ok t) rest = rest t
       by (Err b) rest = refl
 
+  pub run_on : (xs ys : List EventValue) (from st : State) (to : Result State Broken) → run s xs from ≡ Ok st → run s ys st ≡ to →
+      run s (xs ++ ys) from ≡ to
+  run_on xs ys from st to h k =
+      run_append xs ys from ∙ (ap (λ (r : Result State Broken). r >>= run s ys) h ∙ k)
+
   pub stays : (st : State) → Goes s st (Ok st)
   stays st = record { events = []; sized = tt; ends = refl }
 
@@ -49,7 +53,7 @@ module _ (s : Setup) where
   goes_on st t to g h = record {
     events = g.events ++ h.events;
     sized = sized_append g.events h.events g.sized h.sized;
-    ends = run_append g.events h.events st ∙ (ap (λ (r : Result State Broken). r >>= run s h.events) g.ends ∙ h.ends);
+    ends = run_on g.events h.events st t to g.ends h.ends;
   }
 
   pub one_goes : (e : EventValue) (st t : State) → IsEvent e → happens s e st ≡ Ok t → Goes s st (Ok t)

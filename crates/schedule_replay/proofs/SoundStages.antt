@@ -1,6 +1,6 @@
 -- Each stage of a schedule is sound: its replay is a run, with at most f faulty replicas of each shard.
-use Rattle.std.proofs.Common.{◌≡◌, ℕ, ◌+◌, Bool, true, false, List, [], ◌∷◌, ◌++◌, Option, Some, None, not, refl, sym, ap, subst, ◌∙◌, arith}
-use Rattle.std.specs.Prelude.{Result, Ok, Err, option_map}
+use Rattle.std.proofs.Common.{◌≡◌, ℕ, ◌+◌, suc, Bool, true, false, List, [], ◌∷◌, ◌++◌, Option, Some, None, not, refl, sym, ap, subst, ◌∙◌, arith}
+use Rattle.std.specs.Prelude.{Result, Ok, Err, length, option_map}
 use Rattle.basil_types.specs.Built.{or_else}
 use Rattle.basil_types.specs.Setting.{Setting, IsSetting}
 use Rattle.basil_types.specs.Steps.{◌>>=◌}
@@ -8,7 +8,8 @@ use Rattle.basil_types.specs.declared.party.Party.{Party}
 use Rattle.cluster_run.specs.Breaking.{RunsUpToABreachAreSafe}
 use Rattle.cluster_run.specs.Kits.{PlainKitsSign, LmsKitsSign}
 use Rattle.cluster_run.specs.Safety.{AreSigned, RunsAreSafe}
-use Rattle.cluster_run.specs.States.{KitValue}
+use Rattle.cluster_run.specs.States.{KitValue, start}
+use Rattle.cluster_run.specs.declared.fault.WorldFault.TheVariants as world
 use Rattle.keyring_lms.specs.Replay.{is_party_of, replay_accepts, tree_in_replay}
 use Rattle.lms_sign.specs.declared.sets.LmsSet.{LmsSet}
 use Rattle.lms_sign.specs.declared.sets.LmsSet.TheVariants as sets
@@ -27,8 +28,9 @@ use Rattle.schedule_text.specs.declared.line.LineFault.{LineFault}
 use Rattle.schedule_text.specs.declared.line.LineFault.TheVariants as line_fault
 use Rattle.schedule_replay.proofs.Fitting.{read_fits}
 use Rattle.schedule_replay.proofs.Joining.{joins_few}
-use Rattle.schedule_replay.proofs.Lines.{line_keeps, line_breaks}
-use Rattle.schedule_replay.proofs.Running.{between}
+use Rattle.schedule_replay.proofs.Lines.{does_break, line_keeps, line_breaks}
+use Rattle.schedule_replay.proofs.Running.{between, run_on, sized_append}
+use Rattle.schedule_replay.specs.Events.{line_does}
 use Rattle.schedule_replay.specs.Kits.{kit_of}
 use Rattle.schedule_replay.specs.Laws.{IsReplayed, ReportsAreSafe, IsRealBreak, BreaksAreReal}
 use Rattle.schedule_replay.specs.Lines.{bad_line, line_step}
@@ -56,6 +58,25 @@ abbrev IsStage : Stage → Type 0
 IsStage (Begins road) = Unit {0}
 IsStage (Opens o faulty road) = IsOpening o faulty
 IsStage (Runs r) = IsReplayed r
+
+-- a line at a stage ends the run in a breach
+record BreaksAt (stage : Stage) (line : List ℕ) (number : ℕ) (b : Broken) : Type 0 where
+  pub replay : ReplayValue
+  pub reached : ended stage ≡ Ok replay
+  pub ran : IsReplayed replay
+  pub value : Line
+  pub read : line_at line number ≡ Ok value
+  pub broke : line_does replay value ≡ Err (world.Broken b)
+
+-- one of the lines from this number on does
+record BreaksIn (lines : List (List ℕ)) (number : ℕ) (stage : Stage) (b : Broken) : Type 0 where
+  pub before : List (List ℕ)
+  pub line : List ℕ
+  pub after : List (List ℕ)
+  pub parts : lines ≡ before ++ line ∷ after
+  pub mid : Stage
+  pub led : run_lines before number stage ≡ Ok mid
+  pub breaks : BreaksAt mid line (number + length before) b
 
 module _ (laws : Laws) where
   -- ---- openings
@@ -193,82 +214,139 @@ module _ (laws : Laws) where
 
   -- ---- breaches
 
-  opened_breaks : (road : Road) (number : ℕ) (c : Setting) (clock : ℕ) (journal : Bool) (kit : Option KitValue) (b : Broken) →
-      opened road number c clock journal kit ≡ Err (fault.Broken b) → IsRealBreak b
+  opened_breaks : {A : Type 0} (road : Road) (number : ℕ) (c : Setting) (clock : ℕ) (journal : Bool) (kit : Option KitValue) (b : Broken) →
+      opened road number c clock journal kit ≡ Err (fault.Broken b) → A
   opened_breaks road number c clock true kit b h = absurd cc
   opened_breaks road number c clock false None b h = absurd cc
   opened_breaks road number c clock false (Some kit) b h = absurd cc
 
-  first_breaks : (road : Road) (number : ℕ) (line : Line) (b : Broken) → first_line road number line ≡ Err (fault.Broken b) → IsRealBreak b
+  first_breaks : {A : Type 0} (road : Road) (number : ℕ) (line : Line) (b : Broken) → first_line road number line ≡ Err (fault.Broken b) → A
   first_breaks road number (Header c clock keys journal) b h = opened_breaks road number c clock journal (kit_of c keys) b h
   first_breaks road number Skipped b h = absurd cc
   first_breaks road number line b h = absurd cc
 
-  bad_first_breaks : (line : List ℕ) (number : ℕ) (e : LineFault) (b : Broken) → bad_first line number e ≡ fault.Broken b → IsRealBreak b
+  bad_first_breaks : {A : Type 0} (line : List ℕ) (number : ℕ) (e : LineFault) (b : Broken) → bad_first line number e ≡ fault.Broken b → A
   bad_first_breaks line number (line_fault.BadLine n reason) b h = absurd cc
   bad_first_breaks line number line_fault.NoMemory b h = absurd cc
 
-  bad_line_breaks : (line : List ℕ) (number : ℕ) (e : LineFault) (b : Broken) → bad_line line number e ≡ fault.Broken b → IsRealBreak b
+  bad_line_breaks : {A : Type 0} (line : List ℕ) (number : ℕ) (e : LineFault) (b : Broken) → bad_line line number e ≡ fault.Broken b → A
   bad_line_breaks line number (line_fault.BadLine n reason) b h = absurd cc
   bad_line_breaks line number line_fault.NoMemory b h = absurd cc
 
-  joins_break : (number : ℕ) (reason : Option ℕ) (stage : Stage) (b : Broken) →
-      unless (option_map (fault.BadInput number) reason) stage ≡ Err (fault.Broken b) → IsRealBreak b
+  joins_break : {A : Type 0} (number : ℕ) (reason : Option ℕ) (stage : Stage) (b : Broken) →
+      unless (option_map (fault.BadInput number) reason) stage ≡ Err (fault.Broken b) → A
   joins_break number None stage b h = absurd cc
   joins_break number (Some reason) stage b h = absurd cc
 
+  runs_break : (r : ReplayValue) (line : Line) (number : ℕ) (b : Broken) →
+      (line_step r line number >>= λ r. Ok (Runs r)) ≡ Err (fault.Broken b) → line_does r line ≡ Err (world.Broken b)
+  runs_break r line number b h = by (line_step r line number) refl h
+    where
+      by : (x : Result ReplayValue ReplayFault) → line_step r line number ≡ x → (x >>= λ r. Ok (Runs r)) ≡ Err (fault.Broken b) →
+          line_does r line ≡ Err (world.Broken b)
+      by (Ok after) e h = absurd cc
+      by (Err x) e h =
+          let same : x ≡ fault.Broken b = cc in line_breaks r line number b (e ∙ ap (λ (z : ReplayFault). Err z) same)
+
+  opening_breaks : (o : Opening) (faulty : List Party) (road : Road) (number : ℕ) (line : Line) (b : Broken) →
+      opening_line o faulty road number line ≡ Err (fault.Broken b) → line_does (first_replay o faulty road) line ≡ Err (world.Broken b)
+  opening_breaks o faulty road number (Faulty party) b h =
+      joins_break number (faulty_reason o.cluster faulty party) (Opens o (faulty ++ party ∷ []) road) b h
+  opening_breaks o faulty road number Skipped b h = absurd cc
+  opening_breaks o faulty road number line b h = runs_break (first_replay o faulty road) line number b h
+
+  read_breaks : (stage : Stage) (line : List ℕ) (number : ℕ) (value : Result Line LineFault) (b : Broken) → line_at line number ≡ value →
+      IsStage stage → read_line stage line number value ≡ Err (fault.Broken b) → BreaksAt stage line number b
+  read_breaks (Begins road) line number (Ok value) b e i h = first_breaks road number value b h
+  read_breaks (Begins road) line number (Err x) b e i h =
+      bad_first_breaks line number x b (let same : bad_first line number x ≡ fault.Broken b = cc in same)
+  read_breaks (Opens o faulty road) line number (Ok value) b e i h = record {
+    replay = first_replay o faulty road;
+    reached = refl;
+    ran = begins_replayed o faulty road i;
+    value = value;
+    read = e;
+    broke = opening_breaks o faulty road number value b h;
+  }
+  read_breaks (Opens o faulty road) line number (Err x) b e i h =
+      bad_line_breaks line number x b (let same : bad_line line number x ≡ fault.Broken b = cc in same)
+  read_breaks (Runs r) line number (Ok value) b e i h =
+      record { replay = r; reached = refl; ran = i; value = value; read = e; broke = runs_break r value number b h }
+  read_breaks (Runs r) line number (Err x) b e i h =
+      bad_line_breaks line number x b (let same : bad_line line number x ≡ fault.Broken b = cc in same)
+
+  -- a line before the breach
+  behind_line : (line : List ℕ) (lines : List (List ℕ)) (number : ℕ) (stage after : Stage) (b : Broken) →
+      stage_step stage line number ≡ Ok after → BreaksIn lines (number + 1) after b → BreaksIn (line ∷ lines) number stage b
+  behind_line line lines number stage after b e i = record {
+    before = line ∷ i.before;
+    line = i.line;
+    after = i.after;
+    parts = ap (λ (ls : List (List ℕ)). line ∷ ls) i.parts;
+    mid = i.mid;
+    led = ap (λ (x : Result Stage ReplayFault). x >>= run_lines i.before (number + 1)) e ∙ i.led;
+    breaks =
+        let same : (number + 1) + length i.before ≡ number + suc (length i.before) = omega arith in
+        subst (λ (n : ℕ). BreaksAt i.mid i.line n b) same i.breaks;
+  }
+
+  -- the breach at the first of the lines
+  at_first : (line : List ℕ) (lines : List (List ℕ)) (number : ℕ) (stage : Stage) (b : Broken) → BreaksAt stage line number b →
+      BreaksIn (line ∷ lines) number stage b
+  at_first line lines number stage b i = record {
+    before = [];
+    line = line;
+    after = lines;
+    parts = refl;
+    mid = stage;
+    led = refl;
+    breaks = let same : number ≡ number + 0 = omega arith in subst (λ (n : ℕ). BreaksAt stage line n b) same i;
+  }
+
+  lines_break : (lines : List (List ℕ)) (number : ℕ) (stage : Stage) (b : Broken) → IsStage stage →
+      run_lines lines number stage ≡ Err (fault.Broken b) → BreaksIn lines number stage b
+  lines_break [] number stage b i h = absurd cc
+  lines_break (line ∷ lines) number stage b i h =
+      by (stage_step stage line number) refl h (λ t k e. lines_break lines (number + 1) t b k e)
+    where
+      by : (x : Result Stage ReplayFault) → stage_step stage line number ≡ x →
+          (x >>= run_lines lines (number + 1)) ≡ Err (fault.Broken b) →
+          ((t : Stage) → IsStage t → run_lines lines (number + 1) t ≡ Err (fault.Broken b) → BreaksIn lines (number + 1) t b) →
+          BreaksIn (line ∷ lines) number stage b
+      by (Ok t) e h rest = behind_line line lines number stage t b e (rest t (step_keeps stage line number t i e) h)
+      by (Err x) e h rest =
+          let same : x ≡ fault.Broken b = cc in
+          at_first line lines number stage b
+          (read_breaks stage line number (line_at line number) b refl i (e ∙ ap (λ (z : ReplayFault). Err z) same))
+
+  ended_breaks : {A : Type 0} (stage : Stage) (b : Broken) → ended stage ≡ Err (fault.Broken b) → A
+  ended_breaks (Begins road) b h = absurd cc
+  ended_breaks (Opens o faulty road) b h = absurd cc
+  ended_breaks (Runs r) b h = absurd cc
+
   module _ (law : RunsUpToABreachAreSafe) where
-    runs_break : (r : ReplayValue) (line : Line) (number : ℕ) (b : Broken) → Fits line → IsReplayed r →
-        (line_step r line number >>= λ r. Ok (Runs r)) ≡ Err (fault.Broken b) → IsRealBreak b
-    runs_break r line number b f i h = by (line_step r line number) refl h
-      where
-        by : (x : Result ReplayValue ReplayFault) → line_step r line number ≡ x → (x >>= λ r. Ok (Runs r)) ≡ Err (fault.Broken b) →
-            IsRealBreak b
-        by (Ok after) e h = absurd cc
-        by (Err x) e h =
-            let same : x ≡ fault.Broken b = cc in
-            line_breaks law r line number b f i (e ∙ ap (λ (z : ReplayFault). Err z) same)
-
-    opening_breaks : (o : Opening) (faulty : List Party) (road : Road) (number : ℕ) (line : Line) (b : Broken) →
-        Fits line → IsOpening o faulty →
-        opening_line o faulty road number line ≡ Err (fault.Broken b) → IsRealBreak b
-    opening_breaks o faulty road number (Faulty party) b f i h =
-        joins_break number (faulty_reason o.cluster faulty party) (Opens o (faulty ++ party ∷ []) road) b h
-    opening_breaks o faulty road number Skipped b f i h = absurd cc
-    opening_breaks o faulty road number line b f i h =
-        runs_break (first_replay o faulty road) line number b f (begins_replayed o faulty road i) h
-
-    read_breaks : (stage : Stage) (line : List ℕ) (number : ℕ) (value : Result Line LineFault) (b : Broken) →
-        ((x : Line) → value ≡ Ok x → Fits x) → IsStage stage → read_line stage line number value ≡ Err (fault.Broken b) → IsRealBreak b
-    read_breaks (Begins road) line number (Ok value) b f i h = first_breaks road number value b h
-    read_breaks (Begins road) line number (Err e) b f i h =
-        bad_first_breaks line number e b (let same : bad_first line number e ≡ fault.Broken b = cc in same)
-    read_breaks (Opens o faulty road) line number (Ok value) b f i h = opening_breaks o faulty road number value b (f value refl) i h
-    read_breaks (Opens o faulty road) line number (Err e) b f i h =
-        bad_line_breaks line number e b (let same : bad_line line number e ≡ fault.Broken b = cc in same)
-    read_breaks (Runs r) line number (Ok value) b f i h = runs_break r value number b (f value refl) i h
-    read_breaks (Runs r) line number (Err e) b f i h =
-        bad_line_breaks line number e b (let same : bad_line line number e ≡ fault.Broken b = cc in same)
-
-    lines_break : (lines : List (List ℕ)) (number : ℕ) (stage : Stage) (b : Broken) → IsStage stage →
-        run_lines lines number stage ≡ Err (fault.Broken b) → IsRealBreak b
-    lines_break [] number stage b i h = absurd cc
-    lines_break (line ∷ lines) number stage b i h =
-        by (stage_step stage line number) refl h (λ t k e. lines_break lines (number + 1) t b k e)
-      where
-        by : (x : Result Stage ReplayFault) → stage_step stage line number ≡ x →
-            (x >>= run_lines lines (number + 1)) ≡ Err (fault.Broken b) →
-            ((t : Stage) → IsStage t → run_lines lines (number + 1) t ≡ Err (fault.Broken b) → IsRealBreak b) → IsRealBreak b
-        by (Ok t) e h rest = rest t (step_keeps stage line number t i e) h
-        by (Err x) e h rest =
-            let same : x ≡ fault.Broken b = cc in
-            read_breaks stage line number (line_at line number) b (λ y k. read_fits laws.grammar line number y k) i
-            (e ∙ ap (λ (z : ReplayFault). Err z) same)
-
-    ended_breaks : (stage : Stage) (b : Broken) → ended stage ≡ Err (fault.Broken b) → IsRealBreak b
-    ended_breaks (Begins road) b h = absurd cc
-    ended_breaks (Opens o faulty road) b h = absurd cc
-    ended_breaks (Runs r) b h = absurd cc
+    real : (road : Road) (bytes : List ℕ) (b : Broken) → BreaksIn (lines_of bytes) 1 (Begins road) b → IsRealBreak road bytes b
+    real road bytes b i =
+        let x = i.breaks in
+        let r = x.replay in
+        let goes = does_break r x.value b (read_fits laws.grammar i.line (1 + length i.before) x.value x.read) x.broke in
+        record {
+          before = i.before;
+          line = i.line;
+          after = i.after;
+          parts = i.parts;
+          replay = r;
+          reached = ap (λ (s : Result Stage ReplayFault). s >>= ended) i.led ∙ x.reached;
+          ran = x.ran;
+          value = x.value;
+          read = x.read;
+          broke = x.broke;
+          events = goes.events;
+          until =
+              law r.setup x.ran.sound.setup x.ran.sound.signed (x.ran.events ++ goes.events) b
+              (sized_append x.ran.events goes.events x.ran.sized goes.sized)
+              (run_on r.setup x.ran.events goes.events (start r.setup) r.state (Err b) x.ran.ends goes.ends);
+        }
 
     pub breaks_are_real : BreaksAreReal
     breaks_are_real road bytes b h = by (run_lines (lines_of bytes) 1 (Begins road)) refl h
@@ -278,8 +356,8 @@ module _ (laws : Laws) where
         at_end (Err e) h = let same : e ≡ fault.Broken b = cc in ap (λ (z : ReplayFault). Err z) same
 
         by : (x : Result Stage ReplayFault) → run_lines (lines_of bytes) 1 (Begins road) ≡ x →
-            ((x >>= ended) >>= λ r. Ok (report r)) ≡ Err (fault.Broken b) → IsRealBreak b
+            ((x >>= ended) >>= λ r. Ok (report r)) ≡ Err (fault.Broken b) → IsRealBreak road bytes b
         by (Ok stage) e h = ended_breaks stage b (at_end (ended stage) h)
         by (Err f) e h =
             let same : f ≡ fault.Broken b = cc in
-            lines_break (lines_of bytes) 1 (Begins road) b tt (e ∙ ap (λ (z : ReplayFault). Err z) same)
+            real road bytes b (lines_break (lines_of bytes) 1 (Begins road) b tt (e ∙ ap (λ (z : ReplayFault). Err z) same))

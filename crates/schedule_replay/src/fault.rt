@@ -9,7 +9,7 @@ use std::alloc::AllocFailed;
 /// Why a schedule has no report.
 #[derive(Debug, Drop)]
 pub enum ReplayFault {
-    /// The line of this number, from 1, is refused for this reason, by the table of `docs/schedules.md`.
+    /// The line of this number, from 1, is refused for this reason, by the table of `docs/formats.md`.
     BadInput { line: u64, reason: u8 },
     /// A premise of the run is broken.
     Broken(Broken),

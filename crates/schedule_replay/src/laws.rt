@@ -20,8 +20,9 @@ pub fn reports_are_safe()
     runs_are_safe();
 }
 
-/// What is told as broken is the breach that ends such a run: of a correct party, a signature that the kit accepts on
-/// words that it had not signed up to there; or two texts that differ and have one SHA-256. The run is safe until there.
+/// What is told as broken is the breach in which a schedule's run ends, at one of its lines: of a correct party, a signature
+/// that the kit accepts on words that it had not signed up to there; or two texts that differ and have one SHA-256. The run
+/// is safe until there.
 pub fn breaks_are_real()
     ensures { BreaksAreReal }
 {

@@ -73,7 +73,7 @@ pub(crate) fn name_with(cast: &[Role], id: &[u8; 32]) -> &'static str {
 }
 
 /// What a word like `a?B` tells of a read: the key, how, and whose version. `a=B` is a read of the version of B, or for
-/// `-` of genesis; `a?B` is the same as a dependency; `a~B` depends on a version of B's id and an earlier time.
+/// `-` of genesis; `a?B` is the same as a dependency; `a~B` depends on a version of B's id and a later time.
 #[derive(Clone, Copy)]
 struct Reading<'a> {
     key: &'a str,
@@ -145,7 +145,7 @@ fn put_version(out: &mut Vec<u8>, cast: &[Role], told: Reading<'_>) -> Result<()
         return Ok(());
     }
     let writer = role_named(cast, told.writer)?;
-    let time = writer.time.saturating_sub(u64::from(told.mark == '~'));
+    let time = writer.time.saturating_add(u64::from(told.mark == '~'));
     out.extend_from_slice(&time.to_be_bytes())?;
     out.push(writer.client)?;
     out.extend_from_slice(&id_of(&writer.bytes))?;

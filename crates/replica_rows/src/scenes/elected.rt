@@ -17,9 +17,10 @@ const ELECTED: Scene = Scene {
         ("r0 elect A abort 7", ""),
         ("r0 elect B commit 1", ""),
         ("r4 elect A commit 1", ""),
-        ("r2 elect A abort 1", ""),
+        ("r1 elect A commit 1", ""),
+        // The decision of most, and not of the last.
         (
-            "r1 elect A commit 1",
+            "r2 elect A abort 1",
             "decide A commit 1 0c 1c 2a 3a 4c #0 to r0 r1 r2 r3 r4 r5",
         ),
         // What comes after the proposal changes nothing.

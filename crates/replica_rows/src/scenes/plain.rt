@@ -144,10 +144,14 @@ fn hand(
     Ok(())
 }
 
-/// What the replica of a row sent.
-fn sent_by(alloc: Global, cast: &[Role], row: &Row) -> Result<Outbox, Fail> {
-    let mut replica = replica_of(alloc, row)?;
-    let mut out = outbox(alloc);
+/// Hands the frames of a row's phrases to its replica.
+fn hand_all(
+    alloc: Global,
+    replica: &mut Plain,
+    out: &mut Outbox,
+    cast: &[Role],
+    row: &Row,
+) -> Result<(), Fail> {
     for phrase in row.phrases {
         let line = Line {
             phrase,
@@ -155,9 +159,15 @@ fn sent_by(alloc: Global, cast: &[Role], row: &Row) -> Result<Outbox, Fail> {
             shard: row.shard,
         };
         let mut frame = Vec::new(alloc);
-        hand(&mut replica, &mut out, &mut frame, &line)?;
+        hand(replica, out, &mut frame, &line)?;
     }
-    Ok(out)
+    Ok(())
+}
+
+/// Takes what the replica of a row sends.
+fn send(alloc: Global, out: &mut Outbox, cast: &[Role], row: &Row) -> Result<(), Fail> {
+    let mut replica = replica_of(alloc, row)?;
+    hand_all(alloc, &mut replica, out, cast, row)
 }
 
 /// Whether the last frame has these bytes.
@@ -168,13 +178,19 @@ fn ends_with(out: &Outbox, bytes: &[u8]) -> bool {
     }
 }
 
+/// Whether the last frame that the replica of a row sends is the row's.
+fn is_sent(alloc: Global, cast: &[Role], row: &Row) -> Result<bool, Fail> {
+    let bytes = hex::decode(alloc, row.sent)?;
+    let mut out = outbox(alloc);
+    send(alloc, &mut out, cast, row)?;
+    Ok(ends_with(&out, &bytes))
+}
+
 #[test]
 fn a_replica_sends_the_same_frames(rt: HostRuntime) -> Result<(), Fail> {
     let cast = cast_of(rt.alloc(), CAST)?;
     for row in ROWS {
-        let out = sent_by(rt.alloc(), &cast, row)?;
-        let bytes = hex::decode(rt.alloc(), row.sent)?;
-        assert!(rt; ends_with(&out, &bytes), "{}", row.sent);
+        assert!(rt; is_sent(rt.alloc(), &cast, row)?, "{}", row.sent);
     }
     Ok(())
 }

@@ -17,6 +17,8 @@ const SEEN: Scene = Scene {
         "F 100 6 +g",
         "G 149 6 +g",
         "X 55 9 +a",
+        "H 20 7 +h",
+        "I 25 8 +h",
     ],
     steps: &[
         (
@@ -83,6 +85,23 @@ const SEEN: Scene = Scene {
             "read a 20 8 committed A fast 0:012345 prepared - #17 to c8",
         ),
         ("c9 st1 X", "vote X abort #18 to c9"),
+        // Of two that are prepared, and of two that are committed, the latest, whichever came first.
+        ("c7 st1 H", "vote H commit #19 to c7"),
+        ("c8 st1 I", "vote I commit #20 to c8"),
+        (
+            "c9 read h 40 9",
+            "read h 40 9 committed - prepared I #21 to c9",
+        ),
+        (
+            "c9 read h 22 9",
+            "read h 22 9 committed - prepared H #22 to c9",
+        ),
+        ("c7 writeback H fast 0:012345", ""),
+        ("c8 writeback I fast 0:012345", ""),
+        (
+            "c9 read h 40 9",
+            "read h 40 9 committed I fast 0:012345 prepared - #23 to c9",
+        ),
     ],
 };
 

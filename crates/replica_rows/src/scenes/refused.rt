@@ -2,7 +2,7 @@
 //! many transactions are known, what is logged of the frame's transaction, what was sent and signed, and, by the next
 //! signature, the pen.
 
-use crate::scenes::stages::{Scene, plays};
+use crate::scenes::stages::{Scene, plays_each_way};
 use std::test::Fail;
 
 /// Of two shards a is in shard 1 and b in shard 0. Shard 0 logs A and C, shard 1 logs B and D, whose times are odd.
@@ -76,7 +76,7 @@ const UNFIT: Scene = Scene {
 
 #[test]
 fn unfit_frames_are_refused(rt: HostRuntime) -> Result<(), Fail> {
-    plays(&rt, rt.alloc(), &UNFIT)
+    plays_each_way(&rt, rt.alloc(), &UNFIT)
 }
 
 const UNSIGNED: Scene = Scene {
@@ -153,7 +153,7 @@ const UNSIGNED: Scene = Scene {
 
 #[test]
 fn what_is_not_proved_is_refused(rt: HostRuntime) -> Result<(), Fail> {
-    plays(&rt, rt.alloc(), &UNSIGNED)
+    plays_each_way(&rt, rt.alloc(), &UNSIGNED)
 }
 
 const UNTIMELY: Scene = Scene {
@@ -196,5 +196,5 @@ const UNTIMELY: Scene = Scene {
 
 #[test]
 fn what_comes_too_early_or_late_is_refused(rt: HostRuntime) -> Result<(), Fail> {
-    plays(&rt, rt.alloc(), &UNTIMELY)
+    plays_each_way(&rt, rt.alloc(), &UNTIMELY)
 }

@@ -2,7 +2,7 @@
 
 use crate::scenes::casts::{Role, cast_of, find, word_at};
 use crate::scenes::phrases::{Line, put_frame};
-use crate::scenes::telling::{Reader, name_of, tell};
+use crate::scenes::telling::{Reader, leaf_of, name_of, tell};
 use basil_types::bytes::id_of;
 use basil_types::cluster::Cluster;
 use basil_types::outbox::{Envelope, Outbox};
@@ -14,8 +14,10 @@ use lms_sign::{LmsKey, LmsSet, ident_of_seed};
 use node_steps::pending::outbox;
 use replica_core::{Refusal, Replica};
 use std::alloc::{AllocError, Global};
+use std::mem::replace;
 use std::process::Abort;
 use std::test::Fail;
+use txn_table::entry::{Entry, VoteState};
 
 /// The replica's clock, in a cluster with f = 1 and a delta of 100.
 const NOW: u64 = 50;
@@ -97,14 +99,24 @@ fn stage_of(alloc: Global, scene: &Scene) -> Result<Stage, Fail> {
     })
 }
 
-/// What must stay where a frame is refused: how many transactions are known, how much was sent and signed, and what is
-/// logged of the frame's transaction.
-#[derive(Clone, Copy, PartialEq, Eq)]
-struct Mark {
-    known: u32,
-    sent: usize,
-    signed: usize,
-    cell: Option<LogCell>,
+/// What is known of a transaction: its vote with the leaf that signed it, or how many wait for it; and its outcome with the size
+/// of its certificate.
+fn put_entry(text: &mut String, entry: &Entry) -> Result<(), AllocError> {
+    match entry.vote() {
+        VoteState::Unvoted => text.push_str("unvoted")?,
+        VoteState::Waiting => write!(text, "{} wait", entry.askers().len())?,
+        VoteState::Voted {
+            vote,
+            signature,
+            proof,
+        } => write!(text, "{} {} {proof:?}", name_of(vote), leaf_of(signature))?,
+    }
+    match entry.outcome() {
+        Some((decision, certificate)) => {
+            write!(text, " {} {}; ", name_of(decision), certificate.len())
+        }
+        None => text.push_str("; "),
+    }
 }
 
 /// The bytes of all frames.
@@ -131,13 +143,20 @@ impl Stage {
         self.replica.cell(&id_of(&role.bytes))
     }
 
-    fn mark(&self, phrase: &str) -> Mark {
-        Mark {
-            known: self.replica.table().len(),
-            sent: self.out.messages.as_slice().len(),
-            signed: self.out.signed.as_slice().len(),
-            cell: self.cell(phrase),
+    /// What must stay where a frame is refused: what is known of each transaction of the cast, and logged of the one that a
+    /// phrase names; and how much was sent and signed.
+    fn mark(&self, alloc: Global, phrase: &str) -> Result<String, AllocError> {
+        let mut text = String::new(alloc);
+        for role in self.cast.iter() {
+            match self.replica.table().entry_with(&id_of(&role.bytes)) {
+                Some(entry) => put_entry(&mut text, entry)?,
+                None => text.push_str("unknown; ")?,
+            }
         }
+        self.tell_cell(&mut text, phrase)?;
+        let (sent, signed) = (self.out.messages.as_slice(), self.out.signed.as_slice());
+        write!(text, "; {} {} {}", sent.len(), bytes_of(sent), signed.len())?;
+        Ok(text)
     }
 
     /// Hands a frame in two halves; fails where the plan tells other messages or bytes than are sent.
@@ -193,6 +212,7 @@ impl Stage {
     /// Hands the frame of a phrase to the replica, and tells what it answers; fails where a refused frame changed anything.
     fn hand_phrase(
         &mut self,
+        alloc: Global,
         text: &mut String,
         frame: &mut Vec<u8>,
         way: Way,
@@ -200,19 +220,16 @@ impl Stage {
     ) -> Result<(), Fail> {
         put_frame(frame, &self.line(phrase))?;
         let from = self.line(phrase).sender();
-        let mark = self.mark(phrase);
+        let before = self.mark(alloc, phrase)?;
+        let place = match way {
+            Way::Halves => 0,
+            Way::Whole | Way::Again => self.out.messages.as_slice().len(),
+        };
         match self.hand(way, from, frame.as_slice())? {
-            Ok(()) => {
-                let place = match way {
-                    Way::Halves => 0,
-                    Way::Whole | Way::Again => mark.sent,
-                };
-                self.tell(text, place)?;
-                Ok(())
-            }
+            Ok(()) => Ok(self.tell(text, place)?),
             Err(refused) => {
                 write!(text, "refused {refused:?}")?;
-                if self.mark(phrase) == mark {
+                if self.mark(alloc, phrase)?.as_str() == before.as_str() {
                     Ok(())
                 } else {
                     Err(Fail::new("a refused frame changed something"))
@@ -238,9 +255,24 @@ impl Stage {
         match word_at(phrase, 1).as_bytes() {
             b"cell" => self.tell_cell(&mut text, phrase)?,
             b"table" => write!(text, "{}", self.replica.table().len())?,
-            _ => self.hand_phrase(&mut text, &mut frame, way, phrase)?,
+            _ => self.hand_phrase(alloc, &mut text, &mut frame, way, phrase)?,
         }
         Ok(text)
+    }
+
+    /// Plays the steps of a scene, and gives the bytes of all frames that were sent.
+    fn play(
+        &mut self,
+        rt: &impl Abort,
+        alloc: Global,
+        steps: &[(&str, &str)],
+        way: Way,
+    ) -> Result<Vec<u8>, Fail> {
+        for (phrase, wanted) in steps {
+            let found = self.answer(alloc, way, phrase)?;
+            assert!(rt; found.as_str() == *wanted, "{phrase}: {found}");
+        }
+        Ok(replace(&mut self.sent, Vec::new(alloc)))
     }
 }
 
@@ -252,16 +284,19 @@ pub(crate) fn played(
     way: Way,
 ) -> Result<Vec<u8>, Fail> {
     let mut stage = stage_of(alloc, scene)?;
-    for (phrase, wanted) in scene.steps {
-        let found = stage.answer(alloc, way, phrase)?;
-        assert!(rt; found.as_str() == *wanted, "{phrase}: {found}");
-    }
-    let Stage { sent, .. } = stage;
-    Ok(sent)
+    stage.play(rt, alloc, scene.steps, way)
 }
 
 /// Plays a scene whose frames are handed over in one step.
 pub(crate) fn plays(rt: &impl Abort, alloc: Global, scene: &Scene) -> Result<(), Fail> {
     drop(played(rt, alloc, scene, Way::Whole)?);
+    Ok(())
+}
+
+/// Plays a scene in each way.
+pub(crate) fn plays_each_way(rt: &impl Abort, alloc: Global, scene: &Scene) -> Result<(), Fail> {
+    for way in [Way::Whole, Way::Halves, Way::Again] {
+        drop(played(rt, alloc, scene, way)?);
+    }
     Ok(())
 }

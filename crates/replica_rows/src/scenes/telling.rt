@@ -215,7 +215,7 @@ fn tell_message(
 }
 
 /// The leaf that made an LMS signature.
-fn leaf_of(signature: &[u8]) -> u8 {
+pub(crate) fn leaf_of(signature: &[u8]) -> u8 {
     signature.get(3).copied().unwrap_or(0)
 }
 

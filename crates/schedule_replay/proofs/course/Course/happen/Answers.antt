@@ -1,7 +1,6 @@
-use Rattle.std.proofs.Common.{◌≡◌, None, Option, Some, refl, sym, ap, ◌++◌, ◌∙◌}
-use Rattle.cluster_run.specs.Events.{EventValue}
+use Rattle.std.proofs.Common.{None, Some, refl, ◌++◌, ◌∙◌}
 use Rattle.cluster_world.specs.EventValues.{event_value}
-use Rattle.schedule_replay.specs.Events.{event_of, gifts, given_to, line_does, round_of}
+use Rattle.schedule_replay.specs.Events.{gifts, line_does, round_of}
 use Rattle.schedule_replay.specs.Replays.{along}
 use Rattle.schedule_replay.specs.Roads.{road_with}
 use Rattle.schedule_replay.proofs.RoadLaws.{carries_none, carries_these}

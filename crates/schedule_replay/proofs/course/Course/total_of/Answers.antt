@@ -1,6 +1,4 @@
-use Rattle.std.proofs.Common.{rules, ◌≡◌, ◌≤◌, ap, sym, ◌∙◌, arith, cond}
-use Rattle.schedule_replay.specs.Reports.{decided}
-use Rattle.schedule_replay.specs.Totals.{is_same_fate}
+use Rattle.std.proofs.Common.{rules, ◌≤◌, arith}
 use Rattle.schedule_replay.proofs.Counting.{counted_on}
 use Rattle.schedule_replay.proofs.course.Course.total_of.Goals as goal
 

@@ -5,7 +5,6 @@ use Rattle.schedule_replay.specs.Replays.{first_replay}
 use Rattle.schedule_replay.specs.Roads.{road_with}
 use Rattle.schedule_replay.specs.Schedules.{Took}
 use Rattle.schedule_replay.specs.Shown.{opening_of}
-use Rattle.schedule_replay.specs.Stages.{opening_line}
 use Rattle.schedule_replay.specs.declared.fault.ReplayFault.TheVariants.{NoMemory}
 use Rattle.schedule_replay.specs.declared.stages.Schedule.TheVariants.{Runs}
 use Rattle.schedule_replay.proofs.RoadLaws.{carries_as, carries_none}

@@ -1,4 +1,4 @@
-use Rattle.std.proofs.Common.{refl, ap, sym}
+use Rattle.std.proofs.Common.{refl, ap}
 use Rattle.schedule_replay.specs.Stages.{Begins, first_line}
 use Rattle.schedule_replay.proofs.stages.Schedule.first_line.Goals as goal
 

@@ -3,7 +3,7 @@ use Rattle.schedule_replay.specs.Roads.{road_with}
 use Rattle.schedule_replay.specs.Shown.{is_of_link}
 use Rattle.schedule_replay.specs.Stages.{on_road}
 use Rattle.schedule_replay.proofs.RoadLaws.{carries_as, carries_none, unused_by}
-use Rattle.schedule_replay.proofs.StageLaws.{at_road, bad_took, is_numbered, on_ok, refused_took, value_took}
+use Rattle.schedule_replay.proofs.StageLaws.{at_road, is_numbered, on_ok, refused_took, value_took}
 use Rattle.schedule_replay.proofs.stages.Schedule.line.Goals as goal
 
 pub returns-in-Ok-clause-took : goal.returns-in-Ok-clause-took
