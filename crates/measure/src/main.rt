@@ -6,6 +6,7 @@ mod decisions;
 mod frames;
 mod lines;
 mod made;
+mod releases;
 mod signatures;
 mod steps;
 mod work;

@@ -34,16 +34,16 @@ pub enum Handing {
 }
 
 /// The client of all transactions.
-const CLIENT: Party = Party::Client { number: 1 };
+pub(crate) const CLIENT: Party = Party::Client { number: 1 };
 
 /// The replica that is timed.
-const REPLICA: Party = Party::Replica { shard: 0, index: 0 };
+pub(crate) const REPLICA: Party = Party::Replica { shard: 0, index: 0 };
 
 /// A moment above all times.
-const NOW: u64 = 1 << 40;
+pub(crate) const NOW: u64 = 1 << 40;
 
 /// The transaction of a number: it writes one byte to a key of its own.
-fn transaction(alloc: Global, number: u32) -> Result<Vec<u8>, NoMemory> {
+pub(crate) fn transaction(alloc: Global, number: u32) -> Result<Vec<u8>, NoMemory> {
     let time = u64::from(number) + 1;
     let mut bytes = Vec::from_slice(alloc, &[1])?;
     bytes.extend_from_slice(&time.to_be_bytes())?;
@@ -53,21 +53,38 @@ fn transaction(alloc: Global, number: u32) -> Result<Vec<u8>, NoMemory> {
     Ok(bytes)
 }
 
-/// The first stage of the transaction of a number.
-fn first_stage<S: Signer>(alloc: Global, pen: &mut S, number: u32) -> Result<Vec<u8>, NoMemory> {
-    let transaction = transaction(alloc, number)?;
-    let words = Words::transaction(&id_of(&transaction));
+/// The first stage of the transaction of these bytes.
+pub(crate) fn first_stage_of<S: Signer>(
+    alloc: Global,
+    pen: &mut S,
+    transaction: &[u8],
+) -> Result<Vec<u8>, NoMemory> {
+    let words = Words::transaction(&id_of(transaction));
     let signature = signed_by(alloc, pen, words.bytes())?;
     let length = u16::try_from(signature.len()).unwrap_or(u16::MAX);
     let mut frame = Vec::from_slice(alloc, &[3])?;
-    frame.extend_from_slice(&transaction)?;
+    frame.extend_from_slice(transaction)?;
     frame.extend_from_slice(&length.to_be_bytes())?;
     frame.extend_from_slice(&signature)?;
     Ok(frame)
 }
 
+/// The first stage of the transaction of a number.
+pub(crate) fn first_stage<S: Signer>(
+    alloc: Global,
+    pen: &mut S,
+    number: u32,
+) -> Result<Vec<u8>, NoMemory> {
+    let transaction = transaction(alloc, number)?;
+    first_stage_of(alloc, pen, &transaction)
+}
+
 /// The writeback of the transaction of a number, with the plain votes of every replica of the one shard.
-fn writeback(alloc: Global, cluster: &Cluster, number: u32) -> Result<Vec<u8>, NoMemory> {
+pub(crate) fn writeback(
+    alloc: Global,
+    cluster: &Cluster,
+    number: u32,
+) -> Result<Vec<u8>, NoMemory> {
     let transaction = transaction(alloc, number)?;
     let id = id_of(&transaction);
     let mut frame = Vec::from_slice(alloc, &[7])?;

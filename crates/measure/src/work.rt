@@ -5,6 +5,7 @@ use crate::decisions::{Proving, make_rings, prove};
 use crate::frames::{Place, Reading, Size, read_often};
 use crate::lines::{long_line, short_lines};
 use crate::made::Votes;
+use crate::releases::releases;
 use crate::signatures::{make_keys, sign, verify_often};
 use crate::steps::{Handing, Stepping, lms_steps, plain_steps};
 use basil_types::memory::NoMemory;
@@ -32,6 +33,8 @@ pub enum Work {
     Rings(LmsSet),
     /// Hands a replica of plain keys that knows so many transactions so many frames.
     Step(Stepping, Handing, u32),
+    /// Releases so many votes at a time of a replica of plain keys that knows so many decided transactions.
+    Release(Handing, u32, u32),
     /// Hands a replica of LMS keys so many first stages.
     LmsStep(LmsSet, Handing),
     /// Hands so many clients of plain keys, in a cluster of this f, the answers of every replica about a transaction.
@@ -167,6 +170,29 @@ const WORKS: &[(&str, Work)] = &[
         Work::Step(Stepping::Read, Handing::Handed, 400000),
     ),
     ("read-made", Work::Step(Stepping::Read, Handing::Made, 0)),
+    ("release-1-1000", Work::Release(Handing::Handed, 1, 1000)),
+    ("release-1-1000-made", Work::Release(Handing::Made, 1, 1000)),
+    ("release-16-1000", Work::Release(Handing::Handed, 16, 1000)),
+    (
+        "release-16-1000-made",
+        Work::Release(Handing::Made, 16, 1000),
+    ),
+    (
+        "release-1-400000",
+        Work::Release(Handing::Handed, 1, 400000),
+    ),
+    (
+        "release-1-400000-made",
+        Work::Release(Handing::Made, 1, 400000),
+    ),
+    (
+        "release-16-400000",
+        Work::Release(Handing::Handed, 16, 400000),
+    ),
+    (
+        "release-16-400000-made",
+        Work::Release(Handing::Made, 16, 400000),
+    ),
     ("first-w4h10", Work::LmsStep(LmsSet::W4H10, Handing::Handed)),
     (
         "first-w4h10-made",
@@ -227,6 +253,7 @@ pub fn checksum(alloc: Global, work: Work, count: u32) -> Result<u64, NoMemory> 
         Work::Prove(proving, votes, shards) => prove(alloc, proving, votes, shards, count),
         Work::Rings(set) => make_rings(alloc, set, count),
         Work::Step(stepping, handing, known) => plain_steps(alloc, stepping, handing, known, count),
+        Work::Release(handing, waiters, known) => releases(alloc, handing, waiters, known, count),
         Work::LmsStep(set, handing) => lms_steps(alloc, set, handing, count),
         Work::Answer(answering, handing, f) => answer_often(alloc, f, answering, handing, count),
         Work::Flood(handing, known) => flood(alloc, handing, known, count),
