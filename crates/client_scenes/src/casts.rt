@@ -244,12 +244,17 @@ fn role_of(alloc: Global, cast: &[Role], text: &'static str) -> Result<Role, Fai
     })
 }
 
+fn put_roles(alloc: Global, cast: &mut Vec<Role>, texts: &[&'static str]) -> Result<(), Fail> {
+    for text in texts {
+        let role = role_of(alloc, cast.as_slice(), text)?;
+        cast.push(role)?;
+    }
+    Ok(())
+}
+
 /// The transactions that these texts tell. A text may name those before it.
 pub(crate) fn cast_of(alloc: Global, texts: &[&'static str]) -> Result<Vec<Role>, Fail> {
     let mut cast = Vec::new(alloc);
-    for text in texts {
-        let role = role_of(alloc, &cast, text)?;
-        cast.push(role)?;
-    }
+    put_roles(alloc, &mut cast, texts)?;
     Ok(cast)
 }

@@ -35,7 +35,7 @@ pub(crate) struct Halves {
 }
 
 /// The slot that a recovery answers, none for the other asks; fails where a slot isn't held, or a signature is out of size.
-type Answer = Result<Result<Option<u32>, AskFault>, Fail>;
+pub(crate) type Answer = Result<Result<Option<u32>, AskFault>, Fail>;
 
 fn no_slot() -> Fail {
     Fail::new("no such slot, or no signature")

@@ -2,6 +2,8 @@
 #![tactic(auto)]
 
 #[cfg(test)]
+mod asking;
+#[cfg(test)]
 mod called;
 #[cfg(test)]
 mod casts;
@@ -22,8 +24,12 @@ mod roads;
 #[cfg(test)]
 mod seconds;
 #[cfg(test)]
+mod seen;
+#[cfg(test)]
 mod spelled;
 #[cfg(test)]
 mod stages;
 #[cfg(test)]
 mod telling;
+#[cfg(test)]
+mod unproved;

@@ -44,7 +44,7 @@ fn halves(word: &str) -> (&str, &str) {
 }
 
 /// The replicas of a word like `0:01x2`: of shard 0 the replicas 0, 1 and 2, the last with a spoiled signature.
-pub(crate) fn senders(alloc: Global, word: &str) -> Result<Vec<Sender>, AllocError> {
+fn senders(alloc: Global, word: &str) -> Result<Vec<Sender>, AllocError> {
     let (shard, replicas) = halves(word);
     let shard = byte_of(shard);
     let mut senders = Vec::new(alloc);
@@ -102,18 +102,15 @@ fn put_count(out: &mut Vec<u8>, count: usize) -> Result<(), AllocError> {
 
 // ---- certificates
 
-/// The shard of a word like `0:0123`, and votes of these replicas behind their number.
-fn put_votes(
-    alloc: Global,
+/// Votes of these replicas behind their number.
+fn put_voters(
     out: &mut Vec<u8>,
     id: &[u8; 32],
     decision: Decision,
-    word: &str,
+    voters: &[Sender],
 ) -> Result<(), AllocError> {
-    let voters = senders(alloc, word)?;
-    out.push(byte_of(halves(word).0))?;
     put_count(out, voters.len())?;
-    for voter in voters.iter() {
+    for voter in voters {
         out.push(voter.index)?;
         let words = Words::vote(voter.shard, voter.index, id, decision);
         put_signature(out, voter, &words)?;
@@ -131,6 +128,19 @@ fn count_pairs(text: &str) -> usize {
     count
 }
 
+/// The shard of a word like `0:0123`, and votes of these replicas behind their number.
+fn put_votes(
+    alloc: Global,
+    out: &mut Vec<u8>,
+    id: &[u8; 32],
+    decision: Decision,
+    word: &str,
+) -> Result<(), AllocError> {
+    out.push(byte_of(halves(word).0))?;
+    let voters = senders(alloc, word)?;
+    put_voters(out, id, decision, &voters)
+}
+
 /// A fast commit, with the votes of each word.
 fn put_fast(alloc: Global, out: &mut Vec<u8>, id: &[u8; 32], text: &str) -> Result<(), AllocError> {
     out.push(1)?;
@@ -144,17 +154,15 @@ fn put_fast(alloc: Global, out: &mut Vec<u8>, id: &[u8; 32], text: &str) -> Resu
     Ok(())
 }
 
-/// The replicas of a word, each with its log reply, in the view in which it was decided.
+/// These replicas behind their number, each with its log reply, in the view in which it was decided.
 fn put_logs(
-    alloc: Global,
     out: &mut Vec<u8>,
     id: &[u8; 32],
     (decision, view): (Decision, u64),
-    word: &str,
+    loggers: &[Sender],
 ) -> Result<(), AllocError> {
-    let loggers = senders(alloc, word)?;
     put_count(out, loggers.len())?;
-    for logger in loggers.iter() {
+    for logger in loggers {
         out.push(logger.index)?;
         out.extend_from_slice(&view.to_be_bytes())?;
         let words = Words::log_reply(logger.shard, logger.index, id, decision, view, view);
@@ -177,7 +185,8 @@ fn put_logged(
     out.extend_from_slice(id)?;
     out.extend_from_slice(&[byte_of(halves(word).0), number_for(decision)])?;
     out.extend_from_slice(&view.to_be_bytes())?;
-    put_logs(alloc, out, id, (decision, view), word)
+    let loggers = senders(alloc, word)?;
+    put_logs(out, id, (decision, view), &loggers)
 }
 
 /// A certificate of a kind that may commit.
@@ -211,6 +220,15 @@ fn put_committed(alloc: Global, out: &mut Vec<u8>, cast: &[Role], pair: &str) ->
     Ok(())
 }
 
+/// The first replica of a word, which names one.
+fn first_sender(alloc: Global, word: &str) -> Result<Sender, Fail> {
+    let named = senders(alloc, word)?;
+    match named.first() {
+        Some(sender) => Ok(*sender),
+        None => Err(Fail::new("the word names no replica")),
+    }
+}
+
 /// A conflict abort of a text like `conflict 0:3 E fast 0:012345`.
 fn put_conflict(
     alloc: Global,
@@ -219,15 +237,12 @@ fn put_conflict(
     id: &[u8; 32],
     text: &str,
 ) -> Result<(), Fail> {
-    let voters = senders(alloc, word_at(text, 1))?;
-    let Some(voter) = voters.first() else {
-        return Err(Fail::new("a conflict has a voter"));
-    };
+    let voter = first_sender(alloc, word_at(text, 1))?;
     out.push(4)?;
     out.extend_from_slice(id)?;
     out.extend_from_slice(&[voter.shard, voter.index])?;
     let words = Words::vote(voter.shard, voter.index, id, Decision::Abort);
-    put_signature(out, voter, &words)?;
+    put_signature(out, &voter, &words)?;
     put_committed(alloc, out, cast, behind_word(behind_word(text)))
 }
 
@@ -400,12 +415,22 @@ fn put_zeros(out: &mut Vec<u8>, count: u64) -> Result<(), AllocError> {
     Ok(())
 }
 
-/// Who sends the frames of a phrase: of a writeback or of bytes one frame that names no sender.
-pub(crate) fn senders_of(alloc: Global, phrase: &str) -> Result<Vec<Sender>, AllocError> {
+/// The word that names who sends the frames of a phrase; of a writeback or of bytes, whose one frame names no sender, anybody.
+fn sending(phrase: &str) -> &str {
     match word_at(phrase, 0).as_bytes() {
-        b"vote" | b"log" | b"reply" => senders(alloc, word_at(phrase, 1)),
-        _ => senders(alloc, "0:0"),
+        b"vote" | b"log" | b"reply" => word_at(phrase, 1),
+        _ => "0:0",
     }
+}
+
+/// Who sends the frames of a phrase.
+pub(crate) fn senders_of(alloc: Global, phrase: &str) -> Result<Vec<Sender>, AllocError> {
+    senders(alloc, sending(phrase))
+}
+
+/// Who sends the first of them.
+pub(crate) fn sender_of(alloc: Global, phrase: &str) -> Result<Sender, Fail> {
+    first_sender(alloc, sending(phrase))
 }
 
 /// The frame of a phrase that this replica sends.

@@ -315,7 +315,9 @@ const SHARDS: Scene = Scene {
     ..THREE
 };
 
+const SHARDED: &[Scene] = &[SHARDS];
+
 #[test]
 fn a_read_goes_to_its_keys_shard(rt: HostRuntime) -> Result<(), Fail> {
-    plays(&rt, rt.alloc(), 1, &[SHARDS])
+    plays(&rt, rt.alloc(), 1, SHARDED)
 }

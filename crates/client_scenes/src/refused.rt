@@ -61,9 +61,11 @@ const NO_FRAMES: Scene = Scene {
     ..TWO
 };
 
+const FRAMELESS: &[Scene] = &[NO_FRAMES];
+
 #[test]
 fn what_is_no_frame_is_refused(rt: HostRuntime) -> Result<(), Fail> {
-    plays(&rt, rt.alloc(), 1, &[NO_FRAMES])
+    plays(&rt, rt.alloc(), 1, FRAMELESS)
 }
 
 /// One frame of each kind that goes to replicas, made by an independent program.
@@ -293,9 +295,11 @@ const REPLIES: Scene = Scene {
     ..ONE
 };
 
+const READ_REPLIES: &[Scene] = &[REPLIES];
+
 #[test]
 fn replies_that_prove_nothing_are_refused(rt: HostRuntime) -> Result<(), Fail> {
-    plays(&rt, rt.alloc(), 1, &[REPLIES])
+    plays(&rt, rt.alloc(), 1, READ_REPLIES)
 }
 
 /// E read b before B wrote it, and is B's rival; F isn't. Z begins at time 0, N neither reads nor writes.
@@ -446,7 +450,9 @@ const UNPROVEN: Scene = Scene {
     ..TWO
 };
 
+const PURSUED: &[Scene] = &[UNPROVEN];
+
 #[test]
 fn what_is_not_proved_is_refused(rt: HostRuntime) -> Result<(), Fail> {
-    plays(&rt, rt.alloc(), 1, &[UNPROVEN])
+    plays(&rt, rt.alloc(), 1, PURSUED)
 }

@@ -184,7 +184,9 @@ const DROPPED: Scene = Scene {
     ],
 };
 
+const GIVEN_UP: &[Scene] = &[DROPPED];
+
 #[test]
 fn what_is_given_up_leaves_nothing(rt: HostRuntime) -> Result<(), Fail> {
-    plays(&rt, rt.alloc(), 1, &[DROPPED])
+    plays(&rt, rt.alloc(), 1, GIVEN_UP)
 }

@@ -1,9 +1,10 @@
 //! Frames that an independent program made over plain keys: phrases spell them, and a client sends them.
 
 use crate::casts::{Role, cast_of};
-use crate::phrases::{put_frame, senders_of};
+use crate::phrases::{put_frame, sender_of};
 use crate::stages::{Scene, ends_in, plays};
 use std::alloc::Global;
+use std::process::Abort;
 use std::test::Fail;
 
 /// The transactions of its runs.
@@ -68,24 +69,35 @@ const SPELLED: &[(&str, &str)] = &[
 
 /// The one frame of a phrase.
 fn frame_of(alloc: Global, cast: &[Role], phrase: &str) -> Result<Vec<u8>, Fail> {
-    let senders = senders_of(alloc, phrase)?;
-    let Some(sender) = senders.first() else {
-        return Err(Fail::new("nobody sends it"));
-    };
+    let sender = sender_of(alloc, phrase)?;
     let mut frame = Vec::new(alloc);
-    put_frame(alloc, &mut frame, cast, phrase, sender)?;
+    put_frame(alloc, &mut frame, cast, phrase, &sender)?;
     Ok(frame)
+}
+
+/// Whether a phrase spells the frame that these digits tell.
+fn is_spelled(alloc: Global, cast: &[Role], phrase: &str, digits: &str) -> Result<bool, Fail> {
+    let bytes = hex::decode(alloc, digits)?;
+    let frame = frame_of(alloc, cast, phrase)?;
+    Ok(frame.as_slice() == bytes.as_slice())
+}
+
+fn are_spelled(
+    rt: &impl Abort,
+    alloc: Global,
+    cast: &[Role],
+    rows: &[(&str, &str)],
+) -> Result<(), Fail> {
+    for &(phrase, digits) in rows {
+        assert!(rt; is_spelled(alloc, cast, phrase, digits)?, "{phrase}");
+    }
+    Ok(())
 }
 
 #[test]
 fn phrases_spell_frames(rt: HostRuntime) -> Result<(), Fail> {
     let cast = cast_of(rt.alloc(), CAST)?;
-    for &(phrase, wanted) in SPELLED {
-        let frame = frame_of(rt.alloc(), &cast, phrase)?;
-        let bytes = hex::decode(rt.alloc(), wanted)?;
-        assert!(rt; frame.as_slice() == bytes.as_slice(), "{phrase}");
-    }
-    Ok(())
+    are_spelled(&rt, rt.alloc(), &cast, SPELLED)
 }
 
 /// Client 2 in a cluster of one shard with f = 1, or 0, that goes through these steps, and the frame that it sends last. The

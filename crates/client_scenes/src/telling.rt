@@ -51,6 +51,10 @@ fn letter_of(decision: Decision) -> &'static str {
     }
 }
 
+pub(crate) fn push_bytes(text: &mut String, bytes: &[u8]) -> Result<(), AllocError> {
+    text.push_str(str::from_utf8(bytes).unwrap_or("no text"))
+}
+
 // ---- certificates
 
 fn tell_votes(text: &mut String, shard: u8, votes: &VotesView<'_>) -> Result<(), AllocError> {
@@ -123,8 +127,9 @@ fn tell_certificate(
 // ---- frames
 
 fn tell_read(text: &mut String, m: &ReadView<'_>) -> Result<(), AllocError> {
-    let key = str::from_utf8(m.key).unwrap_or("no text");
-    write!(text, "read {key} {} {}", m.time, m.client)
+    text.push_str("read ")?;
+    push_bytes(text, m.key)?;
+    write!(text, " {} {}", m.time, m.client)
 }
 
 fn tell_second(text: &mut String, reader: &Reader<'_>, m: &St2View<'_>) -> Result<(), AllocError> {
@@ -178,7 +183,7 @@ fn tell_message(
 }
 
 /// The leaf that made an LMS signature.
-fn leaf_of(signature: &[u8]) -> u8 {
+pub(crate) fn leaf_of(signature: &[u8]) -> u8 {
     signature.get(3).copied().unwrap_or(0)
 }
 

@@ -12,6 +12,7 @@ use basil_types::bytes::{Bytes, id_of};
 use basil_types::cluster::Cluster;
 use basil_types::list::List;
 use basil_types::transaction::Transaction;
+use basil_types::transaction::parts::WritePart;
 use std::alloc::Global;
 use std::test::Fail;
 
@@ -51,9 +52,24 @@ fn count(all: Signatures<'_>) -> usize {
     count
 }
 
+/// A transaction of 12 bytes, or with a write of so many bytes to a key of one.
+fn transaction(alloc: Global, written: Option<usize>) -> Result<Transaction, Fail> {
+    let mut writes = Vec::new(alloc);
+    if let Some(size) = written {
+        let key = Bytes::copy_of(alloc, b"a")?;
+        let value = Bytes::from_vec(vec![in alloc; 7u8; size]?);
+        writes.push(WritePart {
+            key,
+            value,
+            deletes: false,
+        })?;
+    }
+    Ok(Transaction::build(alloc, 10, 1, &[], &writes)?)
+}
+
 /// The writeback of a fast commit with votes of all replicas of eight shards with f = 6.
-fn full_writeback(alloc: Global, size: usize) -> Result<Message, Fail> {
-    let transaction = Transaction::build(alloc, 10, 1, &[], &[])?;
+fn full_writeback(alloc: Global, size: usize, written: Option<usize>) -> Result<Message, Fail> {
+    let transaction = transaction(alloc, written)?;
     let id = id_of(transaction.view().bytes());
     let tallies = full_tallies(alloc, size)?;
     let certificate = Certificate {
@@ -66,29 +82,49 @@ fn full_writeback(alloc: Global, size: usize) -> Result<Message, Fail> {
     }))
 }
 
-/// Its frame, with signatures of so many bytes. None where it is too long.
-fn full_frame(alloc: Global, cluster: &Cluster, size: usize) -> Result<Option<Vec<u8>>, Fail> {
-    encoded(alloc, cluster, full_writeback(alloc, size)?)
+/// The length of a frame that is read, with all 248 signatures.
+fn read_length(frame: &[u8], cluster: &Cluster) -> Result<usize, Fail> {
+    match signature_count(frame, cluster) {
+        Some(248) => Ok(frame.len()),
+        _ => Err(Fail::from("isn't read so")),
+    }
 }
 
-/// The longest commit certificate has 622,778 bytes, and stands behind a kind and a transaction of 12 bytes.
+/// The length of such a writeback's frame. None where it is too long.
+fn full_length(
+    alloc: Global,
+    cluster: &Cluster,
+    size: usize,
+    written: Option<usize>,
+) -> Result<Option<usize>, Fail> {
+    let message = full_writeback(alloc, size, written)?;
+    match encoded(alloc, cluster, message)? {
+        Some(frame) => Ok(Some(read_length(&frame, cluster)?)),
+        None => Ok(None),
+    }
+}
+
+/// The length of each signature, that of a value which the transaction writes, and the length of the frame, which has
+/// at most 1,048,576 bytes.
+const LENGTHS: &[(usize, Option<usize>, Option<usize>)] = &[
+    // The longest commit certificate, of 622,778 bytes behind a kind and a transaction of 12 bytes.
+    (2508, None, Some(622_791)),
+    // The limit, and one byte more.
+    (4224, Some(213), Some(1_048_576)),
+    (4224, Some(214), None),
+    // The longest signatures.
+    (8192, None, None),
+];
+
 #[test]
-fn longest_commit_is_written(rt: HostRuntime) -> Result<(), Fail> {
+fn frames_are_written_up_to_the_limit(rt: HostRuntime) -> Result<(), Fail> {
     may_be_written();
     below_the_limit();
     longest_transaction();
     longest_certificates();
     let cluster = Cluster::new(6, 8, 7, 100)?;
-    let frame = full_frame(rt.alloc(), &cluster, 2508)?.ok_or("too long")?;
-    assert!(rt; frame.len() == 622_791);
-    assert!(rt; signature_count(&frame, &cluster) == Some(248));
-    Ok(())
-}
-
-/// The longest signatures make a frame that is too long.
-#[test]
-fn too_long_a_frame_does_not_fit(rt: HostRuntime) -> Result<(), Fail> {
-    let cluster = Cluster::new(6, 8, 7, 100)?;
-    assert!(rt; full_frame(rt.alloc(), &cluster, 8192)?.is_none());
+    for &(size, written, length) in LENGTHS {
+        assert!(rt; full_length(rt.alloc(), &cluster, size, written)? == length);
+    }
     Ok(())
 }

@@ -50,17 +50,29 @@ fn is_told(alloc: Global, item: &SignedItem<'_>, told: &Signed) -> Result<bool, 
     )
 }
 
-/// How many signatures come in this order, up to the first that differs.
-fn told_in(alloc: Global, all: Signatures<'_>, signed: &[Signed]) -> Result<usize, Fail> {
+/// Whether the signature at a place is told so.
+fn is_told_at(
+    alloc: Global,
+    item: &SignedItem<'_>,
+    signed: &[Signed],
+    place: usize,
+) -> Result<bool, Fail> {
+    match signed.get(place) {
+        Some(told) => is_told(alloc, item, told),
+        None => Ok(false),
+    }
+}
+
+/// Whether the signatures are these, in order.
+fn are_signed(alloc: Global, all: Signatures<'_>, signed: &[Signed]) -> Result<bool, Fail> {
     let mut place = 0usize;
     for item in all {
-        let told = signed.get(place).ok_or("one more")?;
-        if !is_told(alloc, &item, told)? {
-            return Ok(place);
+        if !is_told_at(alloc, &item, signed, place)? {
+            return Ok(false);
         }
         place = place.wrapping_add(1);
     }
-    Ok(place)
+    Ok(place == signed.len())
 }
 
 /// Whether the message, owned, has this frame.
@@ -132,7 +144,7 @@ fn is_message_told(
     requires { FitsMessage (bounds_of cluster.now) (message_of message.now) }
 {
     Ok(
-        told_in(alloc, signatures(message), signed)? == signed.len()
+        are_signed(alloc, signatures(message), signed)?
             && is_owned(alloc, cluster, message, frame)?
             && is_put(alloc, cluster, message, frame)?
             && is_put_in_two(alloc, cluster, message, frame)?,
@@ -153,15 +165,24 @@ fn is_frame_told(
 }
 
 /// Whether a frame is told so, no shorter and no longer.
+fn is_whole_told(
+    alloc: Global,
+    cluster: &Cluster,
+    frame: &[u8],
+    signed: &[Signed],
+) -> Result<bool, Fail> {
+    Ok(
+        is_short_before_its_end(cluster, frame)
+            && is_trailed(alloc, cluster, frame)?
+            && is_frame_told(alloc, cluster, frame, signed)?,
+    )
+}
+
 fn is_row_told(alloc: Global, row: &Sample) -> Result<bool, Fail> {
     let [f, shards, reads, delta] = row.cluster;
     let cluster = Cluster::new(f, shards, reads, u64::from(delta))?;
     let frame = hex::decode(alloc, row.frame)?;
-    Ok(
-        is_short_before_its_end(&cluster, &frame)
-            && is_trailed(alloc, &cluster, &frame)?
-            && is_frame_told(alloc, &cluster, &frame, row.signed)?,
-    )
+    is_whole_told(alloc, &cluster, &frame, row.signed)
 }
 
 /// Whether each frame is told so.

@@ -50,18 +50,26 @@ pub(crate) fn note_but(
     Ok(())
 }
 
-/// What a watch answers that knows the words of all the frame's signatures but of those at two places.
-fn answer_but(
-    alloc: Global,
+/// A watch that knows the words of all the frame's signatures but of those at two places, a faulty party or none, and
+/// the signature that the watch tells to be forged, or none.
+#[derive(Clone, Copy)]
+struct Case<'a> {
+    unnoted: (usize, usize),
+    faulty: Option<&'a By>,
+    forged: Option<&'a Signed>,
+}
+
+/// What a new watch answers to a frame once it knows the words of all its signatures but of those at two places.
+fn answer_of(
+    watch: &mut Watch,
     cluster: &Cluster,
     faulty: &Faulty,
     m: &MessageView<'_>,
-    places: (usize, usize),
+    unnoted: (usize, usize),
 ) -> Result<(), WatchFault>
     requires { IsSpoken (message_of m.now) }
 {
-    let mut watch = Watch::new(alloc);
-    note_but(&mut watch, m, places.0, places.1)?;
+    note_but(watch, m, unnoted.0, unnoted.1)?;
     watch.see(&PlainKeys::new(cluster), faulty, m)
 }
 
@@ -95,10 +103,33 @@ fn is_answered(
 }
 
 /// A set of one party, as far as it may be faulty.
-fn only(party: Party, cluster: &Cluster) -> Faulty {
+pub(crate) fn only(party: Party, cluster: &Cluster) -> Faulty {
     let mut faulty = Faulty::new();
     let _ = faulty.add(party, cluster);
     faulty
+}
+
+/// The faulty parties of a case.
+fn faulty_of(case: &Case<'_>, cluster: &Cluster) -> Faulty {
+    match case.faulty {
+        Some(by) => only(party_of(by), cluster),
+        None => Faulty::new(),
+    }
+}
+
+/// Whether the watch of a case answers so.
+fn is_so(
+    alloc: Global,
+    cluster: &Cluster,
+    m: &MessageView<'_>,
+    case: &Case<'_>,
+) -> Result<bool, Fail>
+    requires { IsSpoken (message_of m.now) }
+{
+    let faulty = faulty_of(case, cluster);
+    let mut watch = Watch::new(alloc);
+    let answer = answer_of(&mut watch, cluster, &faulty, m, case.unnoted);
+    is_answered(alloc, &answer, case.forged)
 }
 
 /// Whether the first of two signatures whose words weren't noted is refused, and passes once its party is faulty.
@@ -112,11 +143,17 @@ fn is_refused_at(
     requires { IsSpoken (message_of m.now) }
 {
     let told = signed.get(place).ok_or("no signature")?;
-    let last = signed.len().wrapping_sub(1);
-    let both = answer_but(alloc, cluster, &Faulty::new(), m, (place, last));
-    let by_faulty = only(party_of(&told.0), cluster);
-    let passed = answer_but(alloc, cluster, &by_faulty, m, (place, place));
-    Ok(is_answered(alloc, &both, Some(told))? && is_answered(alloc, &passed, None)?)
+    let both = Case {
+        unnoted: (place, signed.len().wrapping_sub(1)),
+        faulty: None,
+        forged: Some(told),
+    };
+    let by_faulty = Case {
+        unnoted: (place, place),
+        faulty: Some(&told.0),
+        forged: None,
+    };
+    Ok(is_so(alloc, cluster, m, &both)? && is_so(alloc, cluster, m, &by_faulty)?)
 }
 
 /// Whether this is so of each of the frame's signatures, and nothing is refused where all words were noted.
@@ -133,9 +170,12 @@ fn are_refused(
             return Ok(false);
         }
     }
-    let past = signed.len();
-    let noted = answer_but(alloc, cluster, &Faulty::new(), m, (past, past));
-    is_answered(alloc, &noted, None)
+    let all_noted = Case {
+        unnoted: (signed.len(), signed.len()),
+        faulty: None,
+        forged: None,
+    };
+    is_so(alloc, cluster, m, &all_noted)
 }
 
 fn is_row_refused(alloc: Global, sample: &Sample) -> Result<bool, Fail> {
@@ -161,18 +201,22 @@ fn each_signature_is_looked_at_in_order(rt: HostRuntime) -> Result<(), Fail> {
     Ok(())
 }
 
-/// What a watch that knows of no words answers to a frame whose last byte, one of a signature, is another.
-fn answer_changed(alloc: Global, sample: &Sample) -> Result<bool, Fail> {
+/// A case of one signature, whose words weren't noted, and which isn't told to be forged.
+const NOT_TOLD: &Case<'static> = &Case {
+    unnoted: (0, 0),
+    faulty: None,
+    forged: None,
+};
+
+/// Whether a frame passes whose last byte, one of its only signature, is another.
+fn passes_changed(alloc: Global, sample: &Sample) -> Result<bool, Fail> {
     let cluster = cluster_of(sample)?;
     let mut frame = hex::decode(alloc, sample.frame)?;
     if let Some(last) = frame.last_mut() {
         *last ^= 1;
     }
     match check(&frame, &cluster) {
-        Ok(m) => {
-            let answer = answer_but(alloc, &cluster, &Faulty::new(), &m, (0, 0));
-            is_answered(alloc, &answer, None)
-        }
+        Ok(m) => is_so(alloc, &cluster, &m, NOT_TOLD),
         Err(_) => Ok(false),
     }
 }
@@ -180,6 +224,6 @@ fn answer_changed(alloc: Global, sample: &Sample) -> Result<bool, Fail> {
 /// A signature that isn't accepted shows nothing.
 #[test]
 fn a_signature_that_is_not_accepted_passes(rt: HostRuntime) -> Result<(), Fail> {
-    assert!(rt; answer_changed(rt.alloc(), &VOTE)?);
+    assert!(rt; passes_changed(rt.alloc(), &VOTE)?);
     Ok(())
 }

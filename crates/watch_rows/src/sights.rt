@@ -4,9 +4,10 @@ ghost use Rattle.frame_views.specs.Fitting.{IsSpoken};
 ghost use Rattle.frame_views.specs.Shown.{message_of};
 
 use crate::frames::{SAMPLES, Sample};
-use crate::seen::cluster_of;
+use crate::seen::{cluster_of, only};
 use basil_types::bytes::id_of;
 use basil_types::cluster::Cluster;
+use basil_types::memory::NoMemory;
 use basil_types::party::{Decision, Party};
 use frame_views::carried::pairs;
 use frame_views::frames::{MessageView, check};
@@ -17,14 +18,33 @@ use run_sight::Sight;
 use std::alloc::Global;
 use std::test::Fail;
 
-/// The decisions that the certificates in each frame prove, the outer one first, and how many transactions are committed.
-const PROVEN: &[(usize, &[Decision], usize)] = &[
+/// The place of a sample, the decisions that its certificates prove, the outer one first, and how many transactions are
+/// committed.
+struct Case {
+    sample: usize,
+    decisions: &'static [Decision],
+    committed: usize,
+}
+
+const PROVEN: &[Case] = &[
     // a vote to abort carries its rival's commit certificate
-    (0, &[Decision::Commit], 1),
+    Case {
+        sample: 0,
+        decisions: &[Decision::Commit],
+        committed: 1,
+    },
     // a conflict abort has its rival's commit certificate inside
-    (2, &[Decision::Abort, Decision::Commit], 1),
+    Case {
+        sample: 2,
+        decisions: &[Decision::Abort, Decision::Commit],
+        committed: 1,
+    },
     // a decide carries none
-    (3, &[], 0),
+    Case {
+        sample: 3,
+        decisions: &[],
+        committed: 0,
+    },
 ];
 
 /// Whether a sight tells these decisions of the pairs in a message, and none where they are not to be known.
@@ -55,28 +75,74 @@ fn commits(alloc: Global, sight: &Sight<PlainKeys>, count: usize) -> Result<bool
     Ok(sight.committed(alloc)?.len() == count)
 }
 
-/// Whether a frame whose words are noted is seen, again too, and taken back once.
-fn is_seen(
-    alloc: Global,
-    sight: &mut Sight<PlainKeys>,
-    frame: &[u8],
-    m: &MessageView<'_>,
-    row: &(usize, &[Decision], usize),
-) -> Result<bool, Fail>
+/// Notes the words of all the frame's signatures.
+fn note(sight: &mut Sight<PlainKeys>, m: &MessageView<'_>) -> Result<(), NoMemory>
     requires { IsSpoken (message_of m.now) }
 {
     for item in signatures(m) {
         sight.note_all(item.party, &[item.words])?;
     }
-    let (_, decisions, count) = row;
-    let before = tells(sight, m, decisions, false) && sight.see(frame).is_ok();
-    let seen = tells(sight, m, decisions, true) && commits(alloc, sight, *count)?;
+    Ok(())
+}
+
+/// Whether a sight that knew nothing sees a frame, and tells what it proves.
+fn is_seen(
+    alloc: Global,
+    sight: &mut Sight<PlainKeys>,
+    frame: &[u8],
+    m: &MessageView<'_>,
+    case: &Case,
+) -> Result<bool, Fail> {
+    let before = tells(sight, m, case.decisions, false);
+    let seen = sight.see(frame).is_ok();
+    Ok(
+        before
+            && seen
+            && tells(sight, m, case.decisions, true)
+            && commits(alloc, sight, case.committed)?,
+    )
+}
+
+/// Whether the frame is taken back, once.
+fn is_taken_back(
+    alloc: Global,
+    sight: &mut Sight<PlainKeys>,
+    m: &MessageView<'_>,
+    case: &Case,
+) -> Result<bool, Fail> {
     sight.undo();
     sight.undo();
-    let back = tells(sight, m, decisions, false) && commits(alloc, sight, 0)?;
+    Ok(tells(sight, m, case.decisions, false) && commits(alloc, sight, 0)?)
+}
+
+/// Whether a frame that was taken back is seen twice more, and stays when the second of these is taken back.
+fn is_seen_again(
+    sight: &mut Sight<PlainKeys>,
+    frame: &[u8],
+    m: &MessageView<'_>,
+    case: &Case,
+) -> bool {
     let again = sight.see(frame).is_ok() && sight.see(frame).is_ok();
     sight.undo();
-    Ok(before && seen && back && again && tells(sight, m, decisions, true))
+    again && tells(sight, m, case.decisions, true)
+}
+
+/// Whether a sight that knows what the frame's parties signed sees it, takes it back, and sees it again.
+fn is_proven(
+    alloc: Global,
+    sight: &mut Sight<PlainKeys>,
+    frame: &[u8],
+    m: &MessageView<'_>,
+    case: &Case,
+) -> Result<bool, Fail>
+    requires { IsSpoken (message_of m.now) }
+{
+    note(sight, m)?;
+    Ok(
+        is_seen(alloc, sight, frame, m, case)?
+            && is_taken_back(alloc, sight, m, case)?
+            && is_seen_again(sight, frame, m, case),
+    )
 }
 
 /// Whether a sight without what the frame's parties signed refuses it, and knows nothing after.
@@ -85,49 +151,104 @@ fn is_refused(
     sight: &mut Sight<PlainKeys>,
     frame: &[u8],
     m: &MessageView<'_>,
-    decisions: &[Decision],
+    case: &Case,
 ) -> Result<bool, Fail> {
-    Ok(sight.see(frame).is_err() && tells(sight, m, decisions, false) && commits(alloc, sight, 0)?)
+    Ok(
+        sight.see(frame).is_err()
+            && tells(sight, m, case.decisions, false)
+            && commits(alloc, sight, 0)?,
+    )
 }
 
 /// A sight of a run without faulty parties.
-fn sight(alloc: Global, cluster: Cluster) -> Sight<PlainKeys> {
-    Sight::new(alloc, cluster, Faulty::new(), PlainKeys::new(&cluster))
+fn new_sight(alloc: Global, cluster: &Cluster) -> Sight<PlainKeys> {
+    Sight::new(alloc, *cluster, Faulty::new(), PlainKeys::new(cluster))
 }
 
-fn is_row(alloc: Global, sample: &Sample, row: &(usize, &[Decision], usize)) -> Result<bool, Fail> {
+/// The first of these two of a new sight. It is owned here alone, and let go in one place.
+fn is_proven_anew(
+    alloc: Global,
+    cluster: &Cluster,
+    frame: &[u8],
+    m: &MessageView<'_>,
+    case: &Case,
+) -> Result<bool, Fail>
+    requires { IsSpoken (message_of m.now) }
+{
+    let mut sight = new_sight(alloc, cluster);
+    is_proven(alloc, &mut sight, frame, m, case)
+}
+
+/// The second, likewise.
+fn is_refused_anew(
+    alloc: Global,
+    cluster: &Cluster,
+    frame: &[u8],
+    m: &MessageView<'_>,
+    case: &Case,
+) -> Result<bool, Fail> {
+    let mut sight = new_sight(alloc, cluster);
+    is_refused(alloc, &mut sight, frame, m, case)
+}
+
+/// Whether a case is so before both sights.
+fn is_so(
+    alloc: Global,
+    cluster: &Cluster,
+    frame: &[u8],
+    m: &MessageView<'_>,
+    case: &Case,
+) -> Result<bool, Fail>
+    requires { IsSpoken (message_of m.now) }
+{
+    Ok(
+        is_proven_anew(alloc, cluster, frame, m, case)?
+            && is_refused_anew(alloc, cluster, frame, m, case)?,
+    )
+}
+
+fn is_row_so(alloc: Global, sample: &Sample, case: &Case) -> Result<bool, Fail> {
     let cluster = cluster_of(sample)?;
     let frame = hex::decode(alloc, sample.frame)?;
     match check(&frame, &cluster) {
-        Ok(m) => Ok(
-            is_seen(alloc, &mut sight(alloc, cluster), &frame, &m, row)?
-                && is_refused(alloc, &mut sight(alloc, cluster), &frame, &m, row.1)?,
-        ),
+        Ok(m) => is_so(alloc, &cluster, &frame, &m, case),
         Err(_) => Ok(false),
     }
 }
 
-/// A frame shows what its certificates prove, nested ones too, until it is taken back; and nothing where a signature in it
-/// was never made.
+/// A frame shows what its certificates prove, nested ones too, until it is taken back; and nothing where a signature in
+/// it was never made.
 #[test]
 fn certificates_are_seen(rt: HostRuntime) -> Result<(), Fail> {
-    for row in PROVEN {
-        assert!(rt; is_row(rt.alloc(), &SAMPLES[row.0], row)?);
+    for case in PROVEN {
+        let sample = SAMPLES.get(case.sample).ok_or("no sample")?;
+        assert!(rt; is_row_so(rt.alloc(), sample, case)?);
     }
     Ok(())
+}
+
+const FAULTY: Party = Party::Replica { shard: 0, index: 0 };
+
+const CORRECT: Party = Party::Replica { shard: 0, index: 1 };
+
+/// Whether a sight sees bytes that are no frame, knows nothing after, and tells who is faulty.
+fn shows_nothing(alloc: Global, sight: &mut Sight<PlainKeys>) -> Result<bool, Fail> {
+    Ok(
+        sight.see(&[1, 2, 3]).is_ok()
+            && sight.is_faulty(FAULTY)
+            && !sight.is_faulty(CORRECT)
+            && commits(alloc, sight, 0)?,
+    )
 }
 
 /// Bytes that are no frame show nothing, and a sight tells who is faulty.
 #[test]
 fn other_bytes_show_nothing(rt: HostRuntime) -> Result<(), Fail> {
     let cluster = Cluster::new(1, 1, 2, 100)?;
-    let mut faulty = Faulty::new();
-    let first = Party::Replica { shard: 0, index: 0 };
-    assert!(rt; faulty.add(first, &cluster));
+    let faulty = only(FAULTY, &cluster);
     let mut sight = Sight::new(rt.alloc(), cluster, faulty, PlainKeys::new(&cluster));
-    assert!(rt; sight.see(&[1, 2, 3]).is_ok());
-    assert!(rt; sight.is_faulty(first));
-    assert!(rt; !sight.is_faulty(Party::Replica { shard: 0, index: 1 }));
-    assert!(rt; commits(rt.alloc(), &sight, 0)?);
+    let nothing = shows_nothing(rt.alloc(), &mut sight);
+    drop(sight);
+    assert!(rt; nothing?);
     Ok(())
 }

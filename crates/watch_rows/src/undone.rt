@@ -17,9 +17,9 @@ use std::test::Fail;
 fn is_seen_again(watch: &mut Watch, cluster: &Cluster, m: &MessageView<'_>) -> Result<bool, Fail>
     requires { IsSpoken (message_of m.now) }
 {
+    note_but(watch, m, usize::MAX, usize::MAX)?;
     let keys = PlainKeys::new(cluster);
     let faulty = Faulty::new();
-    note_but(watch, m, usize::MAX, usize::MAX)?;
     let twice = watch.see(&keys, &faulty, m).is_ok() && watch.see(&keys, &faulty, m).is_ok();
     watch.undo();
     watch.undo();
@@ -35,12 +35,23 @@ fn is_row_seen(alloc: Global, watch: &mut Watch, sample: &Sample) -> Result<bool
     }
 }
 
-/// One watch sees all frames, and some transactions in several of them. What was noted stays when a frame is taken back.
+/// Whether this is so of each sample, before one watch.
+fn are_seen_again(alloc: Global, watch: &mut Watch) -> Result<bool, Fail> {
+    for sample in SAMPLES {
+        if !is_row_seen(alloc, watch, sample)? {
+            return Ok(false);
+        }
+    }
+    Ok(true)
+}
+
+/// One watch sees all frames, and some transactions in several of them. What was noted stays when a frame is taken
+/// back.
 #[test]
 fn texts_are_seen_again(rt: HostRuntime) -> Result<(), Fail> {
     let mut watch = Watch::new(rt.alloc());
-    for sample in SAMPLES {
-        assert!(rt; is_row_seen(rt.alloc(), &mut watch, sample)?);
-    }
+    let seen = are_seen_again(rt.alloc(), &mut watch);
+    drop(watch);
+    assert!(rt; seen?);
     Ok(())
 }
