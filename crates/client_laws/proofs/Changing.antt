@@ -1,6 +1,8 @@
 -- What each call and each frame changes.
-use Rattle.std.proofs.Common.{◌≡◌, ℕ, ◌<◌, Bool, true, false, cond, List, [], ◌∷◌, Option, Some, None, refl, sym, ap, subst, ◌∙◌, ◌⊎◌, inl, inr}
-use Rattle.std.specs.Prelude.{Result, Ok, Err, slice_get, find, is_some, not, ◌||◌, ◌==◌, nat_lt, option_map, option_and_then, Contains, if◌then◌else◌}
+use Rattle.std.proofs.Common.{◌≡◌, ℕ, ◌<◌, Bool, true, false, cond, List, [], ◌∷◌, Option, Some, None, refl, sym, ap, subst, ◌∙◌, ◌⊎◌, inl}
+use Rattle.std.proofs.Common.{inr}
+use Rattle.std.specs.Prelude.{Result, Ok, Err, slice_get, find, is_some, not, ◌||◌, ◌==◌, nat_lt, option_map, option_and_then, Contains}
+use Rattle.std.specs.Prelude.{if◌then◌else◌}
 use Rattle.std.specs.List.{flat_map}
 use Rattle.std.specs.Ordering.{match_ordering}
 use Rattle.std.specs.declared.cmp.Ordering.{Ordering}
@@ -31,10 +33,13 @@ use Rattle.txn_meta.specs.Form.{form_fault}
 use Rattle.txn_meta.specs.Places.{involved}
 use Rattle.client_core.specs.declared.fault.CallFault.TheVariants.{BadTransaction, NotOpen, TimeNotAbove}
 use Rattle.client_core.specs.Answers.{on_message, on_read_frame}
-use Rattle.client_core.specs.Calls.{begin_done, by_slot, invoke_by, invoke_done, invoke_fault, is_written, prepare_done, prepare_fault, pursuit_done}
-use Rattle.client_core.specs.Calls.{read_at, read_done, read_fault, recover_by, recover_held, settle_by, with_recovered, write_done, write_fault}
+use Rattle.client_core.specs.Calls.{begin_done, by_slot, invoke_by, invoke_done, invoke_fault, is_written, prepare_done, prepare_fault}
+use Rattle.client_core.specs.Calls.{pursuit_done}
+use Rattle.client_core.specs.Calls.{read_at, read_done, read_fault, recover_by, recover_held, settle_by, with_recovered, write_done}
+use Rattle.client_core.specs.Calls.{write_fault}
 use Rattle.client_core.specs.Clients.{AskedRead, ClientDone, ClientSelf, ClientValue, SlotValue, quiet}
-use Rattle.client_core.specs.Frames.{HeldValue, held_at, held_at_slot, read_asked, reply_at, reply_by, reply_taken, reply_to_time, taken_by, with_reply}
+use Rattle.client_core.specs.Frames.{HeldValue, held_at, held_at_slot, read_asked, reply_at, reply_by, reply_taken, reply_to_time, taken_by}
+use Rattle.client_core.specs.Frames.{with_reply}
 use Rattle.client_core.specs.Slots.{asked, is_chosen, is_of, key_asked, put_read, put_write, slot_of_id, slot_of_time, with_slot}
 use Rattle.client_laws.specs.Steps.{Step, Begin, Read, Write, Prepare, Settle, Recover, Invoke, Frame, left_by, step}
 use Rattle.client_laws.specs.Deciding.{second_of}
@@ -182,7 +187,10 @@ module _ (me : ClientSelf) (client : ClientValue) where
         reads = put_read r x.reads;
         writes = x.writes;
         is = refl;
-        each = λ q i. elim (put_in (by_key key_asked) r x.reads q i) [ inl e ↦ New (ap (λ (y : AskedRead). y.replies) (sym e)) | inr j ↦ Was j ];
+        each = λ q i. elim (put_in (by_key key_asked) r x.reads q i) [
+          | inl e ↦ New (ap (λ (y : AskedRead). y.replies) (sym e))
+          | inr j ↦ Was j
+        ];
         calm = record { signed = refl; second = none_shard me.cluster asks _ refl };
       }
 

@@ -1,5 +1,6 @@
 -- What is signed, counted.
-use Rattle.std.proofs.Common.{◌≡◌, ℕ, zero, suc, ◌+◌, ◌≤◌, Bool, true, false, cond, List, [], ◌∷◌, ◌++◌, length, length-append, append-nil, append_assoc, Option, Some, None, refl, sym, ap, subst, ◌∙◌, inl, inr, arith}
+use Rattle.std.proofs.Common.{◌≡◌, ℕ, zero, suc, ◌+◌, ◌≤◌, Bool, true, false, cond, List, [], ◌∷◌, ◌++◌, length, length-append, append-nil}
+use Rattle.std.proofs.Common.{append_assoc, Option, Some, None, refl, sym, ap, subst, ◌∙◌, inl, inr, arith}
 use Rattle.std.specs.Prelude.{slice_get, slice_set, filter, is_some, ◌&&◌, ◌==◌}
 use Rattle.std.specs.Option.{option_map_or}
 use Rattle.std.specs.Str.{bytes_eq}
@@ -39,7 +40,8 @@ module _ {A : Type 0} (p : A → Bool) where
       let sum = ap length (filter-append p xs (x ∷ [])) ∙ length-append (filter p xs) (filter p (x ∷ [])) in
       omega (arith, one, sum)
 
-  count_set : (xs : List A) (k : ℕ) (x y : A) → slice_get xs k ≡ Some x → count (slice_set xs k y) + cond (p x) 1 0 ≡ count xs + cond (p y) 1 0
+  count_set : (xs : List A) (k : ℕ) (x y : A) → slice_get xs k ≡ Some x →
+      count (slice_set xs k y) + cond (p x) 1 0 ≡ count xs + cond (p y) 1 0
   count_set [] k x y at = absurd cc
   count_set (z ∷ zs) zero x y at =
       let old = count_cons z zs in
@@ -104,7 +106,8 @@ module _ (s : SlotValue) (p q : PursuitValue) (formed : s.pursuit ≡ Some p) (s
   own_with_same : (x : List ℕ) → own_with x (with_pursuit s q) ≡ own_with x s
   own_with_same x =
       ap (λ (t : TransactionValue). s.begun && bytes_eq x (id t)) same
-      ∙ ap (λ (o : Option PursuitValue). s.begun && option_map_or (λ (p : PursuitValue). bytes_eq x (id p.transaction)) o false) (sym formed)
+      ∙ ap (λ (o : Option PursuitValue). s.begun && option_map_or (λ (p : PursuitValue). bytes_eq x (id p.transaction)) o false)
+      (sym formed)
 
 -- each slot without a formed transaction was begun, and the words are the ids of the begun ones that are formed
 record Signed (client : ClientValue) (ws : List SignedWords) : Type 0 where
@@ -226,7 +229,7 @@ left_one : (n : ℕ) → (n == 0) ≡ false → 1 ≤ n
 left_one zero h = absurd cc
 left_one (suc n) h = omega arith
 
-spends : (me : ClientSelf) (client : ClientValue) (s : Step) (d : ClientDone) → Change me client s d →
+pub spends : (me : ClientSelf) (client : ClientValue) (s : Step) (d : ClientDone) → Change me client s d →
     Spends client d.client (length d.signed)
 spends me client s d (Keeps is calm) = spends_none client d.client d.signed (ap (λ (v : ClientValue). v.pen) is) calm.signed
 spends me client s d (Begins time above is) =

@@ -1,5 +1,6 @@
 -- What a step does to a transaction that is pursued.
-use Rattle.std.proofs.Common.{◌≡◌, ℕ, zero, suc, Bool, true, false, List, [], ◌∷◌, ◌++◌, Option, Some, None, refl, sym, ap, subst, ◌∙◌, ◌⊎◌, inl, inr}
+use Rattle.std.proofs.Common.{◌≡◌, ℕ, zero, suc, Bool, true, false, List, [], ◌∷◌, ◌++◌, Option, Some, None, refl, sym, ap, subst, ◌∙◌, ◌⊎◌}
+use Rattle.std.proofs.Common.{inl, inr}
 use Rattle.std.specs.Prelude.{slice_get, slice_set, is_some, ◌||◌, option_and_then, Contains, if◌then◌else◌}
 use Rattle.std.specs.Option.{option_map_or}
 use Rattle.std.proofs.lemmas.Bool.{cases_eq}
@@ -47,6 +48,7 @@ either_not false b h = h
 
 pub record Follows (c : Setting) (p q : PursuitValue) : Type 0 where
   pub task : q.transaction ≡ p.transaction
+  pub signature : q.signature ≡ p.signature
   pub started : p.second ≡ true → q.second ≡ true
   pub decided : (d : DecidedValue) → outcome c p ≡ Some d → outcome c q ≡ Some d
 
@@ -61,7 +63,7 @@ pub record Goes (c : Setting) (p : PursuitValue) (e : PursuitDone) : Type 0 wher
   pub seconds : Seconds p e
 
 pub follows_same : (c : Setting) (p : PursuitValue) → Follows c p p
-follows_same c p = record { task = refl; started = λ h. h; decided = λ d h. h }
+follows_same c p = record { task = refl; signature = refl; started = λ h. h; decided = λ d h. h }
 
 goes_still : (c : Setting) (p : PursuitValue) → Goes c p (still p)
 goes_still c p = record { follows = follows_same c p; seconds = λ m t i. absurd (in_none m i) }
@@ -69,7 +71,7 @@ goes_still c p = record { follows = follows_same c p; seconds = λ m t i. absurd
 module _ (c : Setting) (p : PursuitValue) where
   goes_started : (l : LogsValue) → p.second ≡ false → Goes c p (start_second c p l)
   goes_started l none = record {
-    follows = record { task = refl; started = λ h. refl; decided = λ d h. h };
+    follows = record { task = refl; signature = refl; started = λ h. refl; decided = λ d h. h };
     seconds = λ m t i h. (none, refl, same_Some _ t (ap second_of (sent_shard c _ (log_shard c p.transaction) m i) ∙ h));
   }
 
@@ -93,6 +95,7 @@ module _ (c : Setting) (p : PursuitValue) (x : TakenValue) (none : outcome c p �
       record {
         follows = record {
           task = f.task;
+          signature = f.signature;
           started = f.started;
           decided = λ d h. let impossible : None ≡ Some d = sym none ∙ h in absurd cc;
         };
@@ -180,7 +183,8 @@ held client slot p h = by (slice_get client.slots slot) refl h
     by None at h = absurd cc
     by (Some x) at h = record { x = x; at = at; formed = h }
 
-pub pursued_at : (client : ClientValue) (slot : ℕ) (x : SlotValue) → slice_get client.slots slot ≡ Some x → pursuit_in client slot ≡ x.pursuit
+pub pursued_at : (client : ClientValue) (slot : ℕ) (x : SlotValue) → slice_get client.slots slot ≡ Some x →
+    pursuit_in client slot ≡ x.pursuit
 pursued_at client slot x at = ap (λ (o : Option SlotValue). option_and_then (λ (s : SlotValue). s.pursuit) o) at
 
 -- ---- steps
@@ -225,7 +229,7 @@ module _ (me : ClientSelf) (client : ClientValue) (slot : ℕ) (p : PursuitValue
           later_in new y r.0
           (ap (slice_get new.slots) same ∙ ap (λ (l : List SlotValue). slice_get l k) is ∙ set_same client.slots k x y at) r.1 r.2
 
-  later : (s : Step) (d : ClientDone) → Change me client s d → Later me d.client slot p
+  pub later : (s : Step) (d : ClientDone) → Change me client s d → Later me d.client slot p
   later s d (Keeps is calm) = later_same d.client (ap (λ (v : ClientValue). slice_get v.slots slot) is)
   later s d (Begins time above is) = later_push d.client _ (ap (λ (x : ClientDone). x.client.slots) is)
   later s d (Edits e) = later_set d.client e.slot e.x _ e.at (ap (λ (v : ClientValue). v.slots) e.is)
@@ -236,7 +240,8 @@ module _ (me : ClientSelf) (client : ClientValue) (slot : ℕ) (p : PursuitValue
       (λ q formed. (
         e.e.pursuit,
         refl,
-        subst (λ (z : PursuitValue). Follows me.cluster z e.e.pursuit) (same_Some e.p q (sym e.formed ∙ formed)) (goes me client d e).follows,
+        subst (λ (z : PursuitValue). Follows me.cluster z e.e.pursuit) (same_Some e.p q (sym e.formed ∙ formed))
+            (goes me client d e).follows,
       ))
   later s d (Recovers t signature is calm) = later_push d.client _ (ap (λ (v : ClientValue). v.slots) is)
 

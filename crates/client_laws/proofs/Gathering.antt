@@ -1,6 +1,8 @@
 -- What the reads of a signed transaction rest on.
-use Rattle.std.proofs.Common.{◌≡◌, ℕ, ◌≤◌, Bool, true, false, cond, List, [], ◌∷◌, ◌++◌, length, append-nil, append_assoc, Option, Some, None, refl, sym, ap, subst, ◌∙◌, inl, inr}
-use Rattle.std.specs.Prelude.{Ok, slice_get, slice_set, find, is_some, not, ◌&&◌, ◌||◌, ◌==◌, nat_eq, map, option_map, Contains, if◌then◌else◌}
+use Rattle.std.proofs.Common.{◌≡◌, ℕ, ◌≤◌, Bool, true, false, cond, List, [], ◌∷◌, ◌++◌, length, append-nil, append_assoc, Option, Some}
+use Rattle.std.proofs.Common.{None, refl, sym, ap, subst, ◌∙◌, inl, inr}
+use Rattle.std.specs.Prelude.{Ok, slice_get, slice_set, find, is_some, not, ◌&&◌, ◌||◌, ◌==◌, nat_eq, map, option_map, option_and_then}
+use Rattle.std.specs.Prelude.{Contains, if◌then◌else◌}
 use Rattle.std.specs.List.{IsDistinct, AllByRecursion, list_any}
 use Rattle.std.proofs.lemmas.Bool.{leb-true}
 use Rattle.std.proofs.lemmas.List.{map-append}
@@ -10,7 +12,7 @@ use Rattle.basil_types.specs.declared.transaction.parts.ReadPart.{ReadPart}
 use Rattle.basil_types.specs.Built.{or_else}
 use Rattle.basil_types.specs.Setting.{IsSetting}
 use Rattle.basil_types.specs.Transaction.{TransactionValue, id}
-use Rattle.basil_types.specs.Words.{SignedWords, TransactionWords}
+use Rattle.basil_types.specs.Words.{SignedWords, TransactionWords, words_of}
 use Rattle.client_reads.specs.Choosing.{IsCarried}
 use Rattle.client_reads.specs.Laws.{ChoicesCarried, RepliesExactly}
 use Rattle.client_reads.specs.Replies.{reply_fault}
@@ -21,14 +23,17 @@ use Rattle.frame_views.specs.Values as values
 use Rattle.frame_views.specs.Values.{ReadReplyValue, ReadValue}
 use Rattle.node_steps.specs.Refusing.{when}
 use Rattle.client_core.specs.declared.fault.CallFault.TheVariants.{Empty, Exhausted, NotOpen, ReadPending}
-use Rattle.client_core.specs.Calls.{begun_slot, formed, pending, recovered_slot}
+use Rattle.client_core.specs.Calls.{begun_slot, formed, pending, pursued, recovered_slot}
 use Rattle.client_core.specs.Clients.{AskedRead, ClientDone, ClientSelf, ClientValue, SlotValue, empty_client}
+use Rattle.client_recover.specs.Taken.{PursuitValue}
 use Rattle.client_core.specs.Frames.{with_reply}
 use Rattle.client_core.specs.Slots.{as_read, is_chosen}
 use Rattle.client_laws.specs.Steps.{Step, Frame, client_after, signed_in, step}
 use Rattle.client_laws.specs.Reading.{AreBytes, IsHanded, IsShown, ReadsWereShown}
-use Rattle.client_laws.proofs.Changing.{Change, Keeps, Begins, Edits, Edited, Forms, Formed, Pursues, Recovers, IsReplyIn, ReadFrom, Was, New, More, changes}
-use Rattle.client_laws.proofs.Following.{first_none, push_cases, second_none, set_cases}
+use Rattle.client_laws.proofs.Changing.{Change, Keeps, Begins, Edits, Edited, Forms, Formed, Pursues, Recovers, IsReplyIn, ReadFrom, Was}
+use Rattle.client_laws.proofs.Changing.{New, More, changes}
+use Rattle.client_laws.specs.Deciding.{pursuit_in}
+use Rattle.client_laws.proofs.Following.{first_none, held, later, push_cases, second_none, set_cases, set_same}
 
 -- ---- lists
 
@@ -122,7 +127,8 @@ module _ (me : ClientSelf) (hs : List Step) (s : Step) (x : SlotValue) (old : As
         valid = λ z i. elim (Contains-append_cases old.replies (m ∷ []) z i) [
           | inl j ↦ h.valid z j
           | inr j ↦ elim (in_cases m [] z j) [
-            | inl e ↦ ap (reply_fault me.accepts me.cluster (record { key = old.key; time = x.time; client = me.number })) (sym e) ∙ reply.valid
+            | inl e ↦ ap (reply_fault me.accepts me.cluster (record { key = old.key; time = x.time; client = me.number }))
+                (sym e) ∙ reply.valid
             | inr k ↦ absurd (in_none z k)
           ]
         ];
@@ -148,9 +154,13 @@ record Rests (me : ClientSelf) (hs : List Step) (time : ℕ) (read : ReadPart) :
       reply_fault me.accepts me.cluster (record { key = read.key; time = time; client = me.number }) r ≡ None
   carried : IsCarried me.cluster (map carried_versions replies) (record { version = read.version; dependency = read.dependency })
 
-abbrev Backed : ClientSelf → List Step → List ℕ → Type 0
-Backed me hs n =
-    (t : TransactionValue) × (id t ≡ n) × ((read : ReadPart) → Contains t.reads read → Rests me hs t.time read)
+-- a slot has formed the transaction with this id, and each of its reads rests so
+record Backed (me : ClientSelf) (hs : List Step) (client : ClientValue) (n : List ℕ) : Type 0 where
+  slot : ℕ
+  pursuit : PursuitValue
+  at : pursuit_in client slot ≡ Some pursuit
+  named : id pursuit.transaction ≡ n
+  rests_on : (read : ReadPart) → Contains pursuit.transaction.reads read → Rests me hs pursuit.transaction.time read
 
 rests_more : (me : ClientSelf) (hs more : List Step) (time : ℕ) (read : ReadPart) → Rests me hs time read → Rests me (hs ++ more) time read
 rests_more me hs more time read h = record {
@@ -162,8 +172,21 @@ rests_more me hs more time read h = record {
   carried = h.carried;
 }
 
-backed_more : (me : ClientSelf) (hs more : List Step) (n : List ℕ) → Backed me hs n → Backed me (hs ++ more) n
-backed_more me hs more n b = (b.0, b.1, λ read i. rests_more me hs more b.0.time read (b.2 read i))
+-- whatever comes next
+backed_more : (me : ClientSelf) (hs : List Step) (client : ClientValue) (n : List ℕ) (s : Step) (d : ClientDone) → Change me client s d →
+    Backed me hs client n → Backed me (hs ++ s ∷ []) d.client n
+backed_more me hs client n s d c b =
+    let l = later me client b.slot b.pursuit (held client b.slot b.pursuit b.at) s d c in
+    let same : b.pursuit.transaction ≡ l.q.transaction = sym (l.follows).task in
+    record {
+      slot = b.slot;
+      pursuit = l.q;
+      at = l.at;
+      named = ap id (sym same) ∙ b.named;
+      rests_on =
+          subst (λ (t : TransactionValue). (read : ReadPart) → Contains t.reads read → Rests me (hs ++ s ∷ []) t.time read) same
+          (λ read i. rests_more me hs (s ∷ []) b.pursuit.transaction.time read (b.rests_on read i));
+    }
 
 module _ (carries : ChoicesCarried) (me : ClientSelf) (hs : List Step) (client : ClientValue) (f : SlotValue)
     (well : (r : AskedRead) → Contains f.reads r → Well me hs f.time r)
@@ -183,14 +206,16 @@ module _ (carries : ChoicesCarried) (me : ClientSelf) (hs : List Step) (client :
         carried = carries me.cluster (map carried_versions r.replies);
       })
 
-  backed : Backed me hs (id (formed me f))
-  backed = (formed me f, refl, rests)
+  backed : (new : ClientValue) (slot : ℕ) (signature : List ℕ) → pursuit_in new slot ≡ Some (pursued (formed me f) signature) →
+      Backed me hs new (id (formed me f))
+  backed new slot signature at =
+      record { slot = slot; pursuit = pursued (formed me f) signature; at = at; named = refl; rests_on = rests }
 
 -- ---- steps
 
 record Good (me : ClientSelf) (hs : List Step) (client : ClientValue) (ws : List SignedWords) : Type 0 where
   reads : (k : ℕ) (x : SlotValue) (r : AskedRead) → slice_get client.slots k ≡ Some x → Contains x.reads r → Well me hs x.time r
-  signed : (n : List ℕ) → Contains ws (TransactionWords n) → Backed me hs n
+  signed : (n : List ℕ) → Contains ws (TransactionWords n) → Backed me hs client n
 
 module _ (carries : ChoicesCarried) (me : ClientSelf) (hs : List Step) (client : ClientValue) (ws : List SignedWords)
     (h : Good me hs client ws) (s : Step) where
@@ -200,8 +225,8 @@ module _ (carries : ChoicesCarried) (me : ClientSelf) (hs : List Step) (client :
   reads_more : (k : ℕ) (x : SlotValue) (r : AskedRead) → slice_get client.slots k ≡ Some x → Contains x.reads r → Well me after x.time r
   reads_more k x r at i = well_more me hs (s ∷ []) x.time r (h.reads k x r at i)
 
-  signed_more : (n : List ℕ) → Contains ws (TransactionWords n) → Backed me after n
-  signed_more n i = backed_more me hs (s ∷ []) n (h.signed n i)
+  signed_more : (d : ClientDone) → Change me client s d → (n : List ℕ) → Contains ws (TransactionWords n) → Backed me after d.client n
+  signed_more d c n i = backed_more me hs client n s d c (h.signed n i)
 
   -- a slot changes
   reads_set : (new : ClientValue) (k : ℕ) (y : SlotValue) → new.slots ≡ slice_set client.slots k y →
@@ -223,9 +248,10 @@ module _ (carries : ChoicesCarried) (me : ClientSelf) (hs : List Step) (client :
         | inr there ↦ reads_more j z r there i
       ]
 
-  no_more : (signed : List SignedWords) → signed ≡ [] → (n : List ℕ) → Contains (ws ++ signed) (TransactionWords n) → Backed me after n
-  no_more signed none n i =
-      signed_more n (subst (λ (l : List SignedWords). Contains l (TransactionWords n)) (ap (λ l. ws ++ l) none ∙ append-nil ws) i)
+  no_more : (d : ClientDone) → Change me client s d → (signed : List SignedWords) → signed ≡ [] →
+      (n : List ℕ) → Contains (ws ++ signed) (TransactionWords n) → Backed me after d.client n
+  no_more d c signed none n i =
+      signed_more d c n (subst (λ (l : List SignedWords). Contains l (TransactionWords n)) (ap (λ l. ws ++ l) none ∙ append-nil ws) i)
 
   edit_read : (d : ClientDone) (e : Edited me client s d) (r : AskedRead) → ReadFrom me s e.x r → Well me after (e.x).time r
   edit_read d e r (Was i) = reads_more e.slot e.x r e.at i
@@ -243,15 +269,23 @@ module _ (carries : ChoicesCarried) (me : ClientSelf) (hs : List Step) (client :
       (first_none (pending me.cluster x) rest
       (second_none (when (is_some x.pursuit) NotOpen) (or_else (pending me.cluster x) rest) f.fault))) i
 
+  now_formed : (d : ClientDone) (f : Formed me client d) →
+      pursuit_in d.client f.slot
+      ≡ Some (pursued (formed me f.x) (me.signing.gives client.pen.spent (words_of (TransactionWords (id (formed me f.x))))))
+  now_formed d f =
+      ap (λ (x : ClientDone). pursuit_in x.client f.slot) f.is
+      ∙ ap (λ (o : Option SlotValue). option_and_then (λ (x : SlotValue). x.pursuit) o) (set_same client.slots f.slot f.x _ f.at)
+
   signs : (d : ClientDone) (f : Formed me client d) (n : List ℕ) →
-      Contains (ws ++ TransactionWords (id (formed me f.x)) ∷ []) (TransactionWords n) → Backed me after n
+      Contains (ws ++ TransactionWords (id (formed me f.x)) ∷ []) (TransactionWords n) → Backed me after d.client n
   signs d f n i =
       let w = TransactionWords (id (formed me f.x)) in
       elim (Contains-append_cases ws (w ∷ []) (TransactionWords n) i) [
-        | inl j ↦ signed_more n j
+        | inl j ↦ signed_more d (Forms f) n j
         | inr j ↦ elim (in_cases w [] (TransactionWords n) j) [
-          | inl e ↦ subst (Backed me after) (ap named_in e)
-              (backed carries me after client f.x (λ r k. reads_more f.slot f.x r f.at k) (all_chosen d f))
+          | inl e ↦ subst (Backed me after d.client) (ap named_in e)
+              (backed carries me after client f.x (λ r k. reads_more f.slot f.x r f.at k) (all_chosen d f)
+              d.client f.slot _ (now_formed d f))
           | inr k ↦ absurd (in_none (TransactionWords n) k)
         ]
       ]
@@ -267,15 +301,15 @@ module _ (carries : ChoicesCarried) (me : ClientSelf) (hs : List Step) (client :
   good : (d : ClientDone) → Change me client s d → Good me after d.client (ws ++ d.signed)
   good d (Keeps is calm) = record {
     reads = λ k x r at. reads_more k x r (ap (λ (v : ClientValue). slice_get v.slots k) (sym is) ∙ at);
-    signed = no_more d.signed calm.signed;
+    signed = no_more d (Keeps is calm) d.signed calm.signed;
   }
   good d (Begins time above is) = record {
     reads = reads_push d.client (begun_slot time) (ap (λ (x : ClientDone). x.client.slots) is) refl;
-    signed = no_more d.signed (ap (λ (x : ClientDone). x.signed) is);
+    signed = no_more d (Begins time above is) d.signed (ap (λ (x : ClientDone). x.signed) is);
   }
   good d (Edits e) = record {
     reads = reads_set d.client e.slot _ (ap (λ (v : ClientValue). v.slots) e.is) (λ r i. edit_read d e r (e.each r i));
-    signed = no_more d.signed (e.calm).signed;
+    signed = no_more d (Edits e) d.signed (e.calm).signed;
   }
   good d (Forms f) = record {
     reads = reads_set d.client f.slot _ (ap (λ (x : ClientDone). x.client.slots) f.is) (λ r i. reads_more f.slot f.x r f.at i);
@@ -283,11 +317,11 @@ module _ (carries : ChoicesCarried) (me : ClientSelf) (hs : List Step) (client :
   }
   good d (Pursues p) = record {
     reads = reads_set d.client p.slot _ (ap (λ (x : ClientDone). x.client.slots) p.is) (λ r i. reads_more p.slot p.x r p.at i);
-    signed = no_more d.signed (ap (λ (x : ClientDone). x.signed) p.is);
+    signed = no_more d (Pursues p) d.signed (ap (λ (x : ClientDone). x.signed) p.is);
   }
   good d (Recovers t signature is calm) = record {
     reads = reads_push d.client (recovered_slot t signature) (ap (λ (v : ClientValue). v.slots) is) refl;
-    signed = no_more d.signed calm.signed;
+    signed = no_more d (Recovers t signature is calm) d.signed calm.signed;
   }
 
 all_good : ChoicesCarried → (me : ClientSelf) (hs : List Step) (client : ClientValue) (ws : List SignedWords) (ss : List Step) →
@@ -298,7 +332,8 @@ all_good carries me hs client ws [] h =
 all_good carries me hs client ws (s ∷ ss) h =
     let d = step me client s in
     let rest = all_good carries me (hs ++ s ∷ []) d.client (ws ++ d.signed) ss (good carries me hs client ws h s d (changes me client s)) in
-    subst (λ (l : List Step). Good me l (client_after me d.client ss) (ws ++ (d.signed ++ signed_in me d.client ss))) (append_assoc hs (s ∷ []) ss)
+    subst (λ (l : List Step). Good me l (client_after me d.client ss) (ws ++ (d.signed ++ signed_in me d.client ss)))
+    (append_assoc hs (s ∷ []) ss)
     (subst (Good me ((hs ++ s ∷ []) ++ ss) (client_after me d.client ss)) (append_assoc ws d.signed (signed_in me d.client ss)) rest)
 
 -- ---- the law
@@ -328,4 +363,10 @@ reads_shown carries exactly fits me pen ss x setting bytes i =
     record { reads = λ k x r at. absurd cc; signed = λ n j. absurd (in_none (TransactionWords n) j) } in
     let all = all_good carries me [] (empty_client pen) [] ss start in
     let b = all.signed x i in
-    (b.0, b.1, λ read j. shown exactly fits me ss b.0.time read setting bytes (b.2 read j))
+    record {
+      slot = b.slot;
+      pursuit = b.pursuit;
+      formed = b.at;
+      named = b.named;
+      shown = λ read j. shown exactly fits me ss b.pursuit.transaction.time read setting bytes (b.rests_on read j);
+    }

@@ -1,6 +1,8 @@
 -- Valid frames are taken, until they decide.
-use Rattle.std.proofs.Common.{◌≡◌, ℕ, zero, suc, ◌+◌, Bool, true, false, cond, List, [], ◌∷◌, ◌++◌, append-nil, rules, Option, Some, None, refl, sym, ap, subst, ◌∙◌}
-use Rattle.std.specs.Prelude.{Result, Ok, Err, slice_get, slice_set, position, is_some, ◌||◌, map, option_map, option_and_then, if◌then◌else◌}
+use Rattle.std.proofs.Common.{◌≡◌, ℕ, zero, suc, ◌+◌, Bool, true, false, cond, List, [], ◌∷◌, ◌++◌, append-nil, rules, Option, Some, None}
+use Rattle.std.proofs.Common.{refl, sym, ap, subst, ◌∙◌}
+use Rattle.std.specs.Prelude.{Result, Ok, Err, slice_get, slice_set, position, is_some, ◌||◌, map, option_map, option_and_then}
+use Rattle.std.specs.Prelude.{if◌then◌else◌}
 use Rattle.std.specs.Option.{option_map_or}
 use Rattle.std.specs.Str.{bytes_eq}
 use Rattle.std.proofs.lemmas.List.{append_assoc}
@@ -59,7 +61,8 @@ mine named t fault x y h = by (bytes_eq named (id t)) refl h
     valid (Some e) none b h = absurd cc
 
     by : (b : Bool) → bytes_eq named (id t) ≡ b →
-        (if b then unless fault x else Err Rattle.certificates.specs.declared.fault.FrameFault.TheVariants.NotMine) ≡ Ok y → Mine named t fault x y
+        (if b then unless fault x else Err Rattle.certificates.specs.declared.fault.FrameFault.TheVariants.NotMine) ≡ Ok y →
+        Mine named t fault x y
     by true e h = valid fault refl e h
     by false e h = absurd cc
 
@@ -74,7 +77,9 @@ module _ (me : ClientSelf) (client : ClientValue) (slot : ℕ) (p : PursuitValue
   held_here named same =
       ap (λ (n : List ℕ). held_with client n) same ∙ ap (option_and_then (held_at client)) found
       ∙ ap (option_and_then (held_at_slot slot)) at
-      ∙ ap (λ (o : Option PursuitValue). option_map (λ (q : PursuitValue). let h : HeldValue = record { place = slot; slot = x; pursuit = q } in h) o) formed
+      ∙ ap
+      (λ (o : Option PursuitValue). option_map (λ (q : PursuitValue). let h : HeldValue = record { place = slot; slot = x; pursuit = q } in h) o)
+      formed
 
   took_it : (named : List ℕ) (fault : TransactionValue → Option FrameFault) (y z : TakenValue) →
       Mine named p.transaction (fault p.transaction) y z →
@@ -141,7 +146,8 @@ takes me client slot p frame z h valid =
     let new : ClientValue = with_slot client slot y in
     let named : is_named (id q.transaction) y ≡ is_named (id q.transaction) x.x =
     ap (λ (t : TransactionValue). bytes_eq (id q.transaction) (id t)) task
-    ∙ ap (λ (o : Option PursuitValue). option_map_or (λ (r : PursuitValue). bytes_eq (id q.transaction) (id r.transaction)) o false) (sym x.formed) in
+    ∙ ap (λ (o : Option PursuitValue). option_map_or (λ (r : PursuitValue). bytes_eq (id q.transaction) (id r.transaction)) o false)
+    (sym x.formed) in
     subst (λ (d : ClientDone). Stands d.client slot q) (sym done)
     (record {
       found =
@@ -162,7 +168,8 @@ module _ (c : Setting) (p : PursuitValue) (z : TakenValue) where
   by_settled (Some l) = (refl, refl)
 
   by_second : (b : Bool) →
-      Took p z (cond b (still (took p z)) (option_map_or (start_second c (took p z)) (settled c p.transaction (took p z).taken) (still (took p z))))
+      Took p z
+      (cond b (still (took p z)) (option_map_or (start_second c (took p z)) (settled c p.transaction (took p z).taken) (still (took p z))))
   by_second true = (refl, refl)
   by_second false = by_settled (settled c p.transaction (took p z).taken)
 
@@ -184,7 +191,8 @@ outcome_of : (me : ClientSelf) (client : ClientValue) (slot : ℕ) (p : PursuitV
 outcome_of me client slot p h = ap (option_and_then (outcome me.cluster)) h.at
 
 -- one frame more: what was decided stays, and otherwise it is taken
-one_more : (me : ClientSelf) (slot : ℕ) (p : PursuitValue) (z : TakenValue) (zs : List TakenValue) (last : ClientValue) (o : Option DecidedValue) →
+one_more : (me : ClientSelf) (slot : ℕ) (p : PursuitValue) (z : TakenValue) (zs : List TakenValue) (last : ClientValue)
+    (o : Option DecidedValue) →
     decided me.cluster p.transaction p.taken ≡ o →
     ((d : DecidedValue) → decided me.cluster p.transaction p.taken ≡ Some d → outcome_at me last slot ≡ Some d) →
     outcome_at me last slot
@@ -208,7 +216,8 @@ first me client slot p (frame ∷ frames) (z ∷ zs) h valid =
     let stands = takes me client slot p frame z h valid.0 in
     let task : q.transaction ≡ p.transaction = ((goes_frame me.cluster p z).follows).task in
     one_more me slot p z zs (client_after me new (map Frame frames)) (decided me.cluster p.transaction p.taken) refl
-    (λ d is. outcomes_stay me new slot d (map Frame frames) (outcome_of me new slot q stands ∙ ((goes_frame me.cluster p z).follows).decided d is))
+    (λ d is. outcomes_stay me new slot d (map Frame frames)
+    (outcome_of me new slot q stands ∙ ((goes_frame me.cluster p z).follows).decided d is))
     (first me new slot q frames zs stands (subst (λ (t : TransactionValue). AreTaken me t frames zs) (sym task) valid.1))
 
 -- ---- where all that was taken decides

@@ -1,5 +1,6 @@
 -- Times rise.
-use Rattle.std.proofs.Common.{◌≡◌, ℕ, zero, suc, ◌<◌, ◌≤◌, Bool, true, false, cond, List, [], ◌∷◌, ◌++◌, append-nil, Some, refl, sym, ap, subst, ◌∙◌, arith}
+use Rattle.std.proofs.Common.{◌≡◌, ℕ, zero, suc, ◌<◌, ◌≤◌, Bool, true, false, cond, List, [], ◌∷◌, ◌++◌, append-nil, Some, refl, sym, ap}
+use Rattle.std.proofs.Common.{subst, ◌∙◌, arith}
 use Rattle.std.specs.Prelude.{slice_get, slice_set, filter, map}
 use Rattle.std.proofs.lemmas.List.{map-append}
 use Rattle.std.proofs.lemmas.List.Elements.{filter-append}
@@ -28,7 +29,8 @@ times_cons : (s : SlotValue) (slots : List SlotValue) →
     begun_times (s ∷ slots) ≡ cond s.begun (s.time ∷ begun_times slots) (begun_times slots)
 times_cons s slots = by s.begun
   where
-    by : (b : Bool) → map (λ (s : SlotValue). s.time) (cond b (s ∷ filter (λ (s : SlotValue). s.begun) slots) (filter (λ (s : SlotValue). s.begun) slots))
+    by : (b : Bool) →
+        map (λ (s : SlotValue). s.time) (cond b (s ∷ filter (λ (s : SlotValue). s.begun) slots) (filter (λ (s : SlotValue). s.begun) slots))
         ≡ cond b (s.time ∷ begun_times slots) (begun_times slots)
     by true = refl
     by false = refl
@@ -38,7 +40,8 @@ times_push slots s =
     ap (map (λ (s : SlotValue). s.time)) (filter-append (λ (s : SlotValue). s.begun) slots (s ∷ []))
     ∙ map-append (λ (s : SlotValue). s.time) (filter (λ (s : SlotValue). s.begun) slots) (filter (λ (s : SlotValue). s.begun) (s ∷ []))
 
-times_head : (x y : SlotValue) (slots : List SlotValue) → y.begun ≡ x.begun → y.time ≡ x.time → begun_times (y ∷ slots) ≡ begun_times (x ∷ slots)
+times_head : (x y : SlotValue) (slots : List SlotValue) → y.begun ≡ x.begun → y.time ≡ x.time →
+    begun_times (y ∷ slots) ≡ begun_times (x ∷ slots)
 times_head x y slots begun time =
     times_cons y slots ∙ ap (λ b. cond b (y.time ∷ begun_times slots) (begun_times slots)) begun
     ∙ ap (λ t. cond x.begun (t ∷ begun_times slots) (begun_times slots)) time ∙ sym (times_cons x slots)
@@ -66,7 +69,8 @@ module _ (me : ClientSelf) (client : ClientValue) (s : Step) (d : ClientDone) (h
   by_change (Keeps is calm) = subst AreRising (sym is) h
   by_change (Begins time above is) =
       subst (λ (x : ClientDone). AreRising x.client) (sym is)
-      (subst (RiseTo 0 time) (sym (times_push client.slots (begun_slot time))) (one_more 0 client.last time (begun_times client.slots) above h))
+      (subst (RiseTo 0 time) (sym (times_push client.slots (begun_slot time)))
+      (one_more 0 client.last time (begun_times client.slots) above h))
   by_change (Edits e) = subst AreRising (sym e.is) (slot_set e.slot e.x _ e.at refl refl)
   by_change (Forms f) = subst (λ (x : ClientDone). AreRising x.client) (sym f.is) (slot_set f.slot f.x _ f.at refl refl)
   by_change (Pursues p) = subst (λ (x : ClientDone). AreRising x.client) (sym p.is) (slot_set p.slot p.x _ p.at refl refl)

@@ -1,5 +1,6 @@
 -- A second stage starts once.
-use Rattle.std.proofs.Common.{◌≡◌, ℕ, ◌≤◌, Bool, true, false, cond, List, [], ◌∷◌, Option, Some, None, refl, sym, ap, subst, ◌∙◌, inl, inr, arith}
+use Rattle.std.proofs.Common.{◌≡◌, ℕ, ◌≤◌, Bool, true, false, cond, List, [], ◌∷◌, Option, Some, None, refl, sym, ap, subst, ◌∙◌, inl, inr}
+use Rattle.std.proofs.Common.{arith}
 use Rattle.std.specs.Prelude.{slice_get, not, ◌&&◌, option_map, Contains}
 use Rattle.std.specs.Option.{option_map_or}
 use Rattle.std.proofs.lemmas.Bool.{cases_Bool}
@@ -69,7 +70,8 @@ calm_sends : (d : ClientDone) (e : EnvelopeValue) (t : TransactionValue) (A : Ty
     second_of e.message ≡ Some t → A
 calm_sends d e t A calm i h = let none : None ≡ Some t = sym (calm.second e i) ∙ h in absurd cc
 
-started_in : (client : ClientValue) (slot : ℕ) (x : SlotValue) (p : PursuitValue) → slice_get client.slots slot ≡ Some x → x.pursuit ≡ Some p →
+started_in : (client : ClientValue) (slot : ℕ) (x : SlotValue) (p : PursuitValue) → slice_get client.slots slot ≡ Some x →
+    x.pursuit ≡ Some p →
     has_started client slot ≡ p.second
 started_in client slot x p at formed =
     ap (λ (o : Option PursuitValue). option_map_or (λ (p : PursuitValue). p.second) o false) (pursued_at client slot x at ∙ formed)
@@ -90,7 +92,8 @@ pursues me client d p e t i h =
       ap (option_map (λ (q : PursuitValue). q.transaction)) (pursued_at d.client p.slot y at) ∙ ap Some sent.2,
     )
 
-sends : (me : ClientSelf) (client : ClientValue) (s : Step) (d : ClientDone) → Change me client s d → (e : EnvelopeValue) (t : TransactionValue) →
+sends : (me : ClientSelf) (client : ClientValue) (s : Step) (d : ClientDone) → Change me client s d →
+    (e : EnvelopeValue) (t : TransactionValue) →
     Contains d.sent e → second_of e.message ≡ Some t → StartsFor t client d.client
 sends me client s d (Keeps is calm) e t i h = calm_sends d e t _ calm i h
 sends me client s d (Begins time above is) e t i h = absurd (in_none e (subst (λ (x : ClientDone). Contains x.sent e) is i))

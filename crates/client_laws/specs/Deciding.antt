@@ -1,5 +1,7 @@
 -- What a client decides, and when it starts a second stage.
-use Rattle.std.specs.Prelude.{◌≡◌, ◌+◌, ◌≤◌, ◌++◌, ⊤, ℕ, List, [], ◌∷◌, Bool, true, false, not, ◌&&◌, Option, Some, None, option_map, option_and_then, Result, Ok, Err, is_some, map, slice_get, Contains, if◌then◌else◌}
+use Rattle.std.specs.Prelude.{◌≡◌, ◌+◌, ◌≤◌, ◌++◌, ⊤, ℕ, List, [], ◌∷◌, Bool, true, false, not, ◌&&◌, Option, Some}
+use Rattle.std.specs.Prelude.{None, option_map, option_and_then, Result, Ok, Err, is_some, map, slice_get, Contains}
+use Rattle.std.specs.Prelude.{if◌then◌else◌}
 use Rattle.std.specs.Option.{option_map_or}
 use Rattle.basil_types.specs.Built.{or_else}
 use Rattle.basil_types.specs.Setting.{Setting}
@@ -9,7 +11,8 @@ use Rattle.certificates.specs.declared.fault.FrameFault.TheVariants.{BadFrame}
 use Rattle.frame_views.specs.declared.fault.BadFrame as faults
 use Rattle.frame_views.specs.Fitting.{bounds_of}
 use Rattle.frame_views.specs.Frames.{frame_in}
-use Rattle.frame_views.specs.Values.{MessageValue, Read, ReadReply, St1, Vote, St2, LogReply, Writeback, Recover, Invoke, Elect, Decide}
+use Rattle.frame_views.specs.Values.{MessageValue, Read, ReadReply, St1, Vote, St2, LogReply, Writeback, Recover}
+use Rattle.frame_views.specs.Values.{Invoke, Elect, Decide}
 use Rattle.node_steps.specs.Envelopes.{EnvelopeValue}
 use Rattle.client_recover.specs.Certifying.{decided}
 use Rattle.client_recover.specs.Pursuits.{outcome}

@@ -1,11 +1,11 @@
 -- What the reads of a transaction that a client signs are taken from.
-use Rattle.std.specs.Prelude.{◌≡◌, ◌≤◌, ℕ, List, Ok, map, length, Contains}
+use Rattle.std.specs.Prelude.{◌≡◌, ◌≤◌, ℕ, List, Some, Ok, map, length, Contains}
 use Rattle.std.specs.List.{IsDistinct}
 use Rattle.std.specs.Prelude.{nat_eq}
 use Rattle.basil_types.specs.declared.transaction.parts.ReadPart.{ReadPart}
 use Rattle.basil_types.specs.Setting.{IsSetting}
 use Rattle.basil_types.specs.Texts.{IsBytes}
-use Rattle.basil_types.specs.Transaction.{TransactionValue, id}
+use Rattle.basil_types.specs.Transaction.{id}
 use Rattle.basil_types.specs.Words.{TransactionWords}
 use Rattle.client_reads.specs.Choosing.{IsCarried}
 use Rattle.client_reads.specs.Replies.{IsValidReply}
@@ -14,8 +14,10 @@ use Rattle.frame_views.specs.Fitting.{bounds_of}
 use Rattle.frame_views.specs.Frames.{frame_in}
 use Rattle.frame_views.specs.Values.{ReadReplyValue, ReadReply}
 use Rattle.node_steps.specs.Pens.{PenValue}
-use Rattle.client_core.specs.Clients.{ClientSelf, empty_client}
-use Rattle.client_laws.specs.Steps.{Step, Frame, signed_in}
+use Rattle.client_recover.specs.Taken.{PursuitValue}
+use Rattle.client_core.specs.Clients.{ClientSelf, ClientValue, empty_client}
+use Rattle.client_laws.specs.Deciding.{pursuit_in}
+use Rattle.client_laws.specs.Steps.{Step, Frame, client_after, signed_in}
 
 -- a frame with this read reply was handed to the client
 abbrev pub IsHanded : ClientSelf → List Step → ReadReplyValue → Type 0
@@ -40,10 +42,18 @@ pub record IsShown (me : ClientSelf) (steps : List Step) (time : ℕ) (read : Re
 abbrev pub AreBytes : List Step → Type 0
 AreBytes steps = (frame : List ℕ) → Contains steps (Frame frame) → IsBytes frame
 
--- the id that is signed is that of a transaction of which each read was shown
+-- the transaction that a slot has formed has this id, and each of its reads was shown
+pub record IsOfShown (me : ClientSelf) (steps : List Step) (client : ClientValue) (x : List ℕ) : Type 0 where
+  pub slot : ℕ
+  pub pursuit : PursuitValue
+  pub formed : pursuit_in client slot ≡ Some pursuit
+  pub named : id pursuit.transaction ≡ x
+  pub shown : (read : ReadPart) → Contains pursuit.transaction.reads read →
+      IsShown me steps pursuit.transaction.time read
+
+-- each id that is signed is that of such a transaction
 abbrev pub ReadsWereShown : Type 0
 ReadsWereShown =
     (me : ClientSelf) (pen : PenValue) (steps : List Step) (x : List ℕ) → IsSetting me.cluster → AreBytes steps →
     Contains (signed_in me (empty_client pen) steps) (TransactionWords x) →
-    (t : TransactionValue) × (id t ≡ x)
-    × ((read : ReadPart) → Contains t.reads read → IsShown me steps t.time read)
+    IsOfShown me steps (client_after me (empty_client pen) steps) x

@@ -1,10 +1,14 @@
 -- What a client signs: the id of each transaction that it began and formed, once.
-use Rattle.std.specs.Prelude.{◌≡◌, ◌+◌, ℕ, Bool, false, ◌&&◌, List, filter, is_some, length}
+use Rattle.std.specs.Prelude.{◌≡◌, ◌+◌, ℕ, Bool, false, ◌&&◌, List, Some, filter, is_some, length, slice_get}
 use Rattle.std.specs.Str.{bytes_eq}
-use Rattle.basil_types.specs.Words.{SignedWords, TransactionWords, VoteWords, ReadReplyWords, LogReplyWords, ElectionWords, ProposalWords}
+use Rattle.basil_types.specs.Transaction.{id}
+use Rattle.basil_types.specs.Words.{SignedWords, TransactionWords, VoteWords, ReadReplyWords, LogReplyWords}
+use Rattle.basil_types.specs.Words.{ElectionWords, ProposalWords, words_of}
+use Rattle.client_recover.specs.Taken.{PursuitValue}
 use Rattle.node_steps.specs.Pens.{PenValue}
 use Rattle.client_core.specs.Clients.{ClientSelf, ClientValue, SlotValue, empty_client}
 use Rattle.client_core.specs.Slots.{is_named}
+use Rattle.client_laws.specs.Deciding.{pursuit_in}
 use Rattle.client_laws.specs.Steps.{Step, client_after, signed_in}
 
 -- ---- places of the pen
@@ -18,6 +22,22 @@ abbrev pub PlacesNeverRepeat : Type 0
 PlacesNeverRepeat =
     (me : ClientSelf) (client : ClientValue) (steps : List Step) →
     Spends client (client_after me client steps) (length (signed_in me client steps))
+
+-- the transaction that a slot has formed has this id, and the signature that the pen gives of it at this place
+pub record IsSignedAt (me : ClientSelf) (client : ClientValue) (place : ℕ) (x : List ℕ) : Type 0 where
+  pub slot : ℕ
+  pub pursuit : PursuitValue
+  pub formed : pursuit_in client slot ≡ Some pursuit
+  pub named : id pursuit.transaction ≡ x
+  pub given : pursuit.signature ≡ me.signing.gives place (words_of (TransactionWords x))
+
+-- what is signed in turn are such ids, each at a place of its own: the n-th at the n-th place, from the pen's first on
+abbrev pub WordsTakePlaces : Type 0
+WordsTakePlaces =
+    (me : ClientSelf) (pen : PenValue) (steps : List Step) (n : ℕ) (words : SignedWords) →
+    slice_get (signed_in me (empty_client pen) steps) n ≡ Some words →
+    (x : List ℕ) × (words ≡ TransactionWords x)
+    × IsSignedAt me (client_after me (empty_client pen) steps) (pen.spent + n) x
 
 -- ---- ids
 

@@ -5,7 +5,8 @@ use Rattle.basil_types.specs.Transaction.{TransactionValue}
 use Rattle.basil_types.specs.Words.{SignedWords}
 use Rattle.node_steps.specs.Pens.{PenValue}
 use Rattle.client_core.specs.Answers.{on_frame}
-use Rattle.client_core.specs.Calls.{call_begin, call_read, call_write, call_prepare, call_settle, call_recover, call_invoke}
+use Rattle.client_core.specs.Calls.{call_begin, call_read, call_write, call_prepare, call_settle, call_recover}
+use Rattle.client_core.specs.Calls.{call_invoke}
 use Rattle.client_core.specs.Clients.{ClientSelf, ClientValue, ClientDone, SlotValue, empty_client, quiet}
 
 -- what a client is asked, or handed; a write may delete

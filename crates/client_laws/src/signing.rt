@@ -1,6 +1,6 @@
 //! What a client begins and signs.
 
-ghost use Rattle.client_laws.specs.Signing.{PlacesNeverRepeat, SignedOncePerSlot};
+ghost use Rattle.client_laws.specs.Signing.{PlacesNeverRepeat, SignedOncePerSlot, WordsTakePlaces};
 ghost use Rattle.client_laws.specs.Steps.{TimesRise};
 
 /// The times of the transactions that a client begins strictly rise.
@@ -13,7 +13,13 @@ pub fn signed_once_per_slot()
     ensures { SignedOncePerSlot }
 {}
 
-/// Each word that is signed takes a place of the pen of its own.
+/// As many places of the pen are taken as words are signed.
 pub fn places_never_repeat()
     ensures { PlacesNeverRepeat }
+{}
+
+/// What a client signs in turn takes the places of its pen in turn, each one once: the n-th signature, which a formed
+/// transaction carries, is what the pen gives at the n-th place from its first on.
+pub fn words_take_places()
+    ensures { WordsTakePlaces }
 {}
