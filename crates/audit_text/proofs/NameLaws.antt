@@ -8,7 +8,7 @@ use Rattle.basil_types.proofs.Walks.{drop_here, drop_past, drop_short}
 use Rattle.basil_types.specs.Version.{genesis, same_version}
 use Rattle.basil_types.specs.declared.version.Version.{Version}
 use Rattle.audit_text.specs.Findings.{name_word, version_word}
-use Rattle.audit_text.specs.Listing.{Names, version_named}
+use Rattle.audit_text.specs.Listing.{version_named}
 use Rattle.audit_text.specs.Parts.{names_in}
 
 module _ {A : Type 0} where

@@ -10,6 +10,8 @@ use Rattle.schedule_text.specs.Reading.{is_skipped}
 use Rattle.schedule_text.specs.Words.{Word, words, two_of, three_of}
 use Rattle.schedule_text.specs.declared.complaint.Complaint.{Complaint}
 use Rattle.schedule_text.specs.declared.complaint.Complaint.TheVariants.{Misspelt, OutOfSize}
+use Rattle.schedule_text.specs.declared.reason.Reason.{Reason}
+use Rattle.schedule_text.specs.declared.reason.Reason.TheVariants as reasons
 
 -- `tx NAME TIME C`
 unfoldable pub tx : List Word → Result AuditLine Complaint
@@ -49,14 +51,14 @@ abbrev pub numbered : ℕ → Result AuditLine Complaint → Result AuditLine Co
 numbered number (Ok line) = if nat_le number most_lines then Ok line else Err OutOfSize
 numbered number (Err c) = Err c
 
-abbrev pub reasoned : Result AuditLine Complaint → Result AuditLine ℕ
+abbrev pub reasoned : Result AuditLine Complaint → Result AuditLine Reason
 reasoned (Ok line) = Ok line
 reasoned (Err c) = Err (reason_of c)
 
--- a number stands for the reason why a line is refused: one above 2,200,000 bytes is 8 before all else
-unfoldable pub line_at : List ℕ → ℕ → Result AuditLine ℕ
+-- a line above 2,200,000 bytes is reason 8 before all else
+unfoldable pub line_at : List ℕ → ℕ → Result AuditLine Reason
 line_at line number =
-    if nat_lt longest_line (length line) then Err 8 else reasoned (numbered number (line_value line))
+    if nat_lt longest_line (length line) then Err reasons.OutOfSize else reasoned (numbered number (line_value line))
 
 abbrev pub begins_with_tx : List Word → Bool
 begins_with_tx [] = false

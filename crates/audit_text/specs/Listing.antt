@@ -1,5 +1,5 @@
 -- The transactions that the lines of an audit's input list.
-use Rattle.std.specs.Prelude.{ℕ, ◌+◌, List, [], ◌∷◌, ◌++◌, Bool, true, false, Option, Some, None, option_map, Result, Ok, Err, if◌then◌else◌}
+use Rattle.std.specs.Prelude.{ℕ, ◌+◌, List, [], ◌∷◌, ◌++◌, Option, Some, None, option_map, Result, Ok, Err, if◌then◌else◌}
 use Rattle.indexmap.specs.IndexMap.{insert_entry}
 use Rattle.std.specs.Map.{lookup}
 use Rattle.std.specs.Str.{bytes_eq}
@@ -11,6 +11,8 @@ use Rattle.basil_types.specs.Transaction.{TransactionValue, version_of}
 use Rattle.basil_types.specs.Version.{genesis}
 use Rattle.basil_types.specs.declared.version.Version.{Version}
 use Rattle.schedule_text.specs.TextLines.{lines_of}
+use Rattle.schedule_text.specs.declared.reason.Reason.{Reason}
+use Rattle.schedule_text.specs.declared.reason.Reason.TheVariants.{WrongName, RefusedCall}
 
 -- names, each with the version of its transaction, in the order of the `tx` lines
 abbrev pub Names : Type 0
@@ -28,11 +30,11 @@ pub record ListingValue : Type 0 where
 abbrev pub nothing : ListingValue
 nothing = record { names = []; list = []; draft = None }
 
--- ---- one line's value; a number stands for the reason why it is refused
+-- ---- one line's value
 
 -- a name that is begun twice is reason 4
-abbrev pub begun : ListingValue → DraftValue → Option Version → Result ListingValue ℕ
-begun st o (Some v) = Err 4
+abbrev pub begun : ListingValue → DraftValue → Option Version → Result ListingValue Reason
+begun st o (Some v) = Err WrongName
 begun st o None = Ok (record st { draft = Some o })
 
 -- the transaction whose lines are read, where it has this name
@@ -51,11 +53,11 @@ with_read key (Some o) None = None
 with_read key None v = None
 
 -- a line of another transaction, or a read of one that isn't an earlier one, is reason 4
-abbrev pub changed : ListingValue → Option DraftValue → Result ListingValue ℕ
+abbrev pub changed : ListingValue → Option DraftValue → Result ListingValue Reason
 changed st (Some o) = Ok (record st { draft = Some o })
-changed st None = Err 4
+changed st None = Err WrongName
 
-abbrev pub line_step : ListingValue → (number : ℕ) → AuditLine → Result ListingValue ℕ
+abbrev pub line_step : ListingValue → (number : ℕ) → AuditLine → Result ListingValue Reason
 line_step st number Skipped = Ok st
 line_step st number (Tx name time client) = begun st (begun_at number name time client) (version_named st.names name)
 line_step st number (Read name key writer) =
@@ -68,9 +70,9 @@ line_step st number (Delete name key) = changed st (option_map (add_write key No
 -- the first line that is refused, and its reason
 pub record Refusal : Type 0 where
   pub line : ℕ
-  pub reason : ℕ
+  pub reason : Reason
 
-abbrev pub at_line : ℕ → Result ListingValue ℕ → Result ListingValue Refusal
+abbrev pub at_line : ℕ → Result ListingValue Reason → Result ListingValue Refusal
 at_line number (Ok st) = Ok st
 at_line number (Err reason) = Err (record { line = number; reason = reason })
 
@@ -78,7 +80,7 @@ at_line number (Err reason) = Err (record { line = number; reason = reason })
 abbrev pub listed_as : ListingValue → DraftValue → Option TransactionValue → Result ListingValue Refusal
 listed_as st o (Some t) =
     Ok (record { names = insert_entry bytes_eq st.names o.name (version_of t); list = st.list ++ t ∷ []; draft = None })
-listed_as st o None = Err (record { line = o.line; reason = 9 })
+listed_as st o None = Err (record { line = o.line; reason = RefusedCall })
 
 -- a transaction that can't stand is reason 9 at its `tx` line, once its lines have ended
 abbrev pub closed_with : ListingValue → Option DraftValue → Result ListingValue Refusal
@@ -92,7 +94,7 @@ abbrev pub go_on : Result ListingValue Refusal → (ListingValue → Result List
 go_on (Ok st) others = others st
 go_on (Err refusal) others = Err refusal
 
-abbrev pub step_said : ListingValue → (number : ℕ) → Result AuditLine ℕ → Result ListingValue ℕ
+abbrev pub step_said : ListingValue → (number : ℕ) → Result AuditLine Reason → Result ListingValue Reason
 step_said st number (Ok line) = line_step st number line
 step_said st number (Err reason) = Err reason
 

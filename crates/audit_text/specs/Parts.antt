@@ -7,9 +7,10 @@ use Rattle.audit_text.specs.declared.stop.Failure.{Failure}
 use Rattle.audit_text.specs.declared.stop.Failure.TheVariants as failure
 use Rattle.audit_text.specs.declared.line.AuditLine.{AuditLine}
 use Rattle.basil_types.specs.declared.version.Version.{Version}
+use Rattle.schedule_text.specs.declared.reason.Reason.{Reason}
 
 -- what a line's value did, where this is what it should do
-abbrev pub Did : Result (Unit {0}) Stop → ListingValue → Result ListingValue ℕ → Type 0
+abbrev pub Did : Result (Unit {0}) Stop → ListingValue → Result ListingValue Reason → Type 0
 Did (Ok _) new should = should ≡ Ok new
 Did (Err (stop.Refused reason)) new should = should ≡ Err reason
 Did (Err stop.NoMemory) new should = ⊤
@@ -27,7 +28,7 @@ Lists (Err (failure.Refused line reason)) should = should ≡ Err (record { line
 Lists (Err failure.NoMemory) should = ⊤
 
 -- what was read of a line
-abbrev pub Reads : Result AuditLine Stop → Result AuditLine ℕ → Type 0
+abbrev pub Reads : Result AuditLine Stop → Result AuditLine Reason → Type 0
 Reads (Ok line) should = should ≡ Ok line
 Reads (Err (stop.Refused reason)) should = should ≡ Err reason
 Reads (Err stop.NoMemory) should = ⊤

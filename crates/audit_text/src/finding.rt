@@ -11,6 +11,7 @@ use crate::stop::Failure;
 use basil_types::bytes::Bytes;
 use basil_types::memory::NoMemory;
 use basil_types::version::Version;
+use schedule_text::reason::Reason;
 use schedule_text::writing::spell_key;
 use serial_audit::audit::{Verdict, audit};
 use std::alloc::Global;
@@ -19,7 +20,7 @@ use std::alloc::Global;
 #[derive(Debug, Drop)]
 pub enum Finding {
     /// The first line that is refused, from 1, and why.
-    BadLine { line: u64, reason: u8 },
+    BadLine { line: u64, reason: Reason },
     /// Each read is of the version that the serial order gives it.
     Serial,
     /// The line that tells the first read that isn't: `stray NAME KEY FOUND EXPECTED`, and a newline.

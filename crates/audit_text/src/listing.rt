@@ -18,6 +18,7 @@ use basil_types::memory::NoMemory;
 use basil_types::transaction::Transaction;
 use basil_types::version::Version;
 use schedule_text::lines::next_line;
+use schedule_text::reason::Reason;
 use std::alloc::Global;
 use std::marker::Model;
 use txn_meta::form::version_of;
@@ -62,7 +63,9 @@ impl Listing {
         ensures { Did result self.new (line_step self.old number (AuditLine.Tx name.now time client)) }
     {
         if self.names.version_named(name.as_slice()).is_some() {
-            return Err(Stop::Refused { reason: 4 });
+            return Err(Stop::Refused {
+                reason: Reason::WrongName,
+            });
         }
         let name = Bytes::copy_of(alloc, name.as_slice())?;
         self.draft = Some(Draft::new(alloc, number, name, time, client));
@@ -91,17 +94,23 @@ impl Listing {
         ensures { Did result self.new (line_step self.old number (AuditLine.Read name.now key.now writer.now)) }
     {
         let Some(version) = self.version_of_writer(writer) else {
-            return Err(Stop::Refused { reason: 4 });
+            return Err(Stop::Refused {
+                reason: Reason::WrongName,
+            });
         };
         match &mut self.draft {
             Some(draft) => {
                 if name.as_slice() != draft.name.as_slice() {
-                    return Err(Stop::Refused { reason: 4 });
+                    return Err(Stop::Refused {
+                        reason: Reason::WrongName,
+                    });
                 }
                 draft.add_read(alloc, key.as_slice(), version)?;
                 Ok(())
             }
-            None => Err(Stop::Refused { reason: 4 }),
+            None => Err(Stop::Refused {
+                reason: Reason::WrongName,
+            }),
         }
     }
 
@@ -119,12 +128,16 @@ impl Listing {
         match &mut self.draft {
             Some(draft) => {
                 if name.as_slice() != draft.name.as_slice() {
-                    return Err(Stop::Refused { reason: 4 });
+                    return Err(Stop::Refused {
+                        reason: Reason::WrongName,
+                    });
                 }
                 draft.add_write(alloc, key.as_slice(), value)?;
                 Ok(())
             }
-            None => Err(Stop::Refused { reason: 4 }),
+            None => Err(Stop::Refused {
+                reason: Reason::WrongName,
+            }),
         }
     }
 
@@ -162,7 +175,10 @@ impl Listing {
         let line = draft.line;
         let (name, ended) = draft.end(alloc)?;
         let Some(t) = ended else {
-            return Err(Failure::Refused { line, reason: 9 });
+            return Err(Failure::Refused {
+                line,
+                reason: Reason::RefusedCall,
+            });
         };
         self.names
             .add(alloc, name.as_slice(), version_of(t.view()))?;

@@ -1,13 +1,14 @@
 //! Why a text isn't read further.
 
 use basil_types::memory::NoMemory;
+use schedule_text::reason::Reason;
 use std::alloc::AllocFailed;
 
 /// Why a line isn't taken.
 #[derive(Clone, Copy)]
 pub(crate) enum Stop {
     /// It is refused, for this reason.
-    Refused { reason: u8 },
+    Refused { reason: Reason },
     /// Memory is wanting.
     NoMemory,
 }
@@ -16,7 +17,7 @@ pub(crate) enum Stop {
 #[derive(Clone, Copy)]
 pub(crate) enum Failure {
     /// The line of this number is refused, for this reason.
-    Refused { line: u64, reason: u8 },
+    Refused { line: u64, reason: Reason },
     /// Memory is wanting.
     NoMemory,
 }

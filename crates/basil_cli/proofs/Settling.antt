@@ -14,6 +14,8 @@ use Rattle.schedule_text.specs.Limits.{longest_line}
 use Rattle.schedule_text.specs.Reading.{is_skipped, line_at}
 use Rattle.schedule_text.specs.TextLines.{but_empty_last, lines_of}
 use Rattle.schedule_text.specs.declared.line.LineFault.TheVariants.{BadLine}
+use Rattle.schedule_text.specs.declared.reason.Reason.{Reason}
+use Rattle.schedule_text.specs.declared.reason.Reason.TheVariants.{NoHeader, OutOfSize}
 use Rattle.basil_cli.specs.Reading.{ended_lines, has_newline, is_settled, open_line, pieces_of}
 use Rattle.basil_cli.proofs.LineEnds.{begun, grown, open_whole, pieces_ended, pieces_more, pieces_whole}
 use Rattle.schedule_replay.specs.Roads.{Road}
@@ -47,17 +49,17 @@ lt-of m n e = grind (arith, common_steps)
 le-no : (m n : ℕ) → n < m → nat_le m n ≡ false
 le-no m n h = grind (arith, common_steps)
 
-too_long : (line : List ℕ) (number : ℕ) → longest_line < length line → line_at line number ≡ Err (BadLine number 8)
+too_long : (line : List ℕ) (number : ℕ) → longest_line < length line → line_at line number ≡ Err (BadLine number OutOfSize)
 unfolding line_at
 too_long line number h = rw (lt-yes longest_line (length line) h) refl
 
-later-long : (line : List ℕ) → longest_line < length line → later_reason line 8 ≡ 8
+later-long : (line : List ℕ) → longest_line < length line → later_reason line OutOfSize ≡ OutOfSize
 later-long line h = rw (le-no (length line) longest_line h) refl
 
 -- why such a line is refused: whether it is skipped shows in its first byte
 long_fault : Stage → (skipped : Bool) → ℕ → ReplayFault
-long_fault (Begins road) skipped number = BadInput number (cond skipped 8 1)
-long_fault stage skipped number = BadInput number 8
+long_fault (Begins road) skipped number = BadInput number (cond skipped OutOfSize NoHeader)
+long_fault stage skipped number = BadInput number OutOfSize
 
 step_long : (stage : Stage) (line : List ℕ) (number : ℕ) → longest_line < length line →
     stage_step stage line number ≡ Err (long_fault stage (is_skipped line) number)
@@ -65,10 +67,10 @@ unfolding long_fault
 step_long (Begins road) line number h = ap (read_line (Begins road) line number) (too_long line number h)
 step_long (Opens o faulty road) line number h =
     ap (read_line (Opens o faulty road) line number) (too_long line number h)
-    ∙ ap (λ (reason : ℕ). Err (BadInput number reason)) (later-long line h)
+    ∙ ap (λ (reason : Reason). Err (BadInput number reason)) (later-long line h)
 step_long (Runs r) line number h =
     ap (read_line (Runs r) line number) (too_long line number h)
-    ∙ ap (λ (reason : ℕ). Err (BadInput number reason)) (later-long line h)
+    ∙ ap (λ (reason : Reason). Err (BadInput number reason)) (later-long line h)
 
 -- what lines lead to where one that is too long stands behind them
 Refused : Result Stage ReplayFault → (skipped : Bool) → ℕ → Result Stage ReplayFault

@@ -1,15 +1,15 @@
 -- What holds of words that are a command, and of words that aren't, whatever links give.
-use Rattle.std.proofs.Common.{◌≡◌, ℕ, List, [], ◌++◌, Bool, false, true, Option, Some, None, Result, Ok, Err, inl, inr, refl, sym, subst}
+use Rattle.std.proofs.Common.{◌≡◌, ℕ, List, ◌++◌, Bool, false, Option, Some, None, Result, Ok, Err, inr, refl, sym, subst}
 use Rattle.std.specs.Prelude.{IfOk, IfSome}
 use Rattle.basil_types.specs.Links.{LinkState}
 use Rattle.schedule_replay.proofs.RoadLaws.{carries_as, carries_none}
 use Rattle.basil_cli.specs.Answers.{Answers, Counts, IsTold}
-use Rattle.basil_cli.specs.Commands.{reads, runs, words_carried}
+use Rattle.basil_cli.specs.Commands.{runs, words_carried}
 use Rattle.basil_cli.specs.Linked.{ByWords}
 use Rattle.basil_cli.specs.Outcome.{Outcome, Usage}
 use Rattle.basil_cli.specs.Output.{outcome_with, output_of}
 use Rattle.basil_cli.specs.Parts.{outcome_is}
-use Rattle.basil_cli.specs.Reading.{IsReadFor, IsReadThrough, StopsSoon, StopsSoonFor, is_enough}
+use Rattle.basil_cli.specs.Reading.{IsReadThrough, StopsSoon, StopsSoonFor, is_enough}
 use Rattle.basil_cli.specs.declared.command.Command.{Command}
 use Rattle.basil_cli.specs.declared.command.Command.TheVariants.{Replay, Generate, Load, Keys, Sign, Verify, Check, Audit}
 use Rattle.basil_cli.specs.declared.ending.Ending.{Ending}

@@ -1,5 +1,6 @@
 -- What a status says of the outcome, and of what was written.
 use Rattle.std.specs.Prelude.{◌≡◌, ◌⊎◌, ℕ, Bool, true, false, List, Option, Result, Ok, Err, ⊤}
+use Rattle.std.specs.Prelude.{◌++◌, ◌∷◌, codes, decimal}
 use Rattle.basil_types.specs.Causes.{Rose, TookAll, TookPrefix}
 use Rattle.premise_watch.specs.declared.broken.Broken as premise
 use Rattle.schedule_replay.specs.Laws.{IsRealBreak, IsSafeReport}
@@ -12,6 +13,7 @@ use Rattle.schedule_replay.specs.declared.fault.ReplayFault.{ReplayFault}
 use Rattle.schedule_replay.specs.declared.fault.ReplayFault.TheVariants as fault
 use Rattle.basil_cli.specs.Outcome.{Outcome, Usage, BadLine, Written, Broken, Refused, Stray, Full, TooLong, text_of, link_fault_text, read_fault_text}
 use Rattle.basil_cli.specs.Output.{load_text}
+use Rattle.schedule_text.specs.Complaints.{reason_number}
 use Rattle.basil_cli.specs.declared.command.LoadSize.{LoadSize}
 use Rattle.basil_cli.specs.declared.status.Status.{Status}
 use Rattle.basil_cli.specs.declared.status.Status.TheVariants as ends
@@ -28,6 +30,22 @@ status_number (ends.Refused reason) = 8
 status_number ends.NoMemory = 9
 status_number (ends.Full messages bytes) = 10
 status_number ends.TooLong = 12
+
+-- a status as text: the line that tells it, but for an output, a breach and a stray read, whose own text is more, and for
+-- a failed write and want of memory, of which nothing is written
+abbrev pub status_text : Status → List ℕ
+status_text ends.Done = codes "done"
+status_text ends.BadWords = codes "usage"
+status_text (ends.BadInput line reason) =
+    codes "line " ++ decimal line ++ codes " reason " ++ decimal (reason_number reason)
+status_text ends.ReadFault = codes "read fault"
+status_text ends.WriteFault = codes "write fault"
+status_text ends.LinkFault = codes "link fault"
+status_text ends.Broken = codes "broken"
+status_text (ends.Refused reason) = codes "refused " ++ decimal reason
+status_text ends.NoMemory = codes "no memory"
+status_text (ends.Full messages bytes) = codes "full " ++ decimal messages ++ 32 ∷ decimal bytes
+status_text ends.TooLong = codes "too long 16777216"
 
 -- the status of an outcome
 abbrev pub status_of : Outcome → Status

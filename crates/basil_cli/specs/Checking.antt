@@ -26,6 +26,8 @@ use Rattle.schedule_text.specs.declared.line.LineFault.{LineFault}
 use Rattle.txn_meta.specs.Form.{form_fault}
 use Rattle.txn_meta.specs.declared.form.FormFault.{FormFault}
 use Rattle.schedule_text.specs.TextLines.{lines_of}
+use Rattle.schedule_text.specs.declared.reason.Reason.{Reason}
+use Rattle.schedule_text.specs.declared.reason.Reason.TheVariants.{NoHeader, Misspelt, OutOfSize}
 use Rattle.basil_cli.specs.Outcome.{Outcome, BadLine, Written, Refused}
 use Rattle.basil_cli.specs.declared.check.Ring.{Ring}
 use Rattle.basil_cli.specs.declared.check.Ring.TheVariants as ring
@@ -68,56 +70,56 @@ proved_by A cluster t c = proved (decision_of c.body) (refusal A cluster t (deci
 unfoldable pub judged : Accepted → Setting → WritebackValue → Outcome
 judged A cluster m = judged_with (form_fault m.transaction) (proved_by A cluster m.transaction m.certificate)
 
--- ---- the lines; a number stands for the reason why a line is refused
+-- ---- the lines
 
 -- another kind of frame than a writeback is reason 2
-abbrev pub of_message : MessageValue → Result WritebackValue ℕ
-of_message (Read m) = Err 2
-of_message (ReadReply m) = Err 2
-of_message (St1 m) = Err 2
-of_message (Vote m) = Err 2
-of_message (St2 m) = Err 2
-of_message (LogReply m) = Err 2
+abbrev pub of_message : MessageValue → Result WritebackValue Reason
+of_message (Read m) = Err Misspelt
+of_message (ReadReply m) = Err Misspelt
+of_message (St1 m) = Err Misspelt
+of_message (Vote m) = Err Misspelt
+of_message (St2 m) = Err Misspelt
+of_message (LogReply m) = Err Misspelt
 of_message (Writeback m) = Ok m
-of_message (Recover m) = Err 2
-of_message (Invoke m) = Err 2
-of_message (Elect m) = Err 2
-of_message (Decide m) = Err 2
+of_message (Recover m) = Err Misspelt
+of_message (Invoke m) = Err Misspelt
+of_message (Elect m) = Err Misspelt
+of_message (Decide m) = Err Misspelt
 
 -- bytes that are no frame of the cluster are reason 8
-abbrev pub of_frame : Result MessageValue BadFrame → Result WritebackValue ℕ
+abbrev pub of_frame : Result MessageValue BadFrame → Result WritebackValue Reason
 of_frame (Ok m) = of_message m
-of_frame (Err fault) = Err 8
+of_frame (Err fault) = Err OutOfSize
 
-unfoldable pub framed : Setting → List ℕ → Result WritebackValue ℕ
+unfoldable pub framed : Setting → List ℕ → Result WritebackValue Reason
 framed cluster bytes = of_frame (frame_in (bounds_of cluster) bytes)
 
-abbrev pub of_bytes : Setting → Result (List ℕ) Complaint → Result WritebackValue ℕ
+abbrev pub of_bytes : Setting → Result (List ℕ) Complaint → Result WritebackValue Reason
 of_bytes cluster (Ok bytes) = framed cluster bytes
-of_bytes cluster (Err complaint) = Err 8
+of_bytes cluster (Err complaint) = Err OutOfSize
 
-abbrev pub writeback_on : Setting → List ℕ → Result WritebackValue ℕ
+abbrev pub writeback_on : Setting → List ℕ → Result WritebackValue Reason
 writeback_on cluster line = of_bytes cluster (hex line)
 
 -- a third line is reason 2
-abbrev pub judged_alone : Ring → Setting → Result WritebackValue ℕ → List (List ℕ) → Outcome
+abbrev pub judged_alone : Ring → Setting → Result WritebackValue Reason → List (List ℕ) → Outcome
 judged_alone ring cluster (Err reason) lines = BadLine 2 reason
 judged_alone ring cluster (Ok m) [] = judged (accepted_by cluster ring) cluster m
-judged_alone ring cluster (Ok m) (line ∷ lines) = BadLine 3 2
+judged_alone ring cluster (Ok m) (line ∷ lines) = BadLine 3 Misspelt
 
 -- a second line that is missing is reason 8, as one that is no frame
 abbrev pub checked_under : Setting → Option Ring → List (List ℕ) → Outcome
-checked_under cluster None lines = BadLine 1 1
-checked_under cluster (Some ring) [] = BadLine 2 8
+checked_under cluster None lines = BadLine 1 NoHeader
+checked_under cluster (Some ring) [] = BadLine 2 OutOfSize
 checked_under cluster (Some ring) (line ∷ lines) = judged_alone ring cluster (writeback_on cluster line) lines
 
 abbrev pub headed : Result Line LineFault → List (List ℕ) → Outcome
 headed (Ok (Header cluster clock keys journal)) lines = checked_under cluster (ring_of keys) lines
-headed (Ok _) lines = BadLine 1 1
-headed (Err fault) lines = BadLine 1 1
+headed (Ok _) lines = BadLine 1 NoHeader
+headed (Err fault) lines = BadLine 1 NoHeader
 
 abbrev pub checked_lines : List (List ℕ) → Outcome
-checked_lines [] = BadLine 1 1
+checked_lines [] = BadLine 1 NoHeader
 checked_lines (first ∷ lines) = headed (line_at first 1) lines
 
 abbrev pub checked : List ℕ → Outcome

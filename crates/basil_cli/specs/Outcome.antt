@@ -4,13 +4,15 @@ use Rattle.std.specs.List.{join_with_byte}
 use Rattle.hex.specs.Hex.{encode_lower}
 use Rattle.premise_watch.specs.declared.broken.Broken as premise
 use Rattle.premise_watch.specs.declared.broken.Broken.TheVariants.{Forged, Collision}
+use Rattle.schedule_text.specs.Complaints.{reason_number}
 use Rattle.schedule_text.specs.Spelling.{party_words}
+use Rattle.schedule_text.specs.declared.reason.Reason.{Reason}
 
 pub data Outcome : Type 0 where
   -- the words are no command
   Usage : Outcome
   -- the first line that is refused, and why
-  BadLine : (line reason : ℕ) → Outcome
+  BadLine : (line : ℕ) (reason : Reason) → Outcome
   -- the command's output
   Written : (text : List ℕ) → Outcome
   -- a premise of the run is broken
@@ -35,7 +37,8 @@ broken_text (Collision first second) =
 -- what is written
 abbrev pub text_of : Outcome → List ℕ
 text_of Usage = codes "usage" ++ 10 ∷ []
-text_of (BadLine line reason) = codes "line " ++ decimal line ++ codes " reason " ++ decimal reason ++ 10 ∷ []
+text_of (BadLine line reason) =
+    codes "line " ++ decimal line ++ codes " reason " ++ decimal (reason_number reason) ++ 10 ∷ []
 text_of (Written text) = text
 text_of (Broken broken) = broken_text broken
 text_of (Refused reason) = codes "refused " ++ decimal reason ++ 10 ∷ []

@@ -3,6 +3,7 @@ use Rattle.std.specs.Prelude.{◌≡◌, ◌<◌, ◌≤◌, ℕ, length, List, 
 use Rattle.frame_views.specs.Shown.{writeback_of}
 use Rattle.frame_views.specs.Values.{WritebackValue}
 use Rattle.frame_views.specs.declared.frames.views.WritebackView.{WritebackView}
+use Rattle.schedule_text.specs.declared.reason.Reason.{Reason}
 use Rattle.basil_cli.specs.Outcome.{Outcome, BadLine, Written, Broken, Refused, Stray, Full, TooLong, longest_input}
 use Rattle.basil_cli.specs.declared.input.InputFail.{InputFail}
 use Rattle.basil_cli.specs.declared.input.InputFail.TheVariants as input
@@ -36,6 +37,6 @@ IsShort (whole.Bytes all) = length all ≤ longest_input
 IsShort whole.TooLong = ⊤
 
 -- a writeback that was read, or the reason why the line is refused
-abbrev pub Framed : Result WritebackView ℕ → Result WritebackValue ℕ → Type 0
+abbrev pub Framed : Result WritebackView Reason → Result WritebackValue Reason → Type 0
 Framed (Ok m) should = should ≡ Ok (writeback_of m)
 Framed (Err reason) should = should ≡ Err reason

@@ -23,6 +23,7 @@ use schedule_text::fields::frames::read_hex;
 use schedule_text::line::{KeysKind, Line, LineFault};
 use schedule_text::lines::first_line;
 use schedule_text::reading::read_line;
+use schedule_text::reason::Reason;
 use std::alloc::Global;
 use txn_meta::form::check_form;
 
@@ -86,14 +87,14 @@ fn judge(
 
 /// The writeback that a frame says, or the reason why the line is refused.
 #[tactic(auto, unfolding(crate::specs::Checking::framed))]
-fn read_writeback<'a>(bytes: &'a [u8], cluster: &Cluster) -> Result<WritebackView<'a>, u8>
+fn read_writeback<'a>(bytes: &'a [u8], cluster: &Cluster) -> Result<WritebackView<'a>, Reason>
     ensures value { Framed result (framed cluster.now bytes.now) }
     ensures fits { IfOk result (λ m. FitsWriteback (bounds_of cluster.now) (writeback_of m)) }
 {
     match frame_views::frames::check(bytes, cluster) {
         Ok(MessageView::Writeback(m)) => Ok(m),
-        Ok(_) => Err(2),
-        Err(_) => Err(8),
+        Ok(_) => Err(Reason::Misspelt),
+        Err(_) => Err(Reason::OutOfSize),
     }
 }
 
@@ -108,12 +109,18 @@ fn check_lines(
     ensures { IfOk result (λ e. outcome_is e ≡ judged_alone ring cluster.now (writeback_on cluster.now line.now) (lines_of more.now)) }
 {
     let Ok(bytes) = read_hex(alloc, line)? else {
-        return Ok(Ending::BadLine { line: 2, reason: 8 });
+        return Ok(Ending::BadLine {
+            line: 2,
+            reason: Reason::OutOfSize,
+        });
     };
     match read_writeback(bytes.as_slice(), cluster) {
         Ok(m) => {
             if first_line(more).is_some() {
-                return Ok(Ending::BadLine { line: 3, reason: 2 });
+                return Ok(Ending::BadLine {
+                    line: 3,
+                    reason: Reason::Misspelt,
+                });
             }
             judge(alloc, ring, cluster, &m)
         }
@@ -131,10 +138,16 @@ fn check_under(
     ensures { IfOk result (λ e. outcome_is e ≡ checked_under cluster.now (checking.ring_of keys) (lines_of bytes.now)) }
 {
     let Some(ring) = ring_of(keys) else {
-        return Ok(Ending::BadLine { line: 1, reason: 1 });
+        return Ok(Ending::BadLine {
+            line: 1,
+            reason: Reason::NoHeader,
+        });
     };
     let Some((line, more)) = first_line(bytes) else {
-        return Ok(Ending::BadLine { line: 2, reason: 8 });
+        return Ok(Ending::BadLine {
+            line: 2,
+            reason: Reason::OutOfSize,
+        });
     };
     check_lines(alloc, ring, cluster, line, more)
 }
@@ -145,7 +158,10 @@ fn check_headed(alloc: Global, line: &Line, more: &[u8]) -> Result<Ending, NoMem
 {
     match line {
         Line::Header { cluster, keys, .. } => check_under(alloc, cluster, *keys, more),
-        _ => Ok(Ending::BadLine { line: 1, reason: 1 }),
+        _ => Ok(Ending::BadLine {
+            line: 1,
+            reason: Reason::NoHeader,
+        }),
     }
 }
 
@@ -154,11 +170,17 @@ pub(crate) fn check(alloc: Global, bytes: &[u8]) -> Result<Ending, NoMemory>
     ensures { IfOk result (λ e. outcome_is e ≡ checked bytes.now) }
 {
     let Some((first, more)) = first_line(bytes) else {
-        return Ok(Ending::BadLine { line: 1, reason: 1 });
+        return Ok(Ending::BadLine {
+            line: 1,
+            reason: Reason::NoHeader,
+        });
     };
     match read_line(alloc, first, 1) {
         Ok(line) => check_headed(alloc, &line, more),
-        Err(LineFault::BadLine { .. }) => Ok(Ending::BadLine { line: 1, reason: 1 }),
+        Err(LineFault::BadLine { .. }) => Ok(Ending::BadLine {
+            line: 1,
+            reason: Reason::NoHeader,
+        }),
         Err(LineFault::NoMemory) => Err(NoMemory),
     }
 }

@@ -2,12 +2,13 @@
 
 use basil_types::bytes::Bytes;
 use premise_watch::broken::Broken;
+use schedule_text::reason::Reason;
 
 /// What a command leads to.
 #[derive(Drop)]
 pub(crate) enum Ending {
     /// The first line that is refused, and why.
-    BadLine { line: u64, reason: u8 },
+    BadLine { line: u64, reason: Reason },
     /// The command's output.
     Written(Bytes),
     /// A premise of the run is broken.

@@ -1,7 +1,10 @@
 //! What the program ends with.
 
-ghost use Rattle.std.specs.Prelude.{◌≡◌};
-ghost use Rattle.basil_cli.specs.Answers.{status_number};
+ghost use Rattle.std.specs.Prelude.{◌≡◌, Some};
+ghost use Rattle.basil_cli.specs.Answers.{status_number, status_text};
+
+use schedule_text::reason::Reason;
+use std::fmt;
 
 /// How a command ended.
 #[derive(Clone, Copy, Debug, PartialEq, Eq)]
@@ -11,7 +14,7 @@ pub enum Status {
     /// 2: the words are no command; `usage` was written.
     BadWords,
     /// 3: the first line of the input that is refused, from 1, and why; `line N reason R` was written.
-    BadInput { line: u64, reason: u8 },
+    BadInput { line: u64, reason: Reason },
     /// 4: the source failed; `read fault` was written.
     ReadFault,
     /// 5: the sink failed; a prefix of a text was written.
@@ -49,6 +52,28 @@ impl Status {
             Status::NoMemory => 9,
             Status::Full { .. } => 10,
             Status::TooLong => 12,
+        }
+    }
+}
+
+/// The line that tells the status; but the text of an output, a breach or a stray read says more, and nothing is written of
+/// a failed write and want of memory.
+impl fmt::Display for Status {
+    ghost output = { λ status. Some (status_text status) };
+
+    fn fmt<W: fmt::Write>(&self, f: &mut fmt::Formatter<W>) -> fmt::Result {
+        match self {
+            Status::Done => f.write_str("done"),
+            Status::BadWords => f.write_str("usage"),
+            Status::BadInput { line, reason } => write!(f, "line {line} reason {reason}"),
+            Status::ReadFault => f.write_str("read fault"),
+            Status::WriteFault => f.write_str("write fault"),
+            Status::LinkFault => f.write_str("link fault"),
+            Status::Broken => f.write_str("broken"),
+            Status::Refused { reason } => write!(f, "refused {reason}"),
+            Status::NoMemory => f.write_str("no memory"),
+            Status::Full { messages, bytes } => write!(f, "full {messages} {bytes}"),
+            Status::TooLong => f.write_str("too long 16777216"),
         }
     }
 }

@@ -1,8 +1,8 @@
 //! What is written of an ending.
 
-ghost use Rattle.std.specs.Prelude.{◌≡◌, IfOk, string_bytes};
+ghost use Rattle.std.specs.Prelude.{◌≡◌, ◌++◌, ◌∷◌, [], IfOk, string_bytes};
 ghost use Rattle.std.specs.List.{join_with_byte};
-ghost use Rattle.basil_cli.specs.Answers.{status_of};
+ghost use Rattle.basil_cli.specs.Answers.{status_of, status_text};
 ghost use Rattle.basil_cli.specs.Outcome as outcomes;
 ghost use Rattle.basil_cli.specs.Outcome.{text_of};
 ghost use Rattle.basil_cli.specs.Parts.{outcome_is};
@@ -16,27 +16,11 @@ use hex::encode;
 use premise_watch::broken::Broken;
 use std::alloc::Global;
 
-/// `line N reason R`
-fn bad_line_text(alloc: Global, line: u64, reason: u8) -> Result<Vec<u8>, NoMemory>
-    ensures { IfOk result (λ text. text.items ≡ text_of (outcomes.BadLine line reason)) }
+/// The line that tells a status.
+fn line_of(alloc: Global, status: Status) -> Result<Vec<u8>, NoMemory>
+    ensures { IfOk result (λ text. text.items ≡ status_text status ++ 10 ∷ []) }
 {
-    let text = format!(in alloc; "line {line} reason {reason}\n")?;
-    Ok(Vec::from_slice(alloc, text.as_bytes())?)
-}
-
-/// `refused R`
-fn refused_text(alloc: Global, reason: u8) -> Result<Vec<u8>, NoMemory>
-    ensures { IfOk result (λ text. text.items ≡ text_of (outcomes.Refused reason)) }
-{
-    let text = format!(in alloc; "refused {reason}\n")?;
-    Ok(Vec::from_slice(alloc, text.as_bytes())?)
-}
-
-/// `full MESSAGES BYTES`
-fn full_text(alloc: Global, messages: u64, bytes: u64) -> Result<Vec<u8>, NoMemory>
-    ensures { IfOk result (λ text. text.items ≡ text_of (outcomes.Full messages bytes)) }
-{
-    let text = format!(in alloc; "full {messages} {bytes}\n")?;
+    let text = format!(in alloc; "{status}\n")?;
     Ok(Vec::from_slice(alloc, text.as_bytes())?)
 }
 
@@ -79,13 +63,10 @@ pub(crate) fn text_of_ending(alloc: Global, ending: &Ending) -> Result<Vec<u8>, 
     ensures { IfOk result (λ text. text.items ≡ text_of (outcome_is ending.now)) }
 {
     match ending {
-        Ending::BadLine { line, reason } => bad_line_text(alloc, *line, *reason),
         Ending::Written(text) => Ok(Vec::from_slice(alloc, text.as_slice())?),
         Ending::Broken(broken) => broken_text(alloc, broken),
         Ending::Stray(line) => Ok(Vec::from_slice(alloc, line.as_slice())?),
-        Ending::Refused { reason } => refused_text(alloc, *reason),
-        Ending::Full { messages, bytes } => full_text(alloc, *messages, *bytes),
-        Ending::TooLong => Ok(Vec::from_slice(alloc, b"too long 16777216\n")?),
+        _ => line_of(alloc, status_of_ending(ending)),
     }
 }
 

@@ -1,12 +1,14 @@
 //! Schedules that break a premise, sources that fail in mid-schedule, and what is read of a refused one.
 
-use crate::support::{is_answer, replay, run_words};
+use crate::support::{HEADER, is_answer, replay, run_words};
 use basil_cli::status::Status;
+use basil_types::memory::NoMemory;
+use schedule_text::reason::Reason;
 use std::alloc::Global;
 use std::test::Fail;
 
-/// A plain signature is made by anybody who knows the rule: here one of the correct replica 3 of shard 0, on an abort vote that
-/// it never made (its digest by sha256sum).
+/// A plain signature is made by anybody who knows the rule: here one of the correct replica 3 of shard 0, on an abort vote
+/// that it never made (its digest by sha256sum).
 const FORGED: &[u8] = b"\
     basil 1 f=1 shards=1 reads=2 delta=100 clock=50 keys=plain\n\
     begin t1 1 10\n\
@@ -36,62 +38,106 @@ fn a_breach_may_not_be_written(rt: HostRuntime) -> Result<(), Fail> {
     Ok(())
 }
 
-/// A million rounds over an empty pool are soon done.
-fn rounds(alloc: Global) -> Result<Vec<u8>, Fail> {
-    let mut text = Vec::from_slice(
-        alloc,
-        b"basil 1 f=1 shards=1 reads=2 delta=100 clock=50 keys=plain\n",
-    )?;
-    for _ in 0..999_999u32 {
+/// A header, and so many rounds.
+fn rounds(alloc: Global, front: &[u8], count: u32) -> Result<Vec<u8>, NoMemory> {
+    let mut text = Vec::from_slice(alloc, front)?;
+    for _ in 0..count {
         text.extend_from_slice(b"round\n")?;
     }
     Ok(text)
 }
 
+/// A million lines, of which all but the header are rounds over an empty pool, are soon done.
 #[test]
 fn a_million_rounds(rt: HostRuntime) -> Result<(), Fail> {
-    let alloc = rt.alloc();
-    let text = rounds(alloc)?;
-    let given = replay(alloc, &text)?;
+    let text = rounds(rt.alloc(), HEADER, 999_999)?;
+    let given = replay(rt.alloc(), &text)?;
     assert!(rt; is_answer(&given, Status::Done, b"end 0\n"));
     Ok(())
 }
 
-/// A schedule that is refused in its first piece of 1,000 bytes, and a source that fails behind it: the line is told, since the
-/// source isn't asked again.
-#[test]
-fn a_refused_line_is_told_before_a_later_read_fails(rt: HostRuntime) -> Result<(), Fail> {
-    let alloc = rt.alloc();
-    let mut text = Vec::from_slice(
-        alloc,
-        b"basil 1 f=0 shards=1 reads=1 delta=100 clock=50 keys=plain\ndeliver 1\n",
-    )?;
-    for _ in 0..2000u32 {
-        text.extend_from_slice(b"round\n")?;
-    }
-    let given = run_words(alloc, &["replay"], &text, &[2], &[])?;
-    let (line, reason) = (2, 7);
-    let status = Status::BadInput { line, reason };
-    assert!(rt; is_answer(&given, status, b"line 2 reason 7\n"));
-    Ok(())
+/// Refused at its second line.
+const NO_MESSAGE: &[u8] = b"\
+    basil 1 f=0 shards=1 reads=1 delta=100 clock=50 keys=plain\n\
+    deliver 1\n";
+
+/// A commit, once rounds follow.
+const ONE_WRITE: &[u8] = b"\
+    basil 1 f=0 shards=1 reads=1 delta=100 clock=50 keys=plain\n\
+    begin t1 1 10\n\
+    write t1 a x1\n\
+    prepare t1\n";
+
+/// What a row shows, the front of a schedule, how many rounds follow, the read of 1,000 bytes that fails, how the replay
+/// ends, and what it writes.
+type Read = (&'static str, &'static [u8], u32, u64, Status, &'static [u8]);
+
+const READS: &[Read] = &[
+    (
+        "a line that is refused in the first piece is told, since no second one is asked for",
+        NO_MESSAGE,
+        2000,
+        2,
+        Status::BadInput {
+            line: 2,
+            reason: Reason::NoMessage,
+        },
+        b"line 2 reason 7\n",
+    ),
+    (
+        "the first of four pieces fails",
+        ONE_WRITE,
+        600,
+        1,
+        Status::ReadFault,
+        b"read fault\n",
+    ),
+    (
+        "the second piece fails",
+        ONE_WRITE,
+        600,
+        2,
+        Status::ReadFault,
+        b"read fault\n",
+    ),
+    (
+        "the third piece fails",
+        ONE_WRITE,
+        600,
+        3,
+        Status::ReadFault,
+        b"read fault\n",
+    ),
+    (
+        "the last piece fails",
+        ONE_WRITE,
+        600,
+        4,
+        Status::ReadFault,
+        b"read fault\n",
+    ),
+    (
+        "no piece fails, and no read is numbered 0",
+        ONE_WRITE,
+        600,
+        0,
+        Status::Done,
+        b"tx t1 commit\nkey a x1\nend 3\n",
+    ),
+];
+
+/// Whether a replay ends as it is told.
+fn ends_so(alloc: Global, row: &Read) -> Result<bool, NoMemory> {
+    let (_shows, front, count, failing, status, text) = *row;
+    let schedule = rounds(alloc, front, count)?;
+    let given = run_words(alloc, &["replay"], &schedule, &[failing], &[])?;
+    Ok(is_answer(&given, status, text))
 }
 
-/// Each read of a schedule of four pieces fails in turn.
 #[test]
-fn a_failing_read_is_told(rt: HostRuntime) -> Result<(), Fail> {
-    let alloc = rt.alloc();
-    let mut text = Vec::from_slice(
-        alloc,
-        b"basil 1 f=0 shards=1 reads=1 delta=100 clock=50 keys=plain\nbegin t1 1 10\nwrite t1 a x1\nprepare t1\n",
-    )?;
-    for _ in 0..600u32 {
-        text.extend_from_slice(b"round\n")?;
+fn a_read_that_fails_in_mid_schedule(rt: HostRuntime) -> Result<(), Fail> {
+    for row in READS {
+        assert!(rt; ends_so(rt.alloc(), row)?, "{}", row.0);
     }
-    for read in 1..5u64 {
-        let given = run_words(alloc, &["replay"], &text, &[read], &[])?;
-        assert!(rt; is_answer(&given, Status::ReadFault, b"read fault\n"));
-    }
-    let given = run_words(alloc, &["replay"], &text, &[], &[])?;
-    assert!(rt; is_answer(&given, Status::Done, b"tx t1 commit\nkey a x1\nend 3\n"));
     Ok(())
 }

@@ -25,3 +25,5 @@ mod signatures;
 mod sizes;
 #[cfg(test)]
 mod support;
+#[cfg(test)]
+mod texts;

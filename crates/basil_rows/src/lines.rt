@@ -14,12 +14,10 @@ use schedule_text::line::{Line, LineFault};
 use schedule_text::reading::read_line;
 use schedule_text::writing::write_line;
 use std::alloc::Global;
+use std::process::Abort;
 
 /// A line, and why it is refused; 0 where it is read.
-pub(crate) struct Row {
-    pub line: &'static [u8],
-    pub reason: u8,
-}
+pub(crate) type Row = (&'static [u8], u8);
 
 /// Whether a value is written as this line.
 pub(crate) fn spells(alloc: Global, value: &Line, line: &[u8]) -> bool {
@@ -33,7 +31,7 @@ pub(crate) fn told(alloc: Global, line: &[u8], number: u64) -> Result<bool, u8> 
     match read_line(alloc, line, number) {
         Ok(Line::Skipped) => Ok(line.is_empty() || line.starts_with(b"#")),
         Ok(value) => Ok(spells(alloc, &value, line)),
-        Err(LineFault::BadLine { reason, .. }) => Err(reason),
+        Err(LineFault::BadLine { reason, .. }) => Err(reason.number()),
         Err(LineFault::NoMemory) => Err(99),
     }
 }
@@ -47,12 +45,9 @@ fn reason_of(alloc: Global, line: &[u8]) -> u8 {
     }
 }
 
-/// Whether each line is read, or refused for its reason.
-pub(crate) fn are_told(alloc: Global, rows: &[Row]) -> bool {
-    for row in rows {
-        if reason_of(alloc, row.line) != row.reason {
-            return false;
-        }
+/// Each line is read, or refused for its reason.
+pub(crate) fn are_told(rt: &impl Abort, alloc: Global, rows: &[Row]) {
+    for &(line, reason) in rows {
+        assert!(rt; reason_of(alloc, line) == reason, "{line:?}");
     }
-    true
 }

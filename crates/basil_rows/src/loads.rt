@@ -1,6 +1,6 @@
 //! Loads: schedules that are made from a number, and what becomes of their transactions.
 
-use crate::support::{is_answer, replay, run_words};
+use crate::support::{Answer, is_answer, replay, run_words};
 use basil_cli::status::Status;
 use basil_types::memory::NoMemory;
 use std::alloc::Global;
@@ -34,6 +34,19 @@ fn totals_of(alloc: Global, report: &[u8]) -> Result<Vec<u8>, NoMemory> {
     Ok(totals)
 }
 
+/// The report of a load's schedule.
+fn report_of(alloc: Global, seed: &str, count: &str) -> Result<Answer, NoMemory> {
+    let schedule = run_words(alloc, &["generate", seed, count], b"", &[], &[])?;
+    replay(alloc, &schedule.text)
+}
+
+/// Whether a load's totals are those of this report.
+fn has_totals(alloc: Global, seed: &str, count: &str, report: &[u8]) -> Result<bool, NoMemory> {
+    let totals = totals_of(alloc, report)?;
+    let given = run_words(alloc, &["load", seed, count], b"", &[], &[])?;
+    Ok(is_answer(&given, Status::Done, &totals))
+}
+
 /// Whether a load's totals are those of the report of its schedule, and stand for so many transactions.
 fn is_counted(
     alloc: Global,
@@ -41,29 +54,28 @@ fn is_counted(
     count: &str,
     transactions: usize,
 ) -> Result<bool, NoMemory> {
-    let schedule = run_words(alloc, &["generate", seed, count], b"", &[], &[])?;
-    let report = replay(alloc, &schedule.text)?;
-    let totals = totals_of(alloc, &report.text)?;
-    let given = run_words(alloc, &["load", seed, count], b"", &[], &[])?;
-    Ok(
-        report.status == Status::Done
-            && count_of(&report.text, b"") == transactions
-            && is_answer(&given, Status::Done, &totals),
-    )
+    let report = report_of(alloc, seed, count)?;
+    if report.status != Status::Done || count_of(&report.text, b"") != transactions {
+        return Ok(false);
+    }
+    has_totals(alloc, seed, count, &report.text)
 }
 
-/// A number, how many transactions, as a word and as a number.
-const LOADS: &[(&str, &str, usize)] = &[
-    ("7", "200", 200),
-    ("7", "1", 1),
-    ("0", "20", 20),
-    ("18446744073709551615", "20", 20),
+/// What a row shows, a number, how many transactions, as a word and as a number.
+const LOADS: &[(&str, &str, &str, usize)] = &[
+    ("two hundred transactions", "7", "200", 200),
+    ("the fewest", "7", "1", 1),
+    ("the least number", "0", "20", 20),
+    ("the greatest number", "18446744073709551615", "20", 20),
 ];
 
 #[test]
 fn a_load_has_the_totals_of_its_schedules_report(rt: HostRuntime) -> Result<(), Fail> {
-    for &(seed, count, transactions) in LOADS {
-        assert!(rt; is_counted(rt.alloc(), seed, count, transactions)?);
+    for &(shows, seed, count, transactions) in LOADS {
+        assert!(rt;
+            is_counted(rt.alloc(), seed, count, transactions)?,
+            "{shows}"
+        );
     }
     Ok(())
 }
@@ -89,7 +101,10 @@ const NO_COMMANDS: &[&[&str]] = &[
 fn other_words_are_no_command(rt: HostRuntime) -> Result<(), Fail> {
     for words in NO_COMMANDS {
         let given = run_words(rt.alloc(), words, b"", &[], &[])?;
-        assert!(rt; is_answer(&given, Status::BadWords, b"usage\n"));
+        assert!(rt;
+            is_answer(&given, Status::BadWords, b"usage\n"),
+            "{words:?}"
+        );
     }
     Ok(())
 }

@@ -1,24 +1,38 @@
 //! Schedules whose deliveries are carried by links.
 
-use crate::replayed::{ONE_WRITE, REPLAYED};
-use crate::support::{is_answer, loopback, run_words};
+use crate::replayed::{ONE_WRITE, REPLAYED, Replayed, WITH_HEADERS};
+use crate::support::{HEADER, is_answer, joined, loopback, run_words};
 use basil_cli::status::Status;
 use basil_types::memory::NoMemory;
+use schedule_text::reason::Reason;
 use std::alloc::Global;
+use std::process::Abort;
 use std::test::Fail;
 
-/// Whether each message comes as it was sent, so that the report is that of a replay.
-fn is_the_same(alloc: Global, schedule: &[u8], report: &[u8]) -> Result<bool, NoMemory> {
-    let given = loopback(alloc, schedule, &[], &[], &[])?;
+/// Whether a header and lines give this report, where each message comes as it was sent.
+fn gives(alloc: Global, header: &[u8], lines: &[u8], report: &[u8]) -> Result<bool, NoMemory> {
+    let schedule = joined(alloc, &[header, lines])?;
+    let given = loopback(alloc, &schedule, &[], &[], &[])?;
     Ok(is_answer(&given, Status::Done, report))
+}
+
+/// Each schedule, behind this header, gives the report of its replay.
+fn are_carried(
+    rt: &impl Abort,
+    alloc: Global,
+    header: &[u8],
+    rows: &[Replayed],
+) -> Result<(), Fail> {
+    for &(shows, lines, report) in rows {
+        assert!(rt; gives(alloc, header, lines, report)?, "{shows}");
+    }
+    Ok(())
 }
 
 #[test]
 fn what_comes_as_it_was_sent_changes_no_report(rt: HostRuntime) -> Result<(), Fail> {
-    for case in REPLAYED {
-        assert!(rt; is_the_same(rt.alloc(), case.schedule, case.report)?);
-    }
-    Ok(())
+    are_carried(&rt, rt.alloc(), HEADER, REPLAYED)?;
+    are_carried(&rt, rt.alloc(), b"", WITH_HEADERS)
 }
 
 const SIX_REPLICAS: &[u8] = b"\
@@ -38,116 +52,116 @@ const REFUSED_AT_ITS_END: &[u8] = b"\
     deliver 1\n\
     deliver 9\n";
 
-/// A schedule, the carries that change a bit of the last byte, those that fail, the writes that fail, and how the call
-/// ends.
-struct Carried {
-    schedule: &'static [u8],
-    changed: &'static [u64],
-    failing: &'static [u64],
-    failing_writes: &'static [u64],
-    status: Status,
-    text: &'static [u8],
-}
+/// What a row shows, a schedule, the carries that change a bit of the last byte, those that fail, the writes that fail,
+/// and how the call ends.
+type Carried = (
+    &'static str,
+    &'static [u8],
+    &'static [u64],
+    &'static [u64],
+    &'static [u64],
+    Status,
+    &'static [u8],
+);
 
 const CARRIED: &[Carried] = &[
-    // the signature of the first stage comes changed, so the replica refuses it, and there is no vote
-    Carried {
-        schedule: ONE_WRITE,
-        changed: &[1],
-        failing: &[],
-        failing_writes: &[],
-        status: Status::Done,
-        text: b"tx t1 open\nend 1\n",
-    },
-    // the vote comes changed, so the client refuses it, and decides nothing
-    Carried {
-        schedule: ONE_WRITE,
-        changed: &[2],
-        failing: &[],
-        failing_writes: &[],
-        status: Status::Done,
-        text: b"tx t1 open\nend 2\n",
-    },
-    // of six votes one comes changed, so the client decides nothing
-    Carried {
-        schedule: SIX_REPLICAS,
-        changed: &[12],
-        failing: &[],
-        failing_writes: &[],
-        status: Status::Done,
-        text: b"tx t1 open\nend 12\n",
-    },
-    // the third carry fails, in the first round
-    Carried {
-        schedule: SIX_REPLICAS,
-        changed: &[],
-        failing: &[3],
-        failing_writes: &[],
-        status: Status::LinkFault,
-        text: b"link fault\n",
-    },
-    // the last one does
-    Carried {
-        schedule: SIX_REPLICAS,
-        changed: &[],
-        failing: &[18],
-        failing_writes: &[],
-        status: Status::LinkFault,
-        text: b"link fault\n",
-    },
-    // one more isn't made
-    Carried {
-        schedule: SIX_REPLICAS,
-        changed: &[],
-        failing: &[19],
-        failing_writes: &[],
-        status: Status::Done,
-        text: b"tx t1 commit\nkey a x1\nend 18\n",
-    },
-    // a carry fails before a line that is refused, and behind it
-    Carried {
-        schedule: REFUSED_AT_ITS_END,
-        changed: &[],
-        failing: &[1],
-        failing_writes: &[],
-        status: Status::LinkFault,
-        text: b"link fault\n",
-    },
-    Carried {
-        schedule: REFUSED_AT_ITS_END,
-        changed: &[],
-        failing: &[2],
-        failing_writes: &[],
-        status: Status::BadInput { line: 6, reason: 7 },
-        text: b"line 6 reason 7\n",
-    },
-    // the fault may not be written
-    Carried {
-        schedule: ONE_WRITE,
-        changed: &[],
-        failing: &[1],
-        failing_writes: &[1],
-        status: Status::WriteFault,
-        text: b"",
-    },
+    (
+        "the signature of the first stage comes changed, so the replica refuses it, and there is no vote",
+        ONE_WRITE,
+        &[1],
+        &[],
+        &[],
+        Status::Done,
+        b"tx t1 open\nend 1\n",
+    ),
+    (
+        "the vote comes changed, so the client refuses it, and decides nothing",
+        ONE_WRITE,
+        &[2],
+        &[],
+        &[],
+        Status::Done,
+        b"tx t1 open\nend 2\n",
+    ),
+    (
+        "of six votes one comes changed, so the client decides nothing",
+        SIX_REPLICAS,
+        &[12],
+        &[],
+        &[],
+        Status::Done,
+        b"tx t1 open\nend 12\n",
+    ),
+    (
+        "the third carry fails, in the first round",
+        SIX_REPLICAS,
+        &[],
+        &[3],
+        &[],
+        Status::LinkFault,
+        b"link fault\n",
+    ),
+    (
+        "the last carry fails",
+        SIX_REPLICAS,
+        &[],
+        &[18],
+        &[],
+        Status::LinkFault,
+        b"link fault\n",
+    ),
+    (
+        "a carry behind the last isn't made",
+        SIX_REPLICAS,
+        &[],
+        &[19],
+        &[],
+        Status::Done,
+        b"tx t1 commit\nkey a x1\nend 18\n",
+    ),
+    (
+        "the first carry fails before a line that is refused",
+        REFUSED_AT_ITS_END,
+        &[],
+        &[1],
+        &[],
+        Status::LinkFault,
+        b"link fault\n",
+    ),
+    (
+        "a second carry isn't made where its line is refused",
+        REFUSED_AT_ITS_END,
+        &[],
+        &[2],
+        &[],
+        Status::BadInput {
+            line: 6,
+            reason: Reason::NoMessage,
+        },
+        b"line 6 reason 7\n",
+    ),
+    (
+        "the text of a fault isn't taken",
+        ONE_WRITE,
+        &[],
+        &[1],
+        &[1],
+        Status::WriteFault,
+        b"",
+    ),
 ];
 
 /// Whether a call ends as it is told.
-fn ends_so(alloc: Global, case: &Carried) -> Result<bool, NoMemory> {
-    let given = loopback(
-        alloc,
-        case.schedule,
-        case.changed,
-        case.failing,
-        case.failing_writes,
-    )?;
-    Ok(is_answer(&given, case.status, case.text))
+fn ends_so(alloc: Global, row: &Carried) -> Result<bool, NoMemory> {
+    let (_shows, schedule, changed, failing, failing_writes, status, text) = *row;
+    let given = loopback(alloc, schedule, changed, failing, failing_writes)?;
+    Ok(is_answer(&given, status, text))
 }
 
 #[test]
 fn nodes_are_handed_what_came(rt: HostRuntime) -> Result<(), Fail> {
-    for case in CARRIED {
-        assert!(rt; ends_so(rt.alloc(), case)?);
+    for row in CARRIED {
+        assert!(rt; ends_so(rt.alloc(), row)?, "{}", row.0);
     }
     Ok(())
 }

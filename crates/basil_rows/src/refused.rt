@@ -5,22 +5,25 @@ mod headers;
 mod sizes;
 mod unbuilt;
 
-use crate::support::{is_answer, replay};
-use basil_cli::status::Status;
-use basil_types::memory::NoMemory;
+use crate::support::{is_refused, joined};
 use std::alloc::Global;
+use std::process::Abort;
+use std::test::Fail;
 
-/// A schedule, its first refused line, and why it is refused.
-pub(crate) struct Refused {
-    pub schedule: &'static [u8],
-    pub line: u64,
-    pub reason: u8,
-    pub text: &'static [u8],
-}
+/// What a row shows, its schedule, the first line that is refused, and why.
+pub(crate) type Refused = (&'static str, &'static [u8], u64, u8);
 
-/// That a replay ends at the line, for its reason, and writes the text and nothing else.
-pub(crate) fn agrees(alloc: Global, case: &Refused) -> Result<bool, NoMemory> {
-    let given = replay(alloc, case.schedule)?;
-    let (line, reason) = (case.line, case.reason);
-    Ok(is_answer(&given, Status::BadInput { line, reason }, case.text))
+/// Each schedule, between these texts, is refused at its line for its reason, and nothing else is written.
+pub(crate) fn are_refused(
+    rt: &impl Abort,
+    alloc: Global,
+    before: &'static [u8],
+    rows: &[Refused],
+    behind: &'static [u8],
+) -> Result<(), Fail> {
+    for &(shows, lines, line, reason) in rows {
+        let schedule = joined(alloc, &[before, lines, behind])?;
+        assert!(rt; is_refused(alloc, &schedule, line, reason)?, "{shows}");
+    }
+    Ok(())
 }

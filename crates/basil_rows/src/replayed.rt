@@ -1,333 +1,274 @@
 //! Schedules that are replayed to their end.
 
-use crate::support::{is_answer, replay, run_words};
+use crate::support::{HEADER, is_answer, joined, replay, run_words};
 use basil_cli::status::Status;
 use basil_types::memory::NoMemory;
+use schedule_text::reason::Reason;
 use std::alloc::Global;
+use std::process::Abort;
 use std::test::Fail;
 
-/// A schedule, and its report.
-pub(crate) struct Replayed {
-    pub(crate) schedule: &'static [u8],
-    pub(crate) report: &'static [u8],
-}
+/// What a row shows, a schedule, and its report.
+pub(crate) type Replayed = (&'static str, &'static [u8], &'static [u8]);
 
+/// Schedules behind a header.
 pub(crate) const REPLAYED: &[Replayed] = &[
-    // one write
-    Replayed {
-        schedule: b"\
-            basil 1 f=0 shards=1 reads=1 delta=100 clock=50 keys=plain\n\
-            begin t1 1 10\n\
-            write t1 a x1\n\
-            prepare t1\n\
-            round\n\
-            round\n\
-            round\n",
-        report: b"\
-            tx t1 commit\n\
-            key a x1\n\
-            end 3\n",
-    },
-    // a header alone
-    Replayed {
-        schedule: b"basil 1 f=0 shards=1 reads=1 delta=100 clock=50 keys=plain\n",
-        report: b"end 0\n",
-    },
-    // a time from too far in the future
-    Replayed {
-        schedule: b"\
-            basil 1 f=0 shards=1 reads=1 delta=100 clock=50 keys=plain\n\
-            begin t1 1 151\n\
-            write t1 a x1\n\
-            prepare t1\n\
-            round\n\
-            round\n\
-            round\n",
-        report: b"\
-            tx t1 abort\n\
-            end 3\n",
-    },
-    // the last time that is not too far
-    Replayed {
-        schedule: b"\
-            basil 1 f=0 shards=1 reads=1 delta=100 clock=50 keys=plain\n\
-            begin t1 1 150\n\
-            write t1 a x1\n\
-            prepare t1\n\
-            round\n\
-            round\n\
-            round\n",
-        report: b"\
-            tx t1 commit\n\
-            key a x1\n\
-            end 3\n",
-    },
-    // a write and its deletion by a later transaction
-    Replayed {
-        schedule: b"\
-            basil 1 f=0 shards=1 reads=1 delta=100 clock=50 keys=plain\n\
-            begin t1 1 10\n\
-            write t1 a x1\n\
-            prepare t1\n\
-            round\n\
-            round\n\
-            round\n\
-            begin t2 2 20\n\
-            delete t2 a\n\
-            prepare t2\n\
-            round\n\
-            round\n\
-            round\n",
-        report: b"\
-            tx t1 commit\n\
-            tx t2 commit\n\
-            end 6\n",
-    },
-    // a deletion leaves the other key
-    Replayed {
-        schedule: b"\
-            basil 1 f=0 shards=1 reads=1 delta=100 clock=50 keys=plain\n\
-            begin t1 1 10\n\
-            write t1 b y1\n\
-            write t1 a x1\n\
-            prepare t1\n\
-            round\n\
-            round\n\
-            round\n\
-            begin t2 2 20\n\
-            delete t2 a\n\
-            prepare t2\n\
-            round\n\
-            round\n\
-            round\n",
-        report: b"\
-            tx t1 commit\n\
-            tx t2 commit\n\
-            key b y1\n\
-            end 6\n",
-    },
-    // a deletion by an earlier version
-    Replayed {
-        schedule: b"\
-            basil 1 f=0 shards=1 reads=1 delta=100 clock=50 keys=plain\n\
-            begin t2 2 20\n\
-            delete t2 a\n\
-            prepare t2\n\
-            round\n\
-            round\n\
-            round\n\
-            begin t1 1 30\n\
-            write t1 a x1\n\
-            prepare t1\n\
-            round\n\
-            round\n\
-            round\n",
-        report: b"\
-            tx t2 commit\n\
-            tx t1 commit\n\
-            key a x1\n\
-            end 6\n",
-    },
-    // versions and not the order of commits
-    Replayed {
-        schedule: b"\
-            basil 1 f=0 shards=1 reads=1 delta=100 clock=50 keys=plain\n\
-            begin t1 1 30\n\
-            write t1 a new\n\
-            prepare t1\n\
-            round\n\
-            round\n\
-            round\n\
-            begin t2 2 20\n\
-            write t2 a old\n\
-            prepare t2\n\
-            round\n\
-            round\n\
-            round\n",
-        report: b"\
-            tx t1 commit\n\
-            tx t2 commit\n\
-            key a new\n\
-            end 6\n",
-    },
-    // no last newline
-    Replayed {
-        schedule: b"\
-            basil 1 f=0 shards=1 reads=1 delta=100 clock=50 keys=plain\n\
-            begin t1 1 10\n\
-            write t1 a x1\n\
-            prepare t1\n\
-            round\n\
-            round\n\
-            round",
-        report: b"\
-            tx t1 commit\n\
-            key a x1\n\
-            end 3\n",
-    },
-    // a header without a newline
-    Replayed {
-        schedule: b"basil 1 f=0 shards=1 reads=1 delta=100 clock=50 keys=plain",
-        report: b"end 0\n",
-    },
-    // skipped lines anywhere
-    Replayed {
-        schedule: b"\
-            # first\n\
-            \n\
-            basil 1 f=0 shards=1 reads=1 delta=100 clock=50 keys=plain\n\
-            \n\
-            # a note \xc3\x83\xc2\xa9\n\
-            begin t1 1 10\n",
-        report: b"\
-            tx t1 open\n\
-            end 0\n",
-    },
-    // before the vote
-    Replayed {
-        schedule: b"\
-            basil 1 f=0 shards=1 reads=1 delta=100 clock=50 keys=plain\n\
-            begin t1 1 10\n\
-            write t1 a x1\n\
-            prepare t1\n",
-        report: b"\
-            tx t1 open\n\
-            end 1\n",
-    },
-    // before the writeback
-    Replayed {
-        schedule: b"\
-            basil 1 f=0 shards=1 reads=1 delta=100 clock=50 keys=plain\n\
-            begin t1 1 10\n\
-            write t1 a x1\n\
-            prepare t1\n\
-            round\n",
-        report: b"\
-            tx t1 open\n\
-            end 2\n",
-    },
-    // the writeback is seen as it is sent
-    Replayed {
-        schedule: b"\
-            basil 1 f=0 shards=1 reads=1 delta=100 clock=50 keys=plain\n\
-            begin t1 1 10\n\
-            write t1 a x1\n\
-            prepare t1\n\
-            round\n\
-            round\n",
-        report: b"\
-            tx t1 commit\n\
-            key a x1\n\
-            end 3\n",
-    },
-    // a second write of a key replaces the first
-    Replayed {
-        schedule: b"\
-            basil 1 f=0 shards=1 reads=1 delta=100 clock=50 keys=plain\n\
-            begin t1 1 10\n\
-            write t1 a x1\n\
-            write t1 a x2\n\
-            prepare t1\n\
-            round\n\
-            round\n",
-        report: b"\
-            tx t1 commit\n\
-            key a x2\n\
-            end 3\n",
-    },
-    // a write replaces a deletion
-    Replayed {
-        schedule: b"\
-            basil 1 f=0 shards=1 reads=1 delta=100 clock=50 keys=plain\n\
-            begin t1 1 10\n\
-            delete t1 a\n\
-            write t1 a x2\n\
-            prepare t1\n\
-            round\n\
-            round\n",
-        report: b"\
-            tx t1 commit\n\
-            key a x2\n\
-            end 3\n",
-    },
-    // a deletion replaces a write
-    Replayed {
-        schedule: b"\
-            basil 1 f=0 shards=1 reads=1 delta=100 clock=50 keys=plain\n\
-            begin t1 1 10\n\
-            write t1 a x2\n\
-            delete t1 a\n\
-            prepare t1\n\
-            round\n\
-            round\n",
-        report: b"\
-            tx t1 commit\n\
-            end 3\n",
-    },
-    // escapes, an empty value, ascending keys
-    Replayed {
-        schedule: b"\
-            basil 1 f=0 shards=1 reads=1 delta=100 clock=50 keys=plain\n\
-            begin t1 1 10\n\
-            write t1 b %3a\n\
-            write t1 %00 %\n\
-            prepare t1\n\
-            round\n\
-            round\n",
-        report: b"\
-            tx t1 commit\n\
-            key %00 %\n\
-            key b %3a\n\
-            end 3\n",
-    },
-    // two clients side by side
-    Replayed {
-        schedule: b"\
-            basil 1 f=0 shards=1 reads=1 delta=100 clock=50 keys=plain\n\
-            begin t1 1 10\n\
-            begin t2 2 10\n\
-            write t2 b y\n\
-            write t1 a x\n\
-            prepare t2\n\
-            prepare t1\n\
-            round\n\
-            round\n\
-            round\n",
-        report: b"\
-            tx t1 commit\n\
-            tx t2 commit\n\
-            key a x\n\
-            key b y\n\
-            end 6\n",
-    },
-    // the greatest numbers
-    Replayed {
-        schedule: b"\
-            basil 1 f=0 shards=1 reads=1 delta=18446744073709551615 clock=18446744073709551615 keys=plain\n\
-            begin t1 16 18446744073709551615\n\
-            write t1 a x\n\
-            prepare t1\n\
-            round\n\
-            round\n",
-        report: b"\
-            tx t1 commit\n\
-            key a x\n\
-            end 3\n",
-    },
+    (
+        "a write commits",
+        b"\
+        begin t1 1 10\n\
+        write t1 a x1\n\
+        prepare t1\n\
+        round\n\
+        round\n\
+        round\n",
+        b"tx t1 commit\nkey a x1\nend 3\n",
+    ),
+    ("a header alone runs nothing", b"", b"end 0\n"),
+    (
+        "a time is too far in the future",
+        b"\
+        begin t1 1 151\n\
+        write t1 a x1\n\
+        prepare t1\n\
+        round\n\
+        round\n\
+        round\n",
+        b"tx t1 abort\nend 3\n",
+    ),
+    (
+        "the last time that isn't too far commits",
+        b"\
+        begin t1 1 150\n\
+        write t1 a x1\n\
+        prepare t1\n\
+        round\n\
+        round\n\
+        round\n",
+        b"tx t1 commit\nkey a x1\nend 3\n",
+    ),
+    (
+        "a later transaction deletes the key",
+        b"\
+        begin t1 1 10\n\
+        write t1 a x1\n\
+        prepare t1\n\
+        round\n\
+        round\n\
+        round\n\
+        begin t2 2 20\n\
+        delete t2 a\n\
+        prepare t2\n\
+        round\n\
+        round\n\
+        round\n",
+        b"tx t1 commit\ntx t2 commit\nend 6\n",
+    ),
+    (
+        "a deletion leaves the other key",
+        b"\
+        begin t1 1 10\n\
+        write t1 b y1\n\
+        write t1 a x1\n\
+        prepare t1\n\
+        round\n\
+        round\n\
+        round\n\
+        begin t2 2 20\n\
+        delete t2 a\n\
+        prepare t2\n\
+        round\n\
+        round\n\
+        round\n",
+        b"tx t1 commit\ntx t2 commit\nkey b y1\nend 6\n",
+    ),
+    (
+        "a deletion of a lower version leaves the write",
+        b"\
+        begin t2 2 20\n\
+        delete t2 a\n\
+        prepare t2\n\
+        round\n\
+        round\n\
+        round\n\
+        begin t1 1 30\n\
+        write t1 a x1\n\
+        prepare t1\n\
+        round\n\
+        round\n\
+        round\n",
+        b"tx t2 commit\ntx t1 commit\nkey a x1\nend 6\n",
+    ),
+    (
+        "the write of the greater version is left, and not the later commit's",
+        b"\
+        begin t1 1 30\n\
+        write t1 a new\n\
+        prepare t1\n\
+        round\n\
+        round\n\
+        round\n\
+        begin t2 2 20\n\
+        write t2 a old\n\
+        prepare t2\n\
+        round\n\
+        round\n\
+        round\n",
+        b"tx t1 commit\ntx t2 commit\nkey a new\nend 6\n",
+    ),
+    (
+        "the last line needs no newline",
+        b"\
+        begin t1 1 10\n\
+        write t1 a x1\n\
+        prepare t1\n\
+        round\n\
+        round\n\
+        round",
+        b"tx t1 commit\nkey a x1\nend 3\n",
+    ),
+    (
+        "a transaction whose first stage waits is open",
+        b"\
+        begin t1 1 10\n\
+        write t1 a x1\n\
+        prepare t1\n",
+        b"tx t1 open\nend 1\n",
+    ),
+    (
+        "a vote that waits decides nothing",
+        b"\
+        begin t1 1 10\n\
+        write t1 a x1\n\
+        prepare t1\n\
+        round\n",
+        b"tx t1 open\nend 2\n",
+    ),
+    (
+        "the writeback is seen as it is sent",
+        b"\
+        begin t1 1 10\n\
+        write t1 a x1\n\
+        prepare t1\n\
+        round\n\
+        round\n",
+        b"tx t1 commit\nkey a x1\nend 3\n",
+    ),
+    (
+        "a second write of a key replaces the first",
+        b"\
+        begin t1 1 10\n\
+        write t1 a x1\n\
+        write t1 a x2\n\
+        prepare t1\n\
+        round\n\
+        round\n",
+        b"tx t1 commit\nkey a x2\nend 3\n",
+    ),
+    (
+        "a write replaces a deletion",
+        b"\
+        begin t1 1 10\n\
+        delete t1 a\n\
+        write t1 a x2\n\
+        prepare t1\n\
+        round\n\
+        round\n",
+        b"tx t1 commit\nkey a x2\nend 3\n",
+    ),
+    (
+        "a deletion replaces a write",
+        b"\
+        begin t1 1 10\n\
+        write t1 a x2\n\
+        delete t1 a\n\
+        prepare t1\n\
+        round\n\
+        round\n",
+        b"tx t1 commit\nend 3\n",
+    ),
+    (
+        "keys ascend, with escapes, and a value may be empty",
+        b"\
+        begin t1 1 10\n\
+        write t1 b %3a\n\
+        write t1 %00 %\n\
+        prepare t1\n\
+        round\n\
+        round\n",
+        b"tx t1 commit\nkey %00 %\nkey b %3a\nend 3\n",
+    ),
+    (
+        "two clients commit side by side",
+        b"\
+        begin t1 1 10\n\
+        begin t2 2 10\n\
+        write t2 b y\n\
+        write t1 a x\n\
+        prepare t2\n\
+        prepare t1\n\
+        round\n\
+        round\n\
+        round\n",
+        b"tx t1 commit\ntx t2 commit\nkey a x\nkey b y\nend 6\n",
+    ),
 ];
 
-/// Whether a schedule gives its report.
-fn is_replayed(alloc: Global, case: &Replayed) -> Result<bool, NoMemory> {
-    let given = replay(alloc, case.schedule)?;
-    Ok(is_answer(&given, Status::Done, case.report))
+/// Schedules with headers of their own.
+pub(crate) const WITH_HEADERS: &[Replayed] = &[
+    (
+        "a header needs no newline",
+        b"basil 1 f=0 shards=1 reads=1 delta=100 clock=50 keys=plain",
+        b"end 0\n",
+    ),
+    (
+        "skipped lines may stand anywhere",
+        b"\
+        # first\n\
+        \n\
+        basil 1 f=0 shards=1 reads=1 delta=100 clock=50 keys=plain\n\
+        \n\
+        # a note \xc3\x83\xc2\xa9\n\
+        begin t1 1 10\n",
+        b"tx t1 open\nend 0\n",
+    ),
+    (
+        "the greatest numbers are taken",
+        b"\
+        basil 1 f=0 shards=1 reads=1 delta=18446744073709551615 clock=18446744073709551615 keys=plain\n\
+        begin t1 16 18446744073709551615\n\
+        write t1 a x\n\
+        prepare t1\n\
+        round\n\
+        round\n",
+        b"tx t1 commit\nkey a x\nend 3\n",
+    ),
+];
+
+/// Whether a header and lines give this report.
+fn gives(alloc: Global, header: &[u8], lines: &[u8], report: &[u8]) -> Result<bool, NoMemory> {
+    let schedule = joined(alloc, &[header, lines])?;
+    let given = replay(alloc, &schedule)?;
+    Ok(is_answer(&given, Status::Done, report))
+}
+
+/// Each schedule, behind this header, gives its report.
+fn are_replayed(
+    rt: &impl Abort,
+    alloc: Global,
+    header: &[u8],
+    rows: &[Replayed],
+) -> Result<(), Fail> {
+    for &(shows, lines, report) in rows {
+        assert!(rt; gives(alloc, header, lines, report)?, "{shows}");
+    }
+    Ok(())
 }
 
 #[test]
 fn each_schedule_gives_its_report(rt: HostRuntime) -> Result<(), Fail> {
-    for case in REPLAYED {
-        assert!(rt; is_replayed(rt.alloc(), case)?);
-    }
-    Ok(())
+    are_replayed(&rt, rt.alloc(), HEADER, REPLAYED)?;
+    are_replayed(&rt, rt.alloc(), b"", WITH_HEADERS)
 }
 
 pub(crate) const ONE_WRITE: &[u8] = b"\
@@ -339,123 +280,136 @@ pub(crate) const ONE_WRITE: &[u8] = b"\
     round\n\
     round\n";
 
-/// Words, the reads and writes that fail, and how the call ends.
-struct Ended {
-    words: &'static [&'static str],
-    failing_reads: &'static [u64],
-    failing_writes: &'static [u64],
-    status: Status,
-    text: &'static [u8],
-}
-
-const ENDED: &[Ended] = &[
-    // words that are no command
-    Ended {
-        words: &["replay", "x"],
-        failing_reads: &[],
-        failing_writes: &[],
-        status: Status::BadWords,
-        text: b"usage\n",
-    },
-    Ended {
-        words: &[],
-        failing_reads: &[],
-        failing_writes: &[],
-        status: Status::BadWords,
-        text: b"usage\n",
-    },
-    Ended {
-        words: &["Replay"],
-        failing_reads: &[],
-        failing_writes: &[],
-        status: Status::BadWords,
-        text: b"usage\n",
-    },
-    // the first read fails, and the one that finds the end
-    Ended {
-        words: &["replay"],
-        failing_reads: &[1],
-        failing_writes: &[],
-        status: Status::ReadFault,
-        text: b"read fault\n",
-    },
-    Ended {
-        words: &["replay"],
-        failing_reads: &[2],
-        failing_writes: &[],
-        status: Status::ReadFault,
-        text: b"read fault\n",
-    },
-    // a later one isn't made
-    Ended {
-        words: &["replay"],
-        failing_reads: &[3],
-        failing_writes: &[2],
-        status: Status::Done,
-        text: b"tx t1 commit\nkey a x1\nend 3\n",
-    },
-    // a failing write takes nothing
-    Ended {
-        words: &["replay"],
-        failing_reads: &[],
-        failing_writes: &[1],
-        status: Status::WriteFault,
-        text: b"",
-    },
-    Ended {
-        words: &["x"],
-        failing_reads: &[],
-        failing_writes: &[1],
-        status: Status::WriteFault,
-        text: b"",
-    },
-    Ended {
-        words: &["replay"],
-        failing_reads: &[1],
-        failing_writes: &[1],
-        status: Status::WriteFault,
-        text: b"",
-    },
-];
-
-/// Whether a call ends as it is told.
-fn ends_so(alloc: Global, case: &Ended) -> Result<bool, NoMemory> {
-    let (reads, writes) = (case.failing_reads, case.failing_writes);
-    let given = run_words(alloc, case.words, ONE_WRITE, reads, writes)?;
-    Ok(is_answer(&given, case.status, case.text))
-}
+/// Words that are no command, over a source and a sink that would serve.
+const NO_COMMANDS: &[&[&str]] = &[&["replay", "x"], &[], &["Replay"]];
 
 #[test]
-fn each_call_ends_with_its_status_and_text(rt: HostRuntime) -> Result<(), Fail> {
-    for case in ENDED {
-        assert!(rt; ends_so(rt.alloc(), case)?);
+fn other_words_are_no_command(rt: HostRuntime) -> Result<(), Fail> {
+    for words in NO_COMMANDS {
+        let given = run_words(rt.alloc(), words, ONE_WRITE, &[], &[])?;
+        assert!(rt;
+            is_answer(&given, Status::BadWords, b"usage\n"),
+            "{words:?}"
+        );
     }
     Ok(())
 }
 
-const CODES: &[(Status, u8)] = &[
-    (Status::Done, 0),
-    (Status::BadWords, 2),
-    (Status::BadInput { line: 5, reason: 9 }, 3),
-    (Status::ReadFault, 4),
-    (Status::WriteFault, 5),
-    (Status::LinkFault, 6),
-    (Status::Broken, 7),
-    (Status::Refused { reason: 7 }, 8),
-    (Status::NoMemory, 9),
+/// What a row shows, the command word, the reads and writes that fail, how the call ends, and what it writes.
+type Ended = (
+    &'static str,
+    &'static str,
+    &'static [u64],
+    &'static [u64],
+    Status,
+    &'static [u8],
+);
+
+const ENDED: &[Ended] = &[
+    (
+        "the first read fails",
+        "replay",
+        &[1],
+        &[],
+        Status::ReadFault,
+        b"read fault\n",
+    ),
+    (
+        "the read that finds the end fails",
+        "replay",
+        &[2],
+        &[],
+        Status::ReadFault,
+        b"read fault\n",
+    ),
+    (
+        "a third read and a second write would fail, and aren't made",
+        "replay",
+        &[3],
+        &[2],
+        Status::Done,
+        b"tx t1 commit\nkey a x1\nend 3\n",
+    ),
+    (
+        "a write that fails takes nothing",
+        "replay",
+        &[],
+        &[1],
+        Status::WriteFault,
+        b"",
+    ),
+    (
+        "the text of words that are no command isn't taken",
+        "x",
+        &[],
+        &[1],
+        Status::WriteFault,
+        b"",
+    ),
+    (
+        "the text of a read fault isn't taken",
+        "replay",
+        &[1],
+        &[1],
+        Status::WriteFault,
+        b"",
+    ),
+];
+
+/// Whether a call ends as it is told.
+fn ends_so(alloc: Global, row: &Ended) -> Result<bool, NoMemory> {
+    let (_shows, word, reads, writes, status, text) = *row;
+    let given = run_words(alloc, &[word], ONE_WRITE, reads, writes)?;
+    Ok(is_answer(&given, status, text))
+}
+
+#[test]
+fn each_call_ends_with_its_status_and_text(rt: HostRuntime) -> Result<(), Fail> {
+    for row in ENDED {
+        assert!(rt; ends_so(rt.alloc(), row)?, "{}", row.0);
+    }
+    Ok(())
+}
+
+/// A status, its number, and the line that tells it, where one does.
+type Told = (Status, u8, &'static str);
+
+const STATUSES: &[Told] = &[
+    (Status::Done, 0, "done"),
+    (Status::BadWords, 2, "usage"),
+    (
+        Status::BadInput {
+            line: 5,
+            reason: Reason::RefusedCall,
+        },
+        3,
+        "line 5 reason 9",
+    ),
+    (Status::ReadFault, 4, "read fault"),
+    (Status::WriteFault, 5, "write fault"),
+    (Status::LinkFault, 6, "link fault"),
+    (Status::Broken, 7, "broken"),
+    (Status::Refused { reason: 7 }, 8, "refused 7"),
+    (Status::NoMemory, 9, "no memory"),
     (
         Status::Full {
             messages: 2,
             bytes: 124,
         },
         10,
+        "full 2 124",
     ),
-    (Status::TooLong, 12),
+    (Status::TooLong, 12, "too long 16777216"),
 ];
 
 #[test]
-fn each_status_has_its_number(rt: HostRuntime) {
-    for (status, code) in CODES {
-        assert!(rt; status.code() == *code);
+fn each_status_has_its_number_and_text(rt: HostRuntime) -> Result<(), Fail> {
+    for &(status, code, text) in STATUSES {
+        assert!(rt; status.code() == code, "{status:?}");
+        assert!(rt;
+            status.to_string(rt.alloc())?.as_str() == text,
+            "{status:?}"
+        );
     }
+    Ok(())
 }

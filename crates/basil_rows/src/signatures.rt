@@ -4,6 +4,7 @@ use crate::support::{Answer, is_answer, run_words};
 use basil_cli::status::Status;
 use basil_types::memory::NoMemory;
 use std::alloc::Global;
+use std::process::Abort;
 use std::test::Fail;
 
 /// The SEED of every key here.
@@ -53,94 +54,100 @@ fn writes(
     Ok(answer.status == status && answer.text.strip_suffix(b"\n") == Some(text.as_bytes()))
 }
 
-/// Words, an input, and what comes of them.
-struct Case {
-    words: &'static [&'static str],
-    input: &'static [u8],
-    status: Status,
-    text: &'static str,
-}
+/// What a row shows, the words, the input, how the call ends, and what it writes before a newline.
+type Case = (
+    &'static str,
+    &'static [&'static str],
+    &'static [u8],
+    Status,
+    &'static str,
+);
 
 const KEYS: &[Case] = &[
-    Case {
-        words: &["keys", "w8h5", SEED, IDENT],
-        input: b"",
-        status: Status::Done,
-        text: PUBLIC,
-    },
-    Case {
-        words: &["keys", "w4h5", SEED, IDENT],
-        input: b"unread",
-        status: Status::Done,
-        text: PUBLIC_W4,
-    },
+    (
+        "the public key of w8h5",
+        &["keys", "w8h5", SEED, IDENT],
+        b"",
+        Status::Done,
+        PUBLIC,
+    ),
+    (
+        "the public key of w4h5, with an input that isn't read",
+        &["keys", "w4h5", SEED, IDENT],
+        b"unread",
+        Status::Done,
+        PUBLIC_W4,
+    ),
 ];
 
 const SIGNATURES: &[Case] = &[
-    Case {
-        words: &["sign", "w8h5", SEED, IDENT, "0"],
-        input: b"",
-        status: Status::Done,
-        text: SIGNATURE,
-    },
-    Case {
-        words: &["verify", PUBLIC, SIGNATURE],
-        input: b"",
-        status: Status::Done,
-        text: "accepted",
-    },
-    Case {
-        words: &["verify", PUBLIC, ANOTHER],
-        input: b"",
-        status: Status::Done,
-        text: "accepted",
-    },
-    Case {
-        words: &["verify", PUBLIC, SIGNATURE],
-        input: b"x",
-        status: Status::Refused { reason: 6 },
-        text: "refused 6",
-    },
-    Case {
-        words: &["verify", "aa", "bb"],
-        input: b"",
-        status: Status::Refused { reason: 1 },
-        text: "refused 1",
-    },
-    Case {
-        words: &["verify", ZEROS, SIGNATURE],
-        input: b"",
-        status: Status::Refused { reason: 2 },
-        text: "refused 2",
-    },
-    Case {
-        words: &["verify", PUBLIC, PUBLIC],
-        input: b"",
-        status: Status::Refused { reason: 3 },
-        text: "refused 3",
-    },
+    (
+        "the empty message is signed with leaf 0",
+        &["sign", "w8h5", SEED, IDENT, "0"],
+        b"",
+        Status::Done,
+        SIGNATURE,
+    ),
+    (
+        "that signature is accepted",
+        &["verify", PUBLIC, SIGNATURE],
+        b"",
+        Status::Done,
+        "accepted",
+    ),
+    (
+        "one with another C is accepted too",
+        &["verify", PUBLIC, ANOTHER],
+        b"",
+        Status::Done,
+        "accepted",
+    ),
+    (
+        "it isn't one of another message",
+        &["verify", PUBLIC, SIGNATURE],
+        b"x",
+        Status::Refused { reason: 6 },
+        "refused 6",
+    ),
+    (
+        "the public key hasn't 56 bytes, nor the signature its number",
+        &["verify", "aa", "bb"],
+        b"",
+        Status::Refused { reason: 1 },
+        "refused 1",
+    ),
+    (
+        "the public key's types are those of no set",
+        &["verify", ZEROS, SIGNATURE],
+        b"",
+        Status::Refused { reason: 2 },
+        "refused 2",
+    ),
+    (
+        "the signature hasn't the number of bytes of the key's set",
+        &["verify", PUBLIC, PUBLIC],
+        b"",
+        Status::Refused { reason: 3 },
+        "refused 3",
+    ),
 ];
 
-/// Whether each command writes its text.
-fn each_writes(alloc: Global, cases: &[Case]) -> Result<bool, NoMemory> {
-    for case in cases {
-        if !writes(alloc, case.words, case.input, case.status, case.text)? {
-            return Ok(false);
-        }
+/// Each command ends so, and writes its text.
+fn are_written(rt: &impl Abort, alloc: Global, cases: &[Case]) -> Result<(), Fail> {
+    for &(shows, words, input, status, text) in cases {
+        assert!(rt; writes(alloc, words, input, status, text)?, "{shows}");
     }
-    Ok(true)
+    Ok(())
 }
 
 #[test]
 fn keys_are_made(rt: HostRuntime) -> Result<(), Fail> {
-    assert!(rt; each_writes(rt.alloc(), KEYS)?);
-    Ok(())
+    are_written(&rt, rt.alloc(), KEYS)
 }
 
 #[test]
 fn signatures_are_made_and_verified(rt: HostRuntime) -> Result<(), Fail> {
-    assert!(rt; each_writes(rt.alloc(), SIGNATURES)?);
-    Ok(())
+    are_written(&rt, rt.alloc(), SIGNATURES)
 }
 
 /// The signature of a message with leaf 31 of the key of w4h5, and a newline.
@@ -180,19 +187,38 @@ fn verified(alloc: Global, place: usize, digits: &str) -> Result<Answer, Fail> {
     Ok(answer(alloc, &words, &message)?)
 }
 
-const CHANGED: &[(usize, &str, Status, &[u8])] = &[
-    // the leaf stays 31
-    (0, "0000001f", Status::Done, b"accepted\n"),
-    // leaf 32
-    (0, "00000020", Status::Refused { reason: 5 }, b"refused 5\n"),
-    // another one-time type
-    (8, "00000004", Status::Refused { reason: 4 }, b"refused 4\n"),
+/// What a row shows, where the signature has other digits and which, how the call ends, and what it writes.
+type Changed = (&'static str, usize, &'static str, Status, &'static [u8]);
+
+const CHANGED: &[Changed] = &[
+    (
+        "the leaf stays 31",
+        0,
+        "0000001f",
+        Status::Done,
+        b"accepted\n",
+    ),
+    (
+        "there is no leaf 32",
+        0,
+        "00000020",
+        Status::Refused { reason: 5 },
+        b"refused 5\n",
+    ),
+    (
+        "the one-time type is another",
+        8,
+        "00000004",
+        Status::Refused { reason: 4 },
+        b"refused 4\n",
+    ),
 ];
 
 #[test]
 fn changed_signatures_are_refused(rt: HostRuntime) -> Result<(), Fail> {
-    for (place, digits, status, text) in CHANGED {
-        assert!(rt; is_answer(&verified(rt.alloc(), *place, digits)?, *status, text));
+    for &(shows, place, digits, status, text) in CHANGED {
+        let given = verified(rt.alloc(), place, digits)?;
+        assert!(rt; is_answer(&given, status, text), "{shows}");
     }
     Ok(())
 }
@@ -243,7 +269,10 @@ const OTHERS: &[&[&str]] = &[
 #[test]
 fn other_words_are_no_command(rt: HostRuntime) -> Result<(), Fail> {
     for words in OTHERS {
-        assert!(rt; writes(rt.alloc(), words, b"", Status::BadWords, "usage")?);
+        assert!(rt;
+            writes(rt.alloc(), words, b"", Status::BadWords, "usage")?,
+            "{words:?}"
+        );
     }
     Ok(())
 }
@@ -269,12 +298,32 @@ fn an_input_may_be_too_long(rt: HostRuntime) -> Result<(), Fail> {
     Ok(())
 }
 
-/// Words, the reads and writes that fail, and how the call ends.
-const FAULTS: &[(&[&str], &[u64], &[u64], Status)] = &[
-    (&["verify", PUBLIC, SIGNATURE], &[1], &[], Status::ReadFault),
-    // `keys` reads nothing
-    (&["keys", "w4h5", SEED, IDENT], &[1], &[], Status::Done),
+/// What a row shows, the words, the reads and writes that fail, and how the call ends.
+type Faulty = (
+    &'static str,
+    &'static [&'static str],
+    &'static [u64],
+    &'static [u64],
+    Status,
+);
+
+const FAULTS: &[Faulty] = &[
     (
+        "the read of a message fails",
+        &["verify", PUBLIC, SIGNATURE],
+        &[1],
+        &[],
+        Status::ReadFault,
+    ),
+    (
+        "keys reads nothing",
+        &["keys", "w4h5", SEED, IDENT],
+        &[1],
+        &[],
+        Status::Done,
+    ),
+    (
+        "a key isn't taken",
         &["keys", "w4h5", SEED, IDENT],
         &[],
         &[1],
@@ -284,9 +333,9 @@ const FAULTS: &[(&[&str], &[u64], &[u64], Status)] = &[
 
 #[test]
 fn faults_are_told(rt: HostRuntime) -> Result<(), Fail> {
-    for (words, failing_reads, failing_writes, status) in FAULTS {
+    for &(shows, words, failing_reads, failing_writes, status) in FAULTS {
         let given = run_words(rt.alloc(), words, b"", failing_reads, failing_writes)?;
-        assert!(rt; given.status == *status);
+        assert!(rt; given.status == status, "{shows}");
     }
     Ok(())
 }

@@ -1,12 +1,12 @@
-//! The limits on lines and on their number.
+//! The limits on lines and on their number, and on frames in them.
 
-use crate::support::{is_answer, replay, run_words};
+use crate::support::{HEADER, is_answer, joined, replay, run_words};
 use basil_cli::status::Status;
 use basil_types::memory::NoMemory;
+use schedule_text::reason::Reason;
 use std::alloc::{AllocError, Global};
+use std::process::Abort;
 use std::test::Fail;
-
-const HEADER: &[u8] = b"basil 1 f=0 shards=1 reads=1 delta=100 clock=50 keys=plain\n";
 
 /// A front, and then so many of one byte.
 fn followed(alloc: Global, front: &[u8], byte: u8, count: u32) -> Result<Vec<u8>, AllocError> {
@@ -45,8 +45,10 @@ fn ends_so(alloc: Global, schedule: &[u8], status: Status, text: &[u8]) -> Resul
 fn a_million_lines_and_one_more(rt: HostRuntime) -> Result<(), Fail> {
     let mut schedule = followed(rt.alloc(), HEADER, b'\n', 999_999)?;
     assert!(rt; ends_so(rt.alloc(), &schedule, Status::Done, b"end 0\n")?);
-    let (line, reason) = (1_000_001, 8);
-    let refused = Status::BadInput { line, reason };
+    let refused = Status::BadInput {
+        line: 1_000_001,
+        reason: Reason::OutOfSize,
+    };
     for _ in 0..2 {
         schedule.push(b'\n')?;
         assert!(rt; ends_so(rt.alloc(), &schedule, refused, b"line 1000001 reason 8\n")?);
@@ -72,53 +74,146 @@ fn one_transaction_more_than_a_pool_takes(rt: HostRuntime) -> Result<(), Fail> {
     Ok(())
 }
 
-/// A front, how many bytes follow, and what comes of it.
-struct Long {
-    front: &'static [u8],
-    count: u32,
-    status: Status,
-    text: &'static [u8],
-}
+/// What a row shows, a front, how many zeros follow, how the replay ends, and what it writes.
+type Long = (&'static str, &'static [u8], u32, Status, &'static [u8]);
 
 const LONG: &[Long] = &[
-    Long {
-        front: b"basil 1 f=0 shards=1 reads=1 delta=100 clock=50 keys=plain\n#",
-        count: 2_199_999,
-        status: Status::Done,
-        text: b"end 0\n",
-    },
-    Long {
-        front: b"basil 1 f=0 shards=1 reads=1 delta=100 clock=50 keys=plain\n#",
-        count: 2_200_000,
-        status: Status::BadInput { line: 2, reason: 8 },
-        text: b"line 2 reason 8\n",
-    },
-    Long {
-        front: b"#",
-        count: 2_200_000,
-        status: Status::BadInput { line: 1, reason: 8 },
-        text: b"line 1 reason 8\n",
-    },
-    Long {
-        front: b"basil",
-        count: 2_200_000,
-        status: Status::BadInput { line: 1, reason: 1 },
-        text: b"line 1 reason 1\n",
-    },
+    (
+        "a comment of 2,200,000 bytes is skipped",
+        b"basil 1 f=0 shards=1 reads=1 delta=100 clock=50 keys=plain\n#",
+        2_199_999,
+        Status::Done,
+        b"end 0\n",
+    ),
+    (
+        "one of a byte more is refused",
+        b"basil 1 f=0 shards=1 reads=1 delta=100 clock=50 keys=plain\n#",
+        2_200_000,
+        Status::BadInput {
+            line: 2,
+            reason: Reason::OutOfSize,
+        },
+        b"line 2 reason 8\n",
+    ),
+    (
+        "so it is before the header",
+        b"#",
+        2_200_000,
+        Status::BadInput {
+            line: 1,
+            reason: Reason::OutOfSize,
+        },
+        b"line 1 reason 8\n",
+    ),
+    (
+        "in the header's place another line of that length has reason 1",
+        b"basil",
+        2_200_000,
+        Status::BadInput {
+            line: 1,
+            reason: Reason::NoHeader,
+        },
+        b"line 1 reason 1\n",
+    ),
 ];
 
-/// Whether a long schedule's replay ends as it is told.
-fn long_ends_so(alloc: Global, case: &Long) -> Result<bool, NoMemory> {
-    let schedule = followed(alloc, case.front, b'x', case.count)?;
-    ends_so(alloc, &schedule, case.status, case.text)
+/// Lines behind a header, with a frame in hex. A frame has at most 1,048,576 bytes, which are 2,097,152 digits.
+const FRAMES: &[Long] = &[
+    (
+        "the longest frame enters the pool",
+        b"raw client 1 client 2 ",
+        2_097_152,
+        Status::Done,
+        b"end 1\n",
+    ),
+    (
+        "one of a byte more is refused",
+        b"raw client 1 client 2 ",
+        2_097_154,
+        Status::BadInput {
+            line: 2,
+            reason: Reason::OutOfSize,
+        },
+        b"line 2 reason 8\n",
+    ),
+    (
+        "client 17, who nobody is, comes first",
+        b"raw client 1 client 17 ",
+        2_097_154,
+        Status::BadInput {
+            line: 2,
+            reason: Reason::OutOfRange,
+        },
+        b"line 2 reason 3\n",
+    ),
+    (
+        "an odd number of digits comes first",
+        b"raw client 1 client 2 ",
+        2_097_153,
+        Status::BadInput {
+            line: 2,
+            reason: Reason::Misspelt,
+        },
+        b"line 2 reason 2\n",
+    ),
+    (
+        "the longest frame is shown",
+        b"show ",
+        2_097_152,
+        Status::Done,
+        b"end 0\n",
+    ),
+    (
+        "one of a byte more is refused there too",
+        b"show ",
+        2_097_154,
+        Status::BadInput {
+            line: 2,
+            reason: Reason::OutOfSize,
+        },
+        b"line 2 reason 8\n",
+    ),
+    (
+        "what is left of a journal's write has no such limit, so that the message is missed first",
+        b"stop 0 0 1 1 ",
+        2_097_154,
+        Status::BadInput {
+            line: 2,
+            reason: Reason::NoMessage,
+        },
+        b"line 2 reason 7\n",
+    ),
+];
+
+/// Whether the replay of a header and a long line ends as it is told.
+fn long_ends_so(alloc: Global, header: &'static [u8], row: &Long) -> Result<bool, NoMemory> {
+    let (_shows, front, count, status, text) = *row;
+    let before = joined(alloc, &[header, front])?;
+    let schedule = followed(alloc, &before, b'0', count)?;
+    ends_so(alloc, &schedule, status, text)
+}
+
+/// So it is of each row.
+fn long_ones_end_so(
+    rt: &impl Abort,
+    alloc: Global,
+    header: &'static [u8],
+    rows: &[Long],
+) -> Result<(), Fail> {
+    for row in rows {
+        assert!(rt; long_ends_so(alloc, header, row)?, "{}", row.0);
+    }
+    Ok(())
 }
 
 #[test]
 fn a_line_above_the_limit(rt: HostRuntime) -> Result<(), Fail> {
-    for case in LONG {
-        assert!(rt; long_ends_so(rt.alloc(), case)?);
-    }
-    Ok(())
+    long_ones_end_so(&rt, rt.alloc(), b"", LONG)
+}
+
+#[test]
+fn a_frame_above_the_limit(rt: HostRuntime) -> Result<(), Fail> {
+    long_ones_end_so(&rt, rt.alloc(), HEADER, FRAMES)
 }
 
 /// Reads of 1,000 bytes each, the last of which is needed.
@@ -133,7 +228,13 @@ fn ended_by(alloc: Global, failing: u64) -> Result<Status, NoMemory> {
 
 #[test]
 fn a_line_past_its_length_is_read_no_further(rt: HostRuntime) -> Result<(), Fail> {
-    assert!(rt; ended_by(rt.alloc(), NEEDED + 1)? == Status::BadInput { line: 2, reason: 8 });
+    assert!(rt;
+        ended_by(rt.alloc(), NEEDED + 1)?
+            == Status::BadInput {
+                line: 2,
+                reason: Reason::OutOfSize
+            }
+    );
     assert!(rt; ended_by(rt.alloc(), NEEDED)? == Status::ReadFault);
     Ok(())
 }

@@ -9,11 +9,20 @@ use basil_types::sink::MemSink;
 use basil_types::source::MemSource;
 use std::alloc::Global;
 
+/// The header of one replica, the first line where a row begins with the second one.
+pub(crate) const HEADER: &[u8] = b"basil 1 f=0 shards=1 reads=1 delta=100 clock=50 keys=plain\n";
+
 /// What a call ended with, and what it wrote.
 #[derive(Drop)]
 pub(crate) struct Answer {
     pub status: Status,
     pub text: Vec<u8>,
+}
+
+/// A status, and a copy of a text.
+fn answer_of(alloc: Global, status: Status, text: &[u8]) -> Result<Answer, NoMemory> {
+    let text = Vec::from_slice(alloc, text)?;
+    Ok(Answer { status, text })
 }
 
 /// The command words.
@@ -23,6 +32,19 @@ fn given_words(alloc: Global, words: &[&str]) -> Result<Vec<String>, NoMemory> {
         given.push(String::from_str(alloc, word)?)?;
     }
     Ok(given)
+}
+
+/// Runs command words over a source, a sink and links. All that is owned here is let go in one place.
+fn run_owned<L: Links>(
+    alloc: Global,
+    given: &[String],
+    mut source: MemSource,
+    mut sink: MemSink,
+    links: &mut L,
+) -> Result<Answer, NoMemory> {
+    let mut clock = MemClock::new(Vec::new(alloc));
+    let status = run(alloc, given, &mut source, &mut sink, links, &mut clock);
+    answer_of(alloc, status, sink.bytes())
 }
 
 /// Runs one command word, and more where given, over a source that gives these bytes in pieces, and over these links;
@@ -37,12 +59,11 @@ fn run_over<L: Links>(
 ) -> Result<Answer, NoMemory> {
     let given = given_words(alloc, words)?;
     let bytes = Vec::from_slice(alloc, input)?;
-    let mut source = MemSource::new(bytes, 1000, Vec::from_slice(alloc, failing_reads)?);
-    let mut sink = MemSink::new(alloc, 100_000, Vec::from_slice(alloc, failing_writes)?)?;
-    let mut clock = MemClock::new(Vec::new(alloc));
-    let status = run(alloc, &given, &mut source, &mut sink, links, &mut clock);
-    let text = Vec::from_slice(alloc, sink.bytes())?;
-    Ok(Answer { status, text })
+    let failing_reads = Vec::from_slice(alloc, failing_reads)?;
+    let failing_writes = Vec::from_slice(alloc, failing_writes)?;
+    let sink = MemSink::new(alloc, 100_000, failing_writes)?;
+    let source = MemSource::new(bytes, 1000, failing_reads);
+    run_owned(alloc, &given, source, sink, links)
 }
 
 /// The same over links that never fail.
@@ -94,4 +115,42 @@ pub(crate) fn replay(alloc: Global, schedule: &[u8]) -> Result<Answer, NoMemory>
 /// Whether a call ended so, and wrote this text.
 pub(crate) fn is_answer(given: &Answer, status: Status, text: &[u8]) -> bool {
     given.status == status && given.text.as_slice() == text
+}
+
+/// Whether a call refused this line of its input for the reason of this number, and wrote that and nothing else.
+pub(crate) fn is_bad_input(
+    alloc: Global,
+    given: &Answer,
+    line: u64,
+    reason: u8,
+) -> Result<bool, NoMemory> {
+    let text = format!(in alloc; "line {line} reason {reason}\n")?;
+    let is_refused = match given.status {
+        Status::BadInput {
+            line: place,
+            reason: why,
+        } => place == line && why.number() == reason,
+        _ => false,
+    };
+    Ok(is_refused && given.text.as_slice() == text.as_bytes())
+}
+
+/// Whether the replay of a schedule ends at this line, for this reason, and writes that and nothing else.
+pub(crate) fn is_refused(
+    alloc: Global,
+    schedule: &[u8],
+    line: u64,
+    reason: u8,
+) -> Result<bool, NoMemory> {
+    let given = replay(alloc, schedule)?;
+    is_bad_input(alloc, &given, line, reason)
+}
+
+/// One text behind the other.
+pub(crate) fn joined(alloc: Global, texts: &[&[u8]]) -> Result<Vec<u8>, NoMemory> {
+    let mut whole = Vec::new(alloc);
+    for text in texts {
+        whole.extend_from_slice(text)?;
+    }
+    Ok(whole)
 }

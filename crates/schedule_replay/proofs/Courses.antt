@@ -11,6 +11,7 @@ use Rattle.cluster_run.specs.declared.fault.WorldFault.{WorldFault}
 use Rattle.cluster_run.specs.declared.fault.WorldFault.TheVariants as world
 use Rattle.node_steps.specs.Refusing.{unless_refused}
 use Rattle.schedule_text.specs.declared.line.Line.{Line}
+use Rattle.schedule_text.specs.declared.reason.Reason.{Reason}
 use Rattle.schedule_replay.proofs.Deliveries.{IsHanded, delivered}
 use Rattle.schedule_replay.specs.Events.{deliver, deliver_all, frame_at, line_does, round_of, waiting}
 use Rattle.schedule_replay.specs.Lines.{answered, line_step, names_after}
@@ -200,7 +201,7 @@ line_done r line number mid new road none does names world cluster = let after =
 )
 
 -- a line that a reason refuses
-pub line_refused : (r : ReplayValue) (line : Line) (number reason : ℕ) (course : Course) (road : Road) → reason_of r line ≡ Some reason →
+pub line_refused : (r : ReplayValue) (line : Line) (number : ℕ) (reason : Reason) (course : Course) (road : Road) → reason_of r line ≡ Some reason →
     Stands course r → Did (round_of r line) (line_step r line number) r course (Err (BadInput number reason)) road
 line_refused r line number reason course road is stands =
     (ap (λ o. unless_refused (option_map (BadInput number) o) (answered line number (line_does r line))) is, stands)

@@ -12,6 +12,7 @@ use Rattle.node_steps.specs.Refusing.{unless_refused}
 use Rattle.premise_watch.specs.declared.broken.Broken.{Broken}
 use Rattle.schedule_text.specs.Fitting.{Fits}
 use Rattle.schedule_text.specs.declared.line.Line.{Line}
+use Rattle.schedule_text.specs.declared.reason.Reason.{Reason}
 use Rattle.schedule_text.specs.declared.line.Line.TheVariants.{Round}
 use Rattle.schedule_replay.proofs.Fitting.{event_fits}
 use Rattle.schedule_replay.proofs.Running.{Goes, between, goes_on, one_breaks, one_goes}
@@ -122,12 +123,12 @@ does_break r line b f h =
 
 -- ---- no reason holds
 
-not_refused : (number : ℕ) (o : Option ℕ) (a : Result ReplayValue ReplayFault) (r : ReplayValue) →
+not_refused : (number : ℕ) (o : Option Reason) (a : Result ReplayValue ReplayFault) (r : ReplayValue) →
     unless_refused (option_map (fault.BadInput number) o) a ≡ Ok r → a ≡ Ok r
 not_refused number None a r h = h
 not_refused number (Some reason) a r h = absurd cc
 
-not_bad : (number : ℕ) (o : Option ℕ) (a : Result ReplayValue ReplayFault) (b : Broken) →
+not_bad : (number : ℕ) (o : Option Reason) (a : Result ReplayValue ReplayFault) (b : Broken) →
     unless_refused (option_map (fault.BadInput number) o) a ≡ Err (fault.Broken b) → a ≡ Err (fault.Broken b)
 not_bad number None a b h = h
 not_bad number (Some reason) a b h = absurd cc

@@ -38,6 +38,8 @@ use Rattle.schedule_replay.specs.Outcomes.{replay_on}
 use Rattle.schedule_replay.specs.Replays.{Opening, ReplayValue, first_replay}
 use Rattle.schedule_replay.specs.Reports.{report}
 use Rattle.schedule_replay.specs.Roads.{Road}
+use Rattle.schedule_text.specs.declared.reason.Reason.{Reason}
+use Rattle.schedule_text.specs.declared.reason.Reason.TheVariants.{OutOfRange, CannotBeFaulty}
 use Rattle.schedule_replay.specs.Stages.{Stage, Begins, Opens, Runs, opened, first_line, bad_first, faulty_reason, opening_line, read_line, stage_step, run_lines, ended}
 use Rattle.schedule_replay.specs.declared.fault.ReplayFault.{ReplayFault}
 use Rattle.schedule_replay.specs.declared.fault.ReplayFault.TheVariants as fault
@@ -128,7 +130,7 @@ module _ (laws : Laws) where
       can_join c.f faulty party ≡ true
   may_join c faulty party h = by (not (is_party_of c party)) (can_join c.f faulty party) h
     where
-      by : (a b : Bool) → or_else {A = ℕ} (when a 3) (when (not b) 5) ≡ None → b ≡ true
+      by : (a b : Bool) → or_else {A = Reason} (when a OutOfRange) (when (not b) CannotBeFaulty) ≡ None → b ≡ true
       by true b h = absurd cc
       by false true h = refl
       by false false h = absurd cc
@@ -138,7 +140,7 @@ module _ (laws : Laws) where
       IsStage stage
   joins o faulty road number party stage i h = by (faulty_reason o.cluster faulty party) refl h
     where
-      by : (reason : Option ℕ) → faulty_reason o.cluster faulty party ≡ reason →
+      by : (reason : Option Reason) → faulty_reason o.cluster faulty party ≡ reason →
           unless (option_map (fault.BadInput number) reason) (Opens o (faulty ++ party ∷ []) road) ≡ Ok stage → IsStage stage
       by None e h =
           let same : Opens o (faulty ++ party ∷ []) road ≡ stage = cc in
@@ -233,7 +235,7 @@ module _ (laws : Laws) where
   bad_line_breaks line number (line_fault.BadLine n reason) b h = absurd cc
   bad_line_breaks line number line_fault.NoMemory b h = absurd cc
 
-  joins_break : {A : Type 0} (number : ℕ) (reason : Option ℕ) (stage : Stage) (b : Broken) →
+  joins_break : {A : Type 0} (number : ℕ) (reason : Option Reason) (stage : Stage) (b : Broken) →
       unless (option_map (fault.BadInput number) reason) stage ≡ Err (fault.Broken b) → A
   joins_break number None stage b h = absurd cc
   joins_break number (Some reason) stage b h = absurd cc

@@ -31,6 +31,7 @@ use Rattle.schedule_replay.specs.Replays.{Opening, ReplayValue, along, first_rep
 use Rattle.schedule_replay.specs.Roads.{Road}
 use Rattle.schedule_replay.specs.Schedules.{Ends, IsAt, Joins, Took}
 use Rattle.schedule_replay.specs.Shown.{Did, Stands, opening_of}
+use Rattle.schedule_text.specs.declared.reason.Reason.{Reason}
 use Rattle.schedule_replay.specs.Stages.{AreParties, Stage, Begins, Opens, Runs, ended, first_line, on_road, opened, faulty_reason, opening_line, read_line, stage_step}
 use Rattle.schedule_replay.specs.declared.course.Course.{Course}
 use Rattle.schedule_replay.specs.declared.fault.ReplayFault.{ReplayFault}
@@ -103,7 +104,7 @@ with_kit road number o journal keys h k = kit_opens road number o.cluster o.cloc
 -- ---- a faulty party
 
 party_line : (o : Opening) (faulty : List Party) (road : Road) (number : ℕ) (line : Line) (party : Party)
-    (reason : Option ℕ) → line ≡ Faulty party →
+    (reason : Option Reason) → line ≡ Faulty party →
     faulty_reason o.cluster faulty party ≡ reason →
     opening_line o faulty road number line ≡ unless (option_map (BadInput number) reason) (Opens o (faulty ++ party ∷ []) road)
 party_line o faulty road number line party reason is h =
@@ -208,7 +209,7 @@ at_road (schedules.Runs replay) (Runs r) road at = record { cluster = at.cluster
 abbrev refuses : ReplayFault → Result Stage ReplayFault
 refuses f = Err f
 
-refused_by : (should : Result Stage ReplayFault) (road : Road) (n reason : ℕ) (f : ReplayFault) → should ≡ Err (BadInput n reason) →
+refused_by : (should : Result Stage ReplayFault) (road : Road) (n : ℕ) (reason : Reason) (f : ReplayFault) → should ≡ Err (BadInput n reason) →
     refuses (BadInput n reason) ≡ refuses f → Took (Err f) should road
 refused_by should road n reason f is h =
     let same : BadInput n reason ≡ f = cc in subst (λ x. Took (Err x) should road) same is

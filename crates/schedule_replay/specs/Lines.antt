@@ -9,6 +9,8 @@ use Rattle.schedule_text.specs.declared.line.Line.{Line}
 use Rattle.schedule_text.specs.declared.line.Line.TheVariants.{Begin, Read}
 use Rattle.schedule_text.specs.declared.line.LineFault.{LineFault}
 use Rattle.schedule_text.specs.declared.line.LineFault.TheVariants as line_fault
+use Rattle.schedule_text.specs.declared.reason.Reason.{Reason}
+use Rattle.schedule_text.specs.declared.reason.Reason.TheVariants.{Misspelt, RefusedCall}
 use Rattle.schedule_replay.specs.Events.{line_does}
 use Rattle.schedule_replay.specs.Names.{with_name, with_key}
 use Rattle.schedule_replay.specs.Reasons.{reason_of}
@@ -27,8 +29,8 @@ abbrev pub answered : Line → (number : ℕ) → Result ReplayValue WorldFault 
 answered line number (Ok r) = Ok (record r { names = names_after line r.names })
 answered line number (Err (world.Broken b)) = Err (Broken b)
 answered line number (Err (world.PoolFull messages bytes)) = Err (Full messages bytes)
-answered line number (Err (world.Call f)) = Err (BadInput number 9)
-answered line number (Err (world.Exhausted party)) = Err (BadInput number 9)
+answered line number (Err (world.Call f)) = Err (BadInput number RefusedCall)
+answered line number (Err (world.Exhausted party)) = Err (BadInput number RefusedCall)
 
 -- its reasons are tested before its events
 abbrev pub line_step : ReplayValue → Line → (number : ℕ) → Result ReplayValue ReplayFault
@@ -36,8 +38,8 @@ line_step r line number =
     unless_refused (option_map (BadInput number) (reason_of r line)) (answered line number (line_does r line))
 
 -- a later header is reason 2 for anything, unless it is too long
-abbrev pub later_reason : List ℕ → ℕ → ℕ
-later_reason line reason = if nat_le (length line) longest_line && is_header line then 2 else reason
+abbrev pub later_reason : List ℕ → Reason → Reason
+later_reason line reason = if nat_le (length line) longest_line && is_header line then Misspelt else reason
 
 -- why a line says nothing
 abbrev pub bad_line : List ℕ → (number : ℕ) → LineFault → ReplayFault

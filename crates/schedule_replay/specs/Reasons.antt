@@ -10,6 +10,8 @@ use Rattle.quorum_laws.specs.Numbers.{replicas}
 use Rattle.schedule_text.specs.declared.line.Line.{Line}
 use Rattle.schedule_text.specs.declared.line.Line.TheVariants.{Header, Faulty, Begin, Read, Write, Delete, Claim, Prepare, Settle, Recover, Invoke}
 use Rattle.schedule_text.specs.declared.line.Line.TheVariants.{Deliver, Lose, Divert, Clock, Vote, Second, Logged, Elect, Decide, Raw, Stop}
+use Rattle.schedule_text.specs.declared.reason.Reason.{Reason}
+use Rattle.schedule_text.specs.declared.reason.Reason.TheVariants.{Misspelt, OutOfRange, WrongName, CannotBeFaulty, WrongParty, NoMessage, NoJournal}
 use Rattle.schedule_replay.specs.Names.{is_begun, is_formed, is_by_faulty}
 use Rattle.schedule_replay.specs.Replays.{ReplayValue}
 
@@ -92,11 +94,11 @@ is_stop (Stop shard replica message write bytes) = true
 is_stop _ = false
 
 -- the first reason that holds
-abbrev pub reason_of : ReplayValue → Line → Option ℕ
+abbrev pub reason_of : ReplayValue → Line → Option Reason
 reason_of r line =
-    or_else (when (is_late_header line) 2)
-    (or_else (when (is_outside r.setup.cluster line) 3)
-    (or_else (when (misnames r line) 4)
-    (or_else (when (is_late_faulty line) 5)
-    (or_else (when (is_of_others r line) 6)
-    (or_else (when (misses r.state line) 7) (when (is_stop line) 11))))))
+    or_else (when (is_late_header line) Misspelt)
+    (or_else (when (is_outside r.setup.cluster line) OutOfRange)
+    (or_else (when (misnames r line) WrongName)
+    (or_else (when (is_late_faulty line) CannotBeFaulty)
+    (or_else (when (is_of_others r line) WrongParty)
+    (or_else (when (misses r.state line) NoMessage) (when (is_stop line) NoJournal))))))

@@ -2,6 +2,7 @@
 use Rattle.std.specs.Prelude.{◌≡◌, ℕ, List, [], ◌∷◌, ◌++◌, Bool, false, ⊤, Option, Some, None, Result, Ok, Err}
 use Rattle.basil_types.specs.Links.{LinkState}
 use Rattle.basil_types.specs.declared.party.Party.{Party}
+use Rattle.schedule_text.specs.declared.reason.Reason.{Reason}
 use Rattle.schedule_replay.specs.declared.fault.ReplayFault.{ReplayFault}
 use Rattle.schedule_replay.specs.declared.fault.ReplayFault.TheVariants.{BadInput, Broken, Full, LinkFault, WriteFault, NoMemory}
 use Rattle.schedule_replay.specs.declared.replay.Replay.{Replay}
@@ -62,5 +63,5 @@ Joins old new number party (Ok done) =
     (faulty_reason old.opening.cluster old.faulty.value party ≡ None)
     × (new.faulty.value ≡ old.faulty.value ++ party ∷ []) × (new.opening ≡ old.opening)
 Joins old new number party (Err fault) =
-    (reason : ℕ) × (faulty_reason old.opening.cluster old.faulty.value party ≡ Some reason)
+    (reason : Reason) × (faulty_reason old.opening.cluster old.faulty.value party ≡ Some reason)
     × (fault ≡ BadInput number reason)

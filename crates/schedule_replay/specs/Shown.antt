@@ -10,6 +10,7 @@ use Rattle.cluster_world.specs.Shows.{Shows}
 use Rattle.replay_kit.specs.Values.{replay_value}
 use Rattle.schedule_text.specs.declared.line.Line.{Line}
 use Rattle.schedule_text.specs.declared.line.Line.TheVariants.{Begin}
+use Rattle.schedule_text.specs.declared.reason.Reason.TheVariants.{RefusedCall}
 use Rattle.schedule_replay.specs.declared.course.Course.{Course}
 use Rattle.schedule_replay.specs.declared.fault.Halt.{Halt}
 use Rattle.schedule_replay.specs.declared.fault.Halt.TheVariants as halt
@@ -108,8 +109,8 @@ CanName names _ = ⊤
 abbrev pub fault_by : (number : ℕ) → Halt → ReplayFault
 fault_by number (halt.World (world.Broken b)) = Broken b
 fault_by number (halt.World (world.PoolFull messages bytes)) = Full messages bytes
-fault_by number (halt.World (world.Call f)) = BadInput number 9
-fault_by number (halt.World (world.Exhausted party)) = BadInput number 9
+fault_by number (halt.World (world.Call f)) = BadInput number RefusedCall
+fault_by number (halt.World (world.Exhausted party)) = BadInput number RefusedCall
 fault_by number halt.Link = LinkFault
 fault_by number halt.NoMemory = NoMemory
 

@@ -13,6 +13,8 @@ use Rattle.schedule_text.specs.declared.line.Line.{Line}
 use Rattle.schedule_text.specs.declared.line.Line.TheVariants.{Header, Skipped, Faulty}
 use Rattle.schedule_text.specs.declared.line.LineFault.{LineFault}
 use Rattle.schedule_text.specs.declared.line.LineFault.TheVariants as line_fault
+use Rattle.schedule_text.specs.declared.reason.Reason.{Reason}
+use Rattle.schedule_text.specs.declared.reason.Reason.TheVariants.{NoHeader, OutOfRange, CannotBeFaulty, NotBuilt}
 use Rattle.schedule_replay.specs.Kits.{kit_of}
 use Rattle.schedule_replay.specs.Lines.{line_step, bad_line}
 use Rattle.schedule_replay.specs.Replays.{Opening, ReplayValue, along, first_replay}
@@ -46,19 +48,19 @@ on_road road (Runs r) = Runs (along road r)
 -- a journal, and keys without a kit, are reason 10
 abbrev pub opened : Road → (number : ℕ) → Setting → (clock : ℕ) → (journal : Bool) → Option KitValue →
     Result Stage ReplayFault
-opened road number c clock true kit = Err (BadInput number 10)
-opened road number c clock false None = Err (BadInput number 10)
+opened road number c clock true kit = Err (BadInput number NotBuilt)
+opened road number c clock false None = Err (BadInput number NotBuilt)
 opened road number c clock false (Some kit) = Ok (Opens (record { cluster = c; clock = clock; kit = kit }) [] road)
 
 abbrev pub first_line : Road → (number : ℕ) → Line → Result Stage ReplayFault
 first_line road number (Header cluster clock keys journal) =
     opened road number cluster clock journal (kit_of cluster keys)
 first_line road number Skipped = Ok (Begins road)
-first_line road number _ = Err (BadInput number 1)
+first_line road number _ = Err (BadInput number NoHeader)
 
 -- the first line that isn't skipped is reason 1 where it is refused for anything
 abbrev pub bad_first : List ℕ → (number : ℕ) → LineFault → ReplayFault
-bad_first line number (line_fault.BadLine n reason) = BadInput number (if is_skipped line then reason else 1)
+bad_first line number (line_fault.BadLine n reason) = BadInput number (if is_skipped line then reason else NoHeader)
 bad_first line number line_fault.NoMemory = NoMemory
 
 -- ---- faulty parties
@@ -68,9 +70,9 @@ abbrev pub AreParties : Setting → List Party → Type 0
 AreParties c parties = (p : Party) → is_among parties p ≡ true → is_party_of c p ≡ true
 
 -- a party that isn't one of the cluster, or is named twice, or would be one too many of its shard
-abbrev pub faulty_reason : Setting → List Party → Party → Option ℕ
+abbrev pub faulty_reason : Setting → List Party → Party → Option Reason
 faulty_reason c faulty party =
-    or_else (when (not (is_party_of c party)) 3) (when (not (can_join c.f faulty party)) 5)
+    or_else (when (not (is_party_of c party)) OutOfRange) (when (not (can_join c.f faulty party)) CannotBeFaulty)
 
 abbrev pub opening_line : Opening → List Party → Road → (number : ℕ) → Line → Result Stage ReplayFault
 opening_line o faulty road number (Faulty party) =
@@ -99,6 +101,6 @@ run_lines (line ∷ lines) number stage = stage_step stage line number >>= run_l
 
 -- behind the last line; a schedule without a header is refused at line 1
 abbrev pub ended : Stage → Result ReplayValue ReplayFault
-ended (Begins road) = Err (BadInput 1 1)
+ended (Begins road) = Err (BadInput 1 NoHeader)
 ended (Opens o faulty road) = Ok (first_replay o faulty road)
 ended (Runs r) = Ok r

@@ -26,6 +26,7 @@ use cluster_world::fault::StepFault;
 use cluster_world::world::World;
 use replay_kit::ReplayKit;
 use schedule_text::line::Line;
+use schedule_text::reason::Reason;
 use std::alloc::Global;
 
 /// A world, and the names of its transactions.
@@ -48,11 +49,11 @@ fn fault_of(halt: Halt, number: u64) -> ReplayFault
         }
         Halt::World(WorldFault::Call(_)) => ReplayFault::BadInput {
             line: number,
-            reason: 9,
+            reason: Reason::RefusedCall,
         },
         Halt::World(WorldFault::Exhausted { .. }) => ReplayFault::BadInput {
             line: number,
-            reason: 9,
+            reason: Reason::RefusedCall,
         },
         Halt::Link => ReplayFault::LinkFault,
         Halt::NoMemory => ReplayFault::NoMemory,

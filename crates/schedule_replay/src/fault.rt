@@ -4,13 +4,14 @@ use basil_types::memory::NoMemory;
 use cluster_run::fault::WorldFault;
 use cluster_world::fault::StepFault;
 use premise_watch::broken::Broken;
+use schedule_text::reason::Reason;
 use std::alloc::AllocFailed;
 
 /// Why a schedule has no report.
 #[derive(Debug, Drop)]
 pub enum ReplayFault {
     /// The line of this number, from 1, is refused for this reason, by the table of `docs/formats.md`.
-    BadInput { line: u64, reason: u8 },
+    BadInput { line: u64, reason: Reason },
     /// A premise of the run is broken.
     Broken(Broken),
     /// The messages of an event would pass a limit of the pool, which holds so many messages and bytes.

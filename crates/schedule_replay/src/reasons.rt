@@ -15,6 +15,7 @@ use basil_types::cluster::Cluster;
 use basil_types::party::Party;
 use replay_kit::has_party;
 use schedule_text::line::Line;
+use schedule_text::reason::Reason;
 
 /// Reason 2: a header that isn't the first.
 fn is_late_header(line: &Line) -> bool
@@ -190,24 +191,24 @@ impl Course {
     }
 
     /// The first reason why a line is refused before its events, if there is one.
-    pub(crate) fn reason_of(&self, line: &Line) -> Option<u8>
+    pub(crate) fn reason_of(&self, line: &Line) -> Option<Reason>
         ensures exact { (r : ReplayValue) → Stands self.now r → result ≡ reasons.reason_of r line.now }
         ensures names { result ≡ None → CanName self.now.names line.now }
     {
         if is_late_header(line) {
-            Some(2)
+            Some(Reason::Misspelt)
         } else if is_outside(&self.cluster, line) {
-            Some(3)
+            Some(Reason::OutOfRange)
         } else if self.misnames(line) {
-            Some(4)
+            Some(Reason::WrongName)
         } else if is_late_faulty(line) {
-            Some(5)
+            Some(Reason::CannotBeFaulty)
         } else if self.is_of_others(line) {
-            Some(6)
+            Some(Reason::WrongParty)
         } else if self.misses(line) {
-            Some(7)
+            Some(Reason::NoMessage)
         } else if is_stop(line) {
-            Some(11)
+            Some(Reason::NoJournal)
         } else {
             None
         }

@@ -22,6 +22,7 @@ use replay_kit::{KitKind, has_party};
 use schedule_text::laws::grammar_is_read;
 use schedule_text::line::{KeysKind, Line, LineFault};
 use schedule_text::reading::{LONGEST_LINE, is_header, is_skipped, read_line};
+use schedule_text::reason::Reason;
 use std::alloc::Global;
 
 /// What a header opens, and the faulty parties that lines have named since: of the cluster, at most f replicas of each
@@ -53,18 +54,22 @@ fn bad_first(line: &[u8], number: u64, fault: LineFault) -> ReplayFault
     match fault {
         LineFault::BadLine { reason, .. } => ReplayFault::BadInput {
             line: number,
-            reason: if is_skipped(line) { reason } else { 1 },
+            reason: if is_skipped(line) {
+                reason
+            } else {
+                Reason::NoHeader
+            },
         },
         LineFault::NoMemory => ReplayFault::NoMemory,
     }
 }
 
 /// A later header is reason 2 for anything, unless it is too long.
-fn later_reason(line: &[u8], reason: u8) -> u8
+fn later_reason(line: &[u8], reason: Reason) -> Reason
     ensures { result ≡ lines.later_reason line.now reason }
 {
     if line.len() <= LONGEST_LINE && is_header(line) {
-        2
+        Reason::Misspelt
     } else {
         reason
     }
@@ -95,13 +100,13 @@ impl Opened {
         if !has_party(&self.opening.cluster, party) {
             return Err(ReplayFault::BadInput {
                 line: number,
-                reason: 3,
+                reason: Reason::OutOfRange,
             });
         }
         if !self.faulty.add(party, &self.opening.cluster) {
             return Err(ReplayFault::BadInput {
                 line: number,
-                reason: 5,
+                reason: Reason::CannotBeFaulty,
             });
         }
         Ok(())
@@ -171,7 +176,7 @@ impl Schedule {
             Took result (stages.opened road number cluster clock journal (kit_of cluster keys)) road }
         ensures unlinked { is_link_fault result ≡ false }
     {
-        let reason = 10;
+        let reason = Reason::NotBuilt;
         let line = number;
         if journal {
             return Err(ReplayFault::BadInput { line, reason });
@@ -203,7 +208,7 @@ impl Schedule {
             Line::Skipped => Ok(Schedule::Begins),
             _ => Err(ReplayFault::BadInput {
                 line: number,
-                reason: 1,
+                reason: Reason::NoHeader,
             }),
         }
     }
@@ -278,7 +283,10 @@ impl Schedule {
         ensures going { IfOk result (λ replay. replay.ended ≡ false) }
     {
         match self {
-            Schedule::Begins => Err(ReplayFault::BadInput { line: 1, reason: 1 }),
+            Schedule::Begins => Err(ReplayFault::BadInput {
+                line: 1,
+                reason: Reason::NoHeader,
+            }),
             Schedule::Opens(opened) => {
                 let replay = opened.run(alloc)?;
                 Ok(replay)

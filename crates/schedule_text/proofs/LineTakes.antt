@@ -17,6 +17,7 @@ use Rattle.schedule_text.specs.Lines.{line_of}
 use Rattle.schedule_text.specs.Spelling.{spelling, line_words}
 use Rattle.schedule_text.specs.declared.line.LineFault.{LineFault}
 use Rattle.schedule_text.specs.declared.line.LineFault.TheVariants.{BadLine}
+use Rattle.schedule_text.specs.declared.reason.Reason.TheVariants as reasons
 use Rattle.schedule_text.specs.Limits.{longest_line, most_lines}
 use Rattle.schedule_text.specs.Reading.{said, of_kind, is_skipped, line_value, line_at, answered, numbered}
 use Rattle.schedule_text.specs.Fitting.{Says, GrammarIsRead, OneValue}
@@ -178,7 +179,7 @@ unfolding line_at
 read-says line number v h = tested (nat_lt longest_line (length line)) refl h
   where
     tested : (q : Bool) → nat_lt longest_line (length line) ≡ q
-        → (if q then Err (BadLine number 8) else answered number (numbered number (line_value line))) ≡ Ok v
+        → (if q then Err (BadLine number reasons.OutOfSize) else answered number (numbered number (line_value line))) ≡ Ok v
         → Says line v × (length line ≤ longest_line) × (number ≤ most_lines)
     tested true i h = cc h
     tested false i h =

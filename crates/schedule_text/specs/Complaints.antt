@@ -2,17 +2,33 @@
 use Rattle.std.specs.Prelude.{ℕ, Result, Ok, Err, nat_le, if◌then◌else◌}
 use Rattle.schedule_text.specs.declared.complaint.Complaint.{Complaint}
 use Rattle.schedule_text.specs.declared.complaint.Complaint.TheVariants.{Refused, Misspelt, OutOfRange, OutOfSize}
+use Rattle.schedule_text.specs.declared.reason.Reason.{Reason}
+use Rattle.schedule_text.specs.declared.reason.Reason.TheVariants as reasons
 
--- the number of a complaint's reason
-abbrev pub reason_of : Complaint → ℕ
-reason_of Refused = 1
-reason_of Misspelt = 2
-reason_of OutOfRange = 3
-reason_of OutOfSize = 8
+-- the number of a reason
+abbrev pub reason_number : Reason → ℕ
+reason_number reasons.NoHeader = 1
+reason_number reasons.Misspelt = 2
+reason_number reasons.OutOfRange = 3
+reason_number reasons.WrongName = 4
+reason_number reasons.CannotBeFaulty = 5
+reason_number reasons.WrongParty = 6
+reason_number reasons.NoMessage = 7
+reason_number reasons.OutOfSize = 8
+reason_number reasons.RefusedCall = 9
+reason_number reasons.NotBuilt = 10
+reason_number reasons.NoJournal = 11
 
--- of two complaints the one with the lesser reason
+-- why a line with a complaint is refused
+abbrev pub reason_of : Complaint → Reason
+reason_of Refused = reasons.NoHeader
+reason_of Misspelt = reasons.Misspelt
+reason_of OutOfRange = reasons.OutOfRange
+reason_of OutOfSize = reasons.OutOfSize
+
+-- of two complaints the one whose reason has the lesser number
 abbrev pub first_of : Complaint → Complaint → Complaint
-first_of a b = if nat_le (reason_of a) (reason_of b) then a else b
+first_of a b = if nat_le (reason_number (reason_of a)) (reason_number (reason_of b)) then a else b
 
 -- two values where both are read, else the first complaint
 abbrev pub both : {A B : Type 0} → Result A Complaint → Result B Complaint → Result (A × B) Complaint

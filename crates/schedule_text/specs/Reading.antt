@@ -7,6 +7,7 @@ use Rattle.schedule_text.specs.declared.line.LineFault.TheVariants.{BadLine}
 use Rattle.schedule_text.specs.declared.kinds.Kind.{Kind}
 use Rattle.schedule_text.specs.declared.complaint.Complaint.{Complaint}
 use Rattle.schedule_text.specs.declared.complaint.Complaint.TheVariants.{Misspelt, OutOfSize}
+use Rattle.schedule_text.specs.declared.reason.Reason.TheVariants as reasons
 use Rattle.schedule_text.specs.Complaints.{reason_of}
 use Rattle.schedule_text.specs.Words.{Word, words}
 use Rattle.schedule_text.specs.Kinds.{kind_of}
@@ -43,7 +44,8 @@ answered number (Err c) = Err (BadLine number (reason_of c))
 -- the value of a line with this number, or its first reason: a line above 2,200,000 bytes comes first of all
 unfoldable pub line_at : List ℕ → ℕ → Result Line LineFault
 line_at line number =
-    if nat_lt longest_line (length line) then Err (BadLine number 8) else answered number (numbered number (line_value line))
+    if nat_lt longest_line (length line) then Err (BadLine number reasons.OutOfSize)
+    else answered number (numbered number (line_value line))
 
 abbrev pub begins_a_header : List Word → Bool
 begins_a_header [] = false

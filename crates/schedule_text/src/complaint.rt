@@ -3,6 +3,8 @@
 ghost use Rattle.std.specs.Prelude.{◌≡◌};
 ghost use Rattle.schedule_text.specs.Complaints.{reason_of, first_of, both, all3, all4, all5};
 
+use crate::reason::Reason;
+
 /// Why a word or a line isn't read. Where there are several, the one with the least reason counts.
 #[derive(Clone, Copy, Debug, PartialEq, Eq)]
 pub enum Complaint {
@@ -17,15 +19,15 @@ pub enum Complaint {
 }
 
 impl Complaint {
-    /// The number of its reason.
-    pub fn reason(self) -> u8
+    /// Why a line with it is refused.
+    pub fn reason(self) -> Reason
         ensures { result ≡ reason_of self }
     {
         match self {
-            Complaint::Refused => 1,
-            Complaint::Misspelt => 2,
-            Complaint::OutOfRange => 3,
-            Complaint::OutOfSize => 8,
+            Complaint::Refused => Reason::NoHeader,
+            Complaint::Misspelt => Reason::Misspelt,
+            Complaint::OutOfRange => Reason::OutOfRange,
+            Complaint::OutOfSize => Reason::OutOfSize,
         }
     }
 
@@ -33,7 +35,7 @@ impl Complaint {
     pub fn or_earlier(self, other: Complaint) -> Complaint
         ensures { result ≡ first_of self other }
     {
-        if self.reason() <= other.reason() {
+        if self.reason().number() <= other.reason().number() {
             self
         } else {
             other

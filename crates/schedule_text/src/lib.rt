@@ -8,5 +8,6 @@ pub mod laws;
 pub mod line;
 pub mod lines;
 pub mod reading;
+pub mod reason;
 pub mod words;
 pub mod writing;

@@ -1,5 +1,6 @@
 //! The lines of a schedule.
 
+use crate::reason::Reason;
 use basil_types::bytes::Bytes;
 use basil_types::cluster::Cluster;
 use basil_types::party::{Decision, Party};
@@ -173,7 +174,7 @@ pub enum Line {
 pub enum LineFault {
     /// The line of this number is refused, for this reason: 1 for a header whose cluster is refused, 2 for a wrong
     /// word, 3 for a number out of form or range, 8 for a size.
-    BadLine { number: u64, reason: u8 },
+    BadLine { number: u64, reason: Reason },
     /// Memory is wanting.
     NoMemory,
 }

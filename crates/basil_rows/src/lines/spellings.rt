@@ -5,7 +5,7 @@ use schedule_text::line::Line;
 use std::test::Fail;
 
 /// Lines that are read, each the one spelling of its value.
-const TAKEN: [&str; 34] = [
+const TAKEN: &[&str] = &[
     "basil 1 f=0 shards=1 reads=1 delta=100 clock=50 keys=plain",
     "basil 1 f=6 shards=8 reads=25 delta=18446744073709551615 clock=0 keys=w8h10 journal",
     "basil 1 f=4 shards=2 reads=5 delta=0 clock=1 keys=batch",
@@ -43,7 +43,7 @@ const TAKEN: [&str; 34] = [
 ];
 
 /// Lines that are refused, with their reasons.
-const REFUSED: [(&str, u8); 40] = [
+const REFUSED: &[(&str, u8)] = &[
     ("basil 1 f=7 shards=1 reads=8 delta=0 clock=0 keys=plain", 1),
     ("basil 1 f=0 shards=9 reads=1 delta=0 clock=0 keys=plain", 1),
     ("basil 1 f=1 shards=1 reads=6 delta=0 clock=0 keys=plain", 1),
@@ -111,7 +111,7 @@ fn reads_and_writes(rt: HostRuntime) {
 
 #[test]
 fn refuses(rt: HostRuntime) {
-    for (text, reason) in REFUSED {
+    for &(text, reason) in REFUSED {
         assert!(rt;
             told(rt.alloc(), text.as_bytes(), 2) == Err(reason),
             "{text}"
@@ -120,7 +120,7 @@ fn refuses(rt: HostRuntime) {
 }
 
 /// Lines, their number, and what comes of them.
-const COUNTED: [(&[u8], u64, Result<bool, u8>); 4] = [
+const COUNTED: &[(&[u8], u64, Result<bool, u8>)] = &[
     (b"#\xff\t anything", 1_000_000, Ok(true)),
     (b"#", 1_000_001, Err(8)),
     (b"", 1_000_001, Err(8)),
@@ -129,8 +129,8 @@ const COUNTED: [(&[u8], u64, Result<bool, u8>); 4] = [
 
 #[test]
 fn skips_and_counts(rt: HostRuntime) {
-    for (line, number, told_so) in COUNTED {
-        assert!(rt; told(rt.alloc(), line, number) == told_so);
+    for &(line, number, told_so) in COUNTED {
+        assert!(rt; told(rt.alloc(), line, number) == told_so, "{line:?}");
     }
 }
 

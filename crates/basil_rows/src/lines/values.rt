@@ -1,12 +1,16 @@
-//! One line of each kind, whose fields all differ, against its values.
+//! Lines against their values: each kind, each field with a value of its own, and each word that a field may have.
 
 use crate::lines::spells;
+use crate::support::joined;
 use basil_types::bytes::Bytes;
+use basil_types::memory::NoMemory;
 use basil_types::party::{Decision, Party};
 use schedule_text::line::{KeysKind, Line};
 use schedule_text::reading::read_line;
 use std::alloc::Global;
+use std::test::Fail;
 
+/// One line of each kind. Its fields are numbered in their order.
 const TEXTS: &[&[u8]] = &[
     b"basil 1 f=1 shards=2 reads=3 delta=4 clock=5 keys=w8h5 journal",
     b"faulty replica 1 2",
@@ -33,6 +37,42 @@ const TEXTS: &[&[u8]] = &[
     b"show 0102",
     b"stop 1 3 4 2 0506",
 ];
+
+/// The first word of a kind's lines.
+fn first_word(line: &Line) -> &'static str {
+    match line {
+        Line::Header { .. } => "basil",
+        Line::Skipped => "#",
+        Line::Faulty { .. } => "faulty",
+        Line::Begin { .. } => "begin",
+        Line::Read { .. } => "read",
+        Line::Write { .. } => "write",
+        Line::Delete { .. } => "delete",
+        Line::Claim { .. } => "claim",
+        Line::Prepare { .. } => "prepare",
+        Line::Settle { .. } => "settle",
+        Line::Recover { .. } => "recover",
+        Line::Invoke { .. } => "invoke",
+        Line::Round => "round",
+        Line::Deliver { .. } => "deliver",
+        Line::Lose { .. } => "lose",
+        Line::Divert { .. } => "divert",
+        Line::Clock { .. } => "clock",
+        Line::Vote { .. } => "vote",
+        Line::Second { .. } => "second",
+        Line::Logged { .. } => "logged",
+        Line::Elect { .. } => "elect",
+        Line::Decide { .. } => "decide",
+        Line::Raw { .. } => "raw",
+        Line::Show { .. } => "show",
+        Line::Stop { .. } => "stop",
+    }
+}
+
+/// Whether a line is of the kind that its first word tells.
+fn is_of_its_kind(line: &Line, text: &[u8]) -> bool {
+    text.split(|byte| *byte == b' ').next() == Some(first_word(line).as_bytes())
+}
 
 /// That a value is this text.
 fn is(bytes: &Bytes, text: &[u8]) -> bool {
@@ -100,7 +140,7 @@ fn has_names(line: &Line) -> bool {
     }
 }
 
-/// That a line of faulty replicas has its values.
+/// That a line of faulty parties has its values.
 fn has_views(line: &Line) -> bool {
     match line {
         Line::Vote {
@@ -143,11 +183,12 @@ fn has_views(line: &Line) -> bool {
     }
 }
 
-/// Whether a line is read as its values, and written again.
+/// Whether a line is read as its kind and its values, and written again.
 fn has_values(alloc: Global, text: &[u8]) -> bool {
     match read_line(alloc, text, 1) {
         Ok(line) => {
-            (has_numbers(&line) || has_names(&line) || has_views(&line))
+            is_of_its_kind(&line, text)
+                && (has_numbers(&line) || has_names(&line) || has_views(&line))
                 && spells(alloc, &line, text)
         }
         Err(_) => false,
@@ -157,6 +198,150 @@ fn has_values(alloc: Global, text: &[u8]) -> bool {
 #[test]
 fn each_kind_is_read_as_its_values_and_written_again(rt: HostRuntime) {
     for text in TEXTS {
-        assert!(rt; has_values(rt.alloc(), text));
+        assert!(rt; has_values(rt.alloc(), text), "{text:?}");
     }
+}
+
+/// The decision in a line.
+fn decision_of(line: &Line) -> Option<Decision> {
+    match line {
+        Line::Vote { decision, .. } => Some(*decision),
+        Line::Second { decision, .. } => Some(*decision),
+        Line::Logged { decision, .. } => Some(*decision),
+        Line::Elect { decision, .. } => Some(*decision),
+        Line::Decide { decision, .. } => Some(*decision),
+        _ => None,
+    }
+}
+
+/// Lines that decide to commit. Those of the kinds above decide to abort.
+const COMMITS: &[&[u8]] = &[
+    b"vote 1 2 t3 commit 4",
+    b"second t1 commit 2",
+    b"logged 1 2 t3 commit 4 5 6",
+    b"elect 1 2 t3 commit 4",
+    b"decide 1 2 t3 commit 4 5",
+];
+
+/// Whether a line is read as one of its kind that commits, and written again.
+fn commits(alloc: Global, text: &[u8]) -> bool {
+    match read_line(alloc, text, 1) {
+        Ok(line) => {
+            is_of_its_kind(&line, text)
+                && decision_of(&line) == Some(Decision::Commit)
+                && spells(alloc, &line, text)
+        }
+        Err(_) => false,
+    }
+}
+
+#[test]
+fn each_kind_with_a_decision_may_commit(rt: HostRuntime) {
+    for text in COMMITS {
+        assert!(rt; commits(rt.alloc(), text), "{text:?}");
+    }
+}
+
+/// The first and the last party in a line.
+fn parties_of(line: &Line) -> Option<(Party, Party)> {
+    match line {
+        Line::Faulty { party } => Some((*party, *party)),
+        Line::Divert { to, .. } => Some((*to, *to)),
+        Line::Raw { from, to, .. } => Some((*from, *to)),
+        _ => None,
+    }
+}
+
+const CLIENT: Party = Party::Client { number: 1 };
+
+const REPLICA: Party = Party::Replica { shard: 2, index: 3 };
+
+const ANOTHER: Party = Party::Replica { shard: 4, index: 5 };
+
+/// Lines, and their first and their last party.
+const PARTIES: &[(&[u8], Party, Party)] = &[
+    (b"faulty client 1", CLIENT, CLIENT),
+    (b"faulty replica 2 3", REPLICA, REPLICA),
+    (b"divert 6 client 1", CLIENT, CLIENT),
+    (b"divert 6 replica 2 3", REPLICA, REPLICA),
+    (b"raw client 1 client 1 06", CLIENT, CLIENT),
+    (b"raw client 1 replica 2 3 06", CLIENT, REPLICA),
+    (b"raw replica 2 3 client 1 06", REPLICA, CLIENT),
+    (b"raw replica 2 3 replica 4 5 06", REPLICA, ANOTHER),
+];
+
+/// Whether a line is read as one of its kind with these parties, and written again.
+fn has_parties(alloc: Global, text: &[u8], first: Party, last: Party) -> bool {
+    match read_line(alloc, text, 1) {
+        Ok(line) => {
+            is_of_its_kind(&line, text)
+                && parties_of(&line) == Some((first, last))
+                && spells(alloc, &line, text)
+        }
+        Err(_) => false,
+    }
+}
+
+#[test]
+fn each_party_is_told(rt: HostRuntime) {
+    for &(text, first, last) in PARTIES {
+        assert!(rt; has_parties(rt.alloc(), text, first, last), "{text:?}");
+    }
+}
+
+/// The keys in a header, and whether there are journals.
+const KEYS: &[(&[u8], KeysKind, bool)] = &[
+    (b"plain", KeysKind::Plain, false),
+    (b"w4h5", KeysKind::W4H5, false),
+    (b"w4h10", KeysKind::W4H10, false),
+    (b"w8h5", KeysKind::W8H5, false),
+    (b"w8h10", KeysKind::W8H10, false),
+    (b"batch", KeysKind::Batch, false),
+    (b"plain journal", KeysKind::Plain, true),
+];
+
+/// Whether a line is a header with these keys.
+fn is_header_with(line: &Line, kind: KeysKind, with_journal: bool) -> bool {
+    match line {
+        Line::Header { keys, journal, .. } => *keys == kind && *journal == with_journal,
+        _ => false,
+    }
+}
+
+/// Whether a header with these last words is read as one with these keys.
+fn has_keys(alloc: Global, words: &[u8], kind: KeysKind, journal: bool) -> Result<bool, NoMemory> {
+    let front: &[u8] = b"basil 1 f=1 shards=2 reads=3 delta=4 clock=5 keys=";
+    let text = joined(alloc, &[front, words])?;
+    match read_line(alloc, &text, 1) {
+        Ok(line) => Ok(is_header_with(&line, kind, journal) && spells(alloc, &line, &text)),
+        Err(_) => Ok(false),
+    }
+}
+
+#[test]
+fn each_word_for_keys_is_told(rt: HostRuntime) -> Result<(), Fail> {
+    for &(words, kind, journal) in KEYS {
+        assert!(rt; has_keys(rt.alloc(), words, kind, journal)?, "{words:?}");
+    }
+    Ok(())
+}
+
+/// Whether a line is a claim of genesis.
+fn is_of_genesis(alloc: Global, text: &[u8]) -> bool {
+    match read_line(alloc, text, 1) {
+        Ok(
+            Line::Claim {
+                name,
+                key,
+                writer: None,
+            },
+        ) => is(&name, b"t1") && is(&key, b"k2"),
+        _ => false,
+    }
+}
+
+#[test]
+fn a_claim_may_be_of_genesis(rt: HostRuntime) {
+    assert!(rt; is_of_genesis(rt.alloc(), b"claim t1 k2 -"));
+    assert!(rt; !is_of_genesis(rt.alloc(), b"claim t1 k2 t3"));
 }

@@ -1,230 +1,55 @@
 //! Lines that have no form.
 
-use crate::refused::{Refused, agrees};
+use crate::refused::{Refused, are_refused};
+use crate::support::HEADER;
 use std::test::Fail;
 
 const REFUSED: &[Refused] = &[
-    Refused {
-        schedule: b"\
-            basil 1 f=0 shards=1 reads=1 delta=100 clock=50 keys=plain\n\
-            frob\n",
-        line: 2,
-        reason: 2,
-        text: b"line 2 reason 2\n",
-    },
-    Refused {
-        schedule: b"\
-            basil 1 f=0 shards=1 reads=1 delta=100 clock=50 keys=plain\n\
-            begin t1 1\n",
-        line: 2,
-        reason: 2,
-        text: b"line 2 reason 2\n",
-    },
-    Refused {
-        schedule: b"\
-            basil 1 f=0 shards=1 reads=1 delta=100 clock=50 keys=plain\n\
-            begin t1 1 10 10\n",
-        line: 2,
-        reason: 2,
-        text: b"line 2 reason 2\n",
-    },
-    Refused {
-        schedule: b"\
-            basil 1 f=0 shards=1 reads=1 delta=100 clock=50 keys=plain\n\
-            begin T1 1 10\n",
-        line: 2,
-        reason: 2,
-        text: b"line 2 reason 2\n",
-    },
-    Refused {
-        schedule: b"\
-            basil 1 f=0 shards=1 reads=1 delta=100 clock=50 keys=plain\n\
-            begin 1t 1 10\n",
-        line: 2,
-        reason: 2,
-        text: b"line 2 reason 2\n",
-    },
-    Refused {
-        schedule: b"\
-            basil 1 f=0 shards=1 reads=1 delta=100 clock=50 keys=plain\n\
-            begin t1  1 10\n",
-        line: 2,
-        reason: 2,
-        text: b"line 2 reason 2\n",
-    },
-    Refused {
-        schedule: b"\
-            basil 1 f=0 shards=1 reads=1 delta=100 clock=50 keys=plain\n\
-            begin\tt1 1 10\n",
-        line: 2,
-        reason: 2,
-        text: b"line 2 reason 2\n",
-    },
-    Refused {
-        schedule: b"\
-            basil 1 f=0 shards=1 reads=1 delta=100 clock=50 keys=plain\n\
-            begin t1 1 10 \n",
-        line: 2,
-        reason: 2,
-        text: b"line 2 reason 2\n",
-    },
-    Refused {
-        schedule: b"\
-            basil 1 f=0 shards=1 reads=1 delta=100 clock=50 keys=plain\n\
-            begin t1 x 10\n",
-        line: 2,
-        reason: 2,
-        text: b"line 2 reason 2\n",
-    },
-    Refused {
-        schedule: b"\
-            basil 1 f=0 shards=1 reads=1 delta=100 clock=50 keys=plain\n\
-            begin t1 +1 10\n",
-        line: 2,
-        reason: 2,
-        text: b"line 2 reason 2\n",
-    },
-    Refused {
-        schedule: b"\
-            basil 1 f=0 shards=1 reads=1 delta=100 clock=50 keys=plain\n\
-            Round\n",
-        line: 2,
-        reason: 2,
-        text: b"line 2 reason 2\n",
-    },
-    Refused {
-        schedule: b"\
-            basil 1 f=0 shards=1 reads=1 delta=100 clock=50 keys=plain\n\
-            round 1\n",
-        line: 2,
-        reason: 2,
-        text: b"line 2 reason 2\n",
-    },
-    Refused {
-        schedule: b"\
-            basil 1 f=0 shards=1 reads=1 delta=100 clock=50 keys=plain\n\
-            write t1 %% v\n",
-        line: 2,
-        reason: 2,
-        text: b"line 2 reason 2\n",
-    },
-    Refused {
-        schedule: b"\
-            basil 1 f=0 shards=1 reads=1 delta=100 clock=50 keys=plain\n\
-            write t1 %6 v\n",
-        line: 2,
-        reason: 2,
-        text: b"line 2 reason 2\n",
-    },
-    Refused {
-        schedule: b"\
-            basil 1 f=0 shards=1 reads=1 delta=100 clock=50 keys=plain\n\
-            write t1 %61 v\n",
-        line: 2,
-        reason: 2,
-        text: b"line 2 reason 2\n",
-    },
-    Refused {
-        schedule: b"\
-            basil 1 f=0 shards=1 reads=1 delta=100 clock=50 keys=plain\n\
-            write t1 a:b v\n",
-        line: 2,
-        reason: 2,
-        text: b"line 2 reason 2\n",
-    },
-    Refused {
-        schedule: b"\
-            basil 1 f=0 shards=1 reads=1 delta=100 clock=50 keys=plain\n\
-            write t1 a\n",
-        line: 2,
-        reason: 2,
-        text: b"line 2 reason 2\n",
-    },
-    Refused {
-        schedule: b"\
-            basil 1 f=0 shards=1 reads=1 delta=100 clock=50 keys=plain\n\
-            delete t1\n",
-        line: 2,
-        reason: 2,
-        text: b"line 2 reason 2\n",
-    },
-    Refused {
-        schedule: b"\
-            basil 1 f=0 shards=1 reads=1 delta=100 clock=50 keys=plain\n\
-            delete t1 a b\n",
-        line: 2,
-        reason: 2,
-        text: b"line 2 reason 2\n",
-    },
-    Refused {
-        schedule: b"\
-            basil 1 f=0 shards=1 reads=1 delta=100 clock=50 keys=plain\n\
-            prepare\n",
-        line: 2,
-        reason: 2,
-        text: b"line 2 reason 2\n",
-    },
-    Refused {
-        schedule: b"basil 1 f=0 shards=1 reads=1 delta=100 clock=50 keys=plain\n round\n",
-        line: 2,
-        reason: 2,
-        text: b"line 2 reason 2\n",
-    },
-    Refused {
-        schedule: b"\
-            basil 1 f=0 shards=1 reads=1 delta=100 clock=50 keys=plain\n\
-            write t1 % v\n",
-        line: 2,
-        reason: 2,
-        text: b"line 2 reason 2\n",
-    },
-    Refused {
-        schedule: b"\
-            basil 1 f=0 shards=1 reads=1 delta=100 clock=50 keys=plain\n\
-            basil 1 f=0 shards=1 reads=1 delta=100 clock=50 keys=plain\n",
-        line: 2,
-        reason: 2,
-        text: b"line 2 reason 2\n",
-    },
-    Refused {
-        schedule: b"\
-            basil 1 f=0 shards=1 reads=1 delta=100 clock=50 keys=plain\n\
-            basil 1 f=7 shards=1 reads=1 delta=100 clock=50 keys=plain\n",
-        line: 2,
-        reason: 2,
-        text: b"line 2 reason 2\n",
-    },
-    Refused {
-        schedule: b"\
-            basil 1 f=0 shards=1 reads=1 delta=100 clock=50 keys=plain\n\
-            write t1 \xc3\xa9 v\n",
-        line: 2,
-        reason: 2,
-        text: b"line 2 reason 2\n",
-    },
-    Refused {
-        schedule: b"\
-            basil 1 f=0 shards=1 reads=1 delta=100 clock=50 keys=plain\n\
-            basil\n",
-        line: 2,
-        reason: 2,
-        text: b"line 2 reason 2\n",
-    },
-    Refused {
-        schedule: b"\
-            basil 1 f=0 shards=1 reads=1 delta=100 clock=50 keys=plain\n\
-            frob\n\
-            frob\n",
-        line: 2,
-        reason: 2,
-        text: b"line 2 reason 2\n",
-    },
+    ("no line begins with this word", b"frob\n", 2, 2),
+    ("a first word has a capital letter", b"Round\n", 2, 2),
+    ("a line begins with a space", b" round\n", 2, 2),
+    ("a line ends with a space", b"begin t1 1 10 \n", 2, 2),
+    ("two spaces part two words", b"begin t1  1 10\n", 2, 2),
+    ("a tab parts two words", b"begin\tt1 1 10\n", 2, 2),
+    ("begin lacks the time", b"begin t1 1\n", 2, 2),
+    ("begin has a word too many", b"begin t1 1 10 10\n", 2, 2),
+    ("prepare lacks the name", b"prepare\n", 2, 2),
+    ("round has a word too many", b"round 1\n", 2, 2),
+    ("write lacks the value", b"write t1 a\n", 2, 2),
+    ("delete lacks the key", b"delete t1\n", 2, 2),
+    ("delete has a value", b"delete t1 a b\n", 2, 2),
+    ("a name has a capital letter", b"begin T1 1 10\n", 2, 2),
+    ("a name begins with a digit", b"begin 1t 1 10\n", 2, 2),
+    ("a client is no number", b"begin t1 x 10\n", 2, 2),
+    ("a number has a sign", b"begin t1 +1 10\n", 2, 2),
+    ("a key has no byte", b"write t1 % v\n", 2, 2),
+    ("an escape has no digits", b"write t1 %% v\n", 2, 2),
+    ("an escape has one digit", b"write t1 %6 v\n", 2, 2),
+    ("a letter is escaped", b"write t1 %61 v\n", 2, 2),
+    ("a colon isn't escaped", b"write t1 a:b v\n", 2, 2),
+    ("a byte isn't ASCII", b"write t1 \xc3\xa9 v\n", 2, 2),
+    ("a second header has one word", b"basil\n", 2, 2),
+    (
+        "a second header is misspelt, though it is the same as the first",
+        b"basil 1 f=0 shards=1 reads=1 delta=100 clock=50 keys=plain\n",
+        2,
+        2,
+    ),
+    (
+        "and so is one that is out of range",
+        b"basil 1 f=7 shards=1 reads=1 delta=100 clock=50 keys=plain\n",
+        2,
+        2,
+    ),
+    (
+        "of two misspelt lines the first is told",
+        b"frob\nfrob\n",
+        2,
+        2,
+    ),
 ];
 
 #[test]
 fn each_schedule_is_refused_at_its_line(rt: HostRuntime) -> Result<(), Fail> {
-    for case in REFUSED {
-        assert!(rt; agrees(rt.alloc(), case)?);
-    }
-    Ok(())
+    are_refused(&rt, rt.alloc(), HEADER, REFUSED, b"")
 }

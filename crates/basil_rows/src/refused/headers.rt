@@ -1,124 +1,75 @@
 //! No header first, or one that is none.
 
-use crate::refused::{Refused, agrees};
+use crate::refused::{Refused, are_refused};
 use std::test::Fail;
 
+/// Headers that are refused for their first numbers, which stand here.
+const NUMBERS: &[Refused] = &[
+    ("f is 7", b"f=7 shards=1 reads=8", 1, 1),
+    ("there is no shard", b"f=0 shards=0 reads=1", 1, 1),
+    ("there are nine shards", b"f=0 shards=9 reads=1", 1, 1),
+    ("reads is 0", b"f=0 shards=1 reads=0", 1, 1),
+    (
+        "reads is above 4f + 1, with f 0",
+        b"f=0 shards=1 reads=2",
+        1,
+        1,
+    ),
+    ("reads is below f + 1", b"f=1 shards=1 reads=1", 1, 1),
+    ("reads is above 4f + 1", b"f=1 shards=1 reads=6", 1, 1),
+];
+
 const REFUSED: &[Refused] = &[
-    Refused {
-        schedule: b"",
-        line: 1,
-        reason: 1,
-        text: b"line 1 reason 1\n",
-    },
-    Refused {
-        schedule: b"\
-            \n\
-            \n\
-            # x\n",
-        line: 1,
-        reason: 1,
-        text: b"line 1 reason 1\n",
-    },
-    Refused {
-        schedule: b"begin t1 1 10\n",
-        line: 1,
-        reason: 1,
-        text: b"line 1 reason 1\n",
-    },
-    Refused {
-        schedule: b"\
-            # note\n\
-            round\n",
-        line: 2,
-        reason: 1,
-        text: b"line 2 reason 1\n",
-    },
-    Refused {
-        schedule: b"basil 2 f=0 shards=1 reads=1 delta=100 clock=50 keys=plain\n",
-        line: 1,
-        reason: 1,
-        text: b"line 1 reason 1\n",
-    },
-    Refused {
-        schedule: b"basil 1 f=7 shards=1 reads=8 delta=100 clock=50 keys=plain\n",
-        line: 1,
-        reason: 1,
-        text: b"line 1 reason 1\n",
-    },
-    Refused {
-        schedule: b"basil 1 f=0 shards=0 reads=1 delta=100 clock=50 keys=plain\n",
-        line: 1,
-        reason: 1,
-        text: b"line 1 reason 1\n",
-    },
-    Refused {
-        schedule: b"basil 1 f=0 shards=9 reads=1 delta=100 clock=50 keys=plain\n",
-        line: 1,
-        reason: 1,
-        text: b"line 1 reason 1\n",
-    },
-    Refused {
-        schedule: b"basil 1 f=0 shards=1 reads=0 delta=100 clock=50 keys=plain\n",
-        line: 1,
-        reason: 1,
-        text: b"line 1 reason 1\n",
-    },
-    Refused {
-        schedule: b"basil 1 f=0 shards=1 reads=2 delta=100 clock=50 keys=plain\n",
-        line: 1,
-        reason: 1,
-        text: b"line 1 reason 1\n",
-    },
-    Refused {
-        schedule: b"basil 1 f=1 shards=1 reads=1 delta=100 clock=50 keys=plain\n",
-        line: 1,
-        reason: 1,
-        text: b"line 1 reason 1\n",
-    },
-    Refused {
-        schedule: b"basil 1 f=1 shards=1 reads=6 delta=100 clock=50 keys=plain\n",
-        line: 1,
-        reason: 1,
-        text: b"line 1 reason 1\n",
-    },
-    Refused {
-        schedule: b"basil 1 f=0 shards=1 reads=1 delta=100 clock=50 keys=plain \n",
-        line: 1,
-        reason: 1,
-        text: b"line 1 reason 1\n",
-    },
-    Refused {
-        schedule: b"basil 1 f=0 shards=1 reads=1 delta=100 clock=050 keys=plain\n",
-        line: 1,
-        reason: 1,
-        text: b"line 1 reason 1\n",
-    },
-    Refused {
-        schedule: b"basil 1 f=0 shards=1 reads=1 delta=100 clock=50 keys=w8h6\n",
-        line: 1,
-        reason: 1,
-        text: b"line 1 reason 1\n",
-    },
-    Refused {
-        schedule: b"\xff\n",
-        line: 1,
-        reason: 1,
-        text: b"line 1 reason 1\n",
-    },
-    Refused {
-        schedule: b"\
-            \n\
-            basin 1 f=0 shards=1 reads=1 delta=100 clock=50 keys=plain\n",
-        line: 2,
-        reason: 1,
-        text: b"line 2 reason 1\n",
-    },
+    ("there is no line", b"", 1, 1),
+    ("each line is skipped", b"\n\n# x\n", 1, 1),
+    ("the first line is another one", b"begin t1 1 10\n", 1, 1),
+    ("a skipped line counts", b"# note\nround\n", 2, 1),
+    ("a byte isn't ASCII", b"\xff\n", 1, 1),
+    (
+        "the first word is misspelt",
+        b"\n\
+        basin 1 f=0 shards=1 reads=1 delta=100 clock=50 keys=plain\n",
+        2,
+        1,
+    ),
+    (
+        "the second word isn't 1",
+        b"basil 2 f=0 shards=1 reads=1 delta=100 clock=50 keys=plain\n",
+        1,
+        1,
+    ),
+    (
+        "the header ends with a space",
+        b"basil 1 f=0 shards=1 reads=1 delta=100 clock=50 keys=plain \n",
+        1,
+        1,
+    ),
+    (
+        "the clock has a leading zero, and the reason is 1 still",
+        b"basil 1 f=0 shards=1 reads=1 delta=100 clock=050 keys=plain\n",
+        1,
+        1,
+    ),
+    (
+        "there is no such set of LMS",
+        b"basil 1 f=0 shards=1 reads=1 delta=100 clock=50 keys=w8h6\n",
+        1,
+        1,
+    ),
 ];
 
 #[test]
 fn each_schedule_is_refused_at_its_line(rt: HostRuntime) -> Result<(), Fail> {
-    for case in REFUSED {
-        assert!(rt; agrees(rt.alloc(), case)?);
-    }
-    Ok(())
+    are_refused(&rt, rt.alloc(), b"", REFUSED, b"")
+}
+
+#[test]
+fn each_number_out_of_range_is_refused(rt: HostRuntime) -> Result<(), Fail> {
+    are_refused(
+        &rt,
+        rt.alloc(),
+        b"basil 1 ",
+        NUMBERS,
+        b" delta=100 clock=50 keys=plain\n",
+    )
 }

@@ -1,4 +1,4 @@
-use Rattle.std.proofs.Common.{◌≡◌, sym, ap, ◌∙◌}
+use Rattle.std.proofs.Common.{sym, ap, ◌∙◌}
 use Rattle.std.specs.Prelude.{option_map}
 use Rattle.audit_text.proofs.NameLaws.{met, passed}
 use Rattle.audit_text.proofs.names.first_of.Goals as goal

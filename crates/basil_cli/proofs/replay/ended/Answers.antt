@@ -1,4 +1,4 @@
-use Rattle.std.proofs.Common.{[], ◌++◌, refl, ◌∙◌}
+use Rattle.std.proofs.Common.{[], ◌++◌, ◌∙◌}
 use Rattle.schedule_replay.proofs.RoadLaws.{carries_as}
 use Rattle.schedule_replay.specs.Outcomes.{outcome_on, replay_on}
 use Rattle.schedule_replay.specs.Roads.{road_with}

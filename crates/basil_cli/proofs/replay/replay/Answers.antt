@@ -1,4 +1,4 @@
-use Rattle.std.proofs.Common.{rules, [], Err, ◌++◌, ◌≤◌, ◌≡◌, ◌∙◌, length, refl, take}
+use Rattle.std.proofs.Common.{rules, [], Err, ◌++◌, ◌≤◌, ◌∙◌, length, refl, take}
 use Rattle.std.proofs.KnownBytes.{Consumes-trans}
 use Rattle.schedule_replay.proofs.RoadLaws.{carries_as, carries_both, carries_none}
 use Rattle.schedule_replay.specs.Roads.{road_with}

@@ -1,4 +1,3 @@
-use Rattle.std.proofs.Common.{refl}
 use Rattle.schedule_replay.proofs.RoadLaws.{unused_by}
 use Rattle.basil_cli.specs.Commands.{is_carried}
 use Rattle.basil_cli.specs.Parts.{is_link_fail}

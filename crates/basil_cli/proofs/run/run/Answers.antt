@@ -1,4 +1,4 @@
-use Rattle.std.proofs.Common.{rules, ◌≡◌, Option, Some, inl, map, refl, string_bytes, subst, sym}
+use Rattle.std.proofs.Common.{rules, ◌≡◌, Option, Some, map, string_bytes, subst, sym}
 use Rattle.std.specs.Prelude.{IfSome}
 use Rattle.basil_cli.specs.Answers.{Answers, IsTold, counted}
 use Rattle.basil_cli.specs.Commands.{command_of}
@@ -7,7 +7,7 @@ use Rattle.basil_cli.specs.Output.{outcome_with}
 use Rattle.basil_cli.specs.Reading.{IsReadFor, StopsSoonFor}
 use Rattle.basil_cli.specs.declared.command.Command.{Command}
 use Rattle.basil_cli.proofs.Ends.{broken_ends, load_breaks, load_ends, safe_ends, safe_in_part}
-use Rattle.basil_cli.proofs.Wordings.{untaken_words, usage_answers, usage_told, wanting_answers, wanting_told}
+use Rattle.basil_cli.proofs.Wordings.{untaken_words}
 use Rattle.basil_cli.proofs.run.run.Goals as goal
 
 pub returns-in-Ok-Some-clause-answers : goal.returns-in-Ok-Some-clause-answers

@@ -1,4 +1,4 @@
-use Rattle.std.proofs.Common.{◌≡◌, ℕ, List, ◌∷◌, sym, ap, ◌∙◌}
+use Rattle.std.proofs.Common.{◌∷◌, sym, ◌∙◌}
 use Rattle.schedule_text.specs.TextLines.{lines_of}
 use Rattle.schedule_text.proofs.LineCuts.{lines-Some, lines-None}
 use Rattle.schedule_text.proofs.lines.next_line.Goals as goal

@@ -2,7 +2,7 @@ use Rattle.std.proofs.Common.{◌≡◌, false, sym, ap, ◌∙◌}
 use Rattle.basil_types.specs.Version.{genesis, same_version}
 use Rattle.audit_text.specs.Findings.{version_word}
 use Rattle.audit_text.specs.Listing.{Names}
-use Rattle.audit_text.proofs.NameLaws.{bytes_of, word_is}
+use Rattle.audit_text.proofs.NameLaws.{word_is}
 use Rattle.audit_text.proofs.names.Names.word_of.Goals as goal
 
 pub returns-in-Some : goal.returns-in-Some
