@@ -19,61 +19,73 @@ struct Cut {
 }
 
 const CUTS: &[Cut] = &[
+    // The empty frame lacks its kind.
     Cut {
         first: 0,
         last: 0,
         field: 0,
     },
+    // A frame of the kind alone lacks the transaction's format.
     Cut {
         first: 1,
         last: 1,
         field: 1,
     },
+    // The time at 2 to 9 is missing, or up to seven of its eight bytes are there.
     Cut {
         first: 2,
         last: 9,
         field: 2,
     },
+    // The client, behind the time, is missing.
     Cut {
         first: 10,
         last: 10,
         field: 10,
     },
+    // The number of reads is missing.
     Cut {
         first: 11,
         last: 11,
         field: 11,
     },
+    // The number of writes is missing.
     Cut {
         first: 12,
         last: 12,
         field: 12,
     },
+    // The length of the written key is missing.
     Cut {
         first: 13,
         last: 13,
         field: 13,
     },
+    // The key's one byte, `a`, is missing.
     Cut {
         first: 14,
         last: 14,
         field: 14,
     },
+    // The length of the value is missing, or its second byte is.
     Cut {
         first: 15,
         last: 16,
         field: 15,
     },
+    // The value `x1` is missing, or its second byte is.
     Cut {
         first: 17,
         last: 18,
         field: 17,
     },
+    // The length of the signature is missing, or its second byte is.
     Cut {
         first: 19,
         last: 20,
         field: 19,
     },
+    // The signature at 21 to 52 is missing, or at most 31 of its 32 bytes are there.
     Cut {
         first: 21,
         last: 52,
@@ -89,56 +101,67 @@ struct Change {
 }
 
 const CHANGES: &[Change] = &[
+    // The kind is 0, and kinds begin at 1.
     Change {
         place: 0,
         digits: "00",
         fault: BadFrame::Kind,
     },
+    // The kind is 12, and 11 is the last.
     Change {
         place: 0,
         digits: "0c",
         fault: BadFrame::Kind,
     },
+    // The transaction's format is 3, and only 1 and 2 are formats.
     Change {
         place: 1,
         digits: "03",
         fault: BadFrame::Range(1),
     },
+    // The client is 0, and clients begin at 1.
     Change {
         place: 10,
         digits: "00",
         fault: BadFrame::Range(10),
     },
+    // The client is 17, and 16 is the last.
     Change {
         place: 10,
         digits: "11",
         fault: BadFrame::Range(10),
     },
+    // The number of reads is 33, one above the most.
     Change {
         place: 11,
         digits: "21",
         fault: BadFrame::Range(11),
     },
+    // With 0 writes the key's two bytes `0161` are read as the signature's length, 353, and fewer bytes are there.
     Change {
         place: 12,
         digits: "00",
         fault: BadFrame::Short(15),
     },
+    // The length of the written key is 0, and a key has a byte at least.
     Change {
         place: 13,
         digits: "00",
         fault: BadFrame::Range(13),
     },
+    // The length of the written key is 65, one above the most.
     Change {
         place: 13,
         digits: "41",
         fault: BadFrame::Range(13),
     },
+    // The length of the value is 257, one above the most.
     Change {
         place: 15,
         digits: "0101",
         fault: BadFrame::Range(15),
     },
+    // The length of the signature is 0, and a signature has a byte at least.
     Change {
         place: 19,
         digits: "0000",

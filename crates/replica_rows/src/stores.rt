@@ -109,12 +109,19 @@ impl Three {
 
 /// A key and a bound, and the places of the latest committed and the latest prepared writer below it.
 const LATEST: &[(&str, Spot, Option<u32>, Option<u32>)] = &[
+    // A has this time and client, but its id is above the zeros of the bound.
     ("a", At(10, 1), None, None),
+    // A isn't below its own version.
     ("a", A, None, None),
+    // A is below a later time: the latest committed writer.
     ("a", At(11, 0), Some(0), None),
+    // B is below 30: the latest prepared writer, and no committed one.
     ("b", At(30, 1), None, Some(1)),
+    // B has this time and client, but its id is above the zeros of the bound.
     ("b", At(20, 2), None, None),
+    // C has this time and client, but its id is above the zeros of the bound.
     ("c", At(40, 3), None, None),
+    // Nobody writes d.
     ("d", At(99, 1), None, None),
 ];
 
@@ -128,13 +135,21 @@ fn tell_the_latest(three: &Three, store: &Store) -> bool {
 
 /// A key, two bounds, and the writers between them.
 const BETWEEN: &[(&str, Spot, Spot, Hits)] = &[
+    // A is between, and is committed, at place 0.
     ("a", At(0, 0), At(30, 1), FIRST),
+    // The lower bound is A's own version, which isn't between.
     ("a", A, At(30, 1), NONE),
+    // The upper bound is A's own version, which isn't between.
     ("a", At(0, 0), A, NONE),
+    // The lower bound is above the upper one: nothing is between.
     ("a", At(30, 1), At(0, 0), NONE),
+    // B is between, and is only prepared.
     ("b", At(0, 0), At(30, 1), PREPARED),
+    // C, at 40, is above both bounds.
     ("c", At(0, 0), At(30, 1), NONE),
+    // C is between, and is committed, at place 2.
     ("c", At(30, 1), At(50, 1), THIRD),
+    // Nobody writes d.
     ("d", At(0, 0), At(99, 1), NONE),
 ];
 
@@ -147,11 +162,17 @@ fn tell_writers(three: &Three, store: &Store) -> bool {
 
 /// A key, a version, and the readers above it that read below it.
 const ACROSS: &[(&str, Spot, Hits)] = &[
+    // C, at 40 and place 2, read A's version, of 10: 20 stands between.
     ("a", At(20, 1), THIRD),
+    // C read A's version itself, which isn't below it.
     ("a", A, NONE),
+    // C read A's version, which is above client 0 at the same time.
     ("a", At(10, 0), NONE),
+    // C, at 40, isn't above 50.
     ("a", At(50, 1), NONE),
+    // C writes c, and nobody reads it.
     ("c", At(20, 1), NONE),
+    // Nobody reads d.
     ("d", At(20, 1), NONE),
 ];
 
@@ -186,11 +207,17 @@ fn writers_and_readers_are_told(rt: HostRuntime) -> Result<(), Fail> {
 
 /// A key, a time and a client, and whether a read of b at 60 by client 4 was noted above them.
 const ABOVE: &[(&str, u64, u8, bool)] = &[
+    // The noted read is above a lower client at the same time.
     ("b", 60, 3, true),
+    // The time comes first: the noted read is above an earlier one, though that has a higher client.
     ("b", 59, 16, true),
+    // The noted read isn't above its own time and client.
     ("b", 60, 4, false),
+    // The noted read is below a higher client at the same time.
     ("b", 60, 5, false),
+    // The time comes first: the noted read is below a later one, though that has a lower client.
     ("b", 61, 1, false),
+    // No read of a is noted.
     ("a", 1, 1, false),
 ];
 
@@ -216,9 +243,13 @@ fn the_greatest_noted_read_answers(rt: HostRuntime) -> Result<(), Fail> {
 /// Three writers and a reader of one key, which read the first of them, in the order in which they are taken out: the place,
 /// the time, and whether it is the reader.
 const TAKEN: &[(u32, u64, bool)] = &[
+    // First the second writer.
     (1, 20, false),
+    // Then the reader.
     (3, 40, true),
+    // Then the third writer.
     (2, 30, false),
+    // Last the first writer, which the reader had read.
     (0, 10, false),
 ];
 
@@ -257,9 +288,13 @@ fn change(
 
 /// After each of them is taken out: the time and the place of the latest writer, the writers below 99, and the readers across 25.
 const LEFT: &[(Option<(u64, u32)>, Hits, Hits)] = &[
+    // Without the second writer: the third is the latest, the first has the least place, and the reader is across 25.
     (Some((30, 2)), FIRST, FOURTH),
+    // Without the reader: no reader is across 25.
     (Some((30, 2)), FIRST, NONE),
+    // Without the third writer: only the first is left.
     (Some((10, 0)), FIRST, NONE),
+    // Without the first writer: nothing is left to tell.
     (None, NONE, NONE),
 ];
 

@@ -119,36 +119,42 @@ struct Reader {
 /// The readers behind two writers, of times 1 and 2, at the places 0 and 1. That of time 7 is aborted. A writer of time 3
 /// isn't held.
 const READERS: &[Reader] = &[
+    // Place 2: depends on both writers.
     Reader {
         time: 4,
         dependency: true,
         other: 2,
         waits: true,
     },
+    // Place 3: depends on the first writer alone.
     Reader {
         time: 5,
         dependency: true,
         other: 0,
         waits: true,
     },
+    // Place 4: depends on the first writer, but nobody waits for its vote, so it is never released.
     Reader {
         time: 6,
         dependency: true,
         other: 0,
         waits: false,
     },
+    // Place 5: waits and depends on the first writer, but is aborted, so it is never released.
     Reader {
         time: 7,
         dependency: true,
         other: 0,
         waits: true,
     },
+    // Place 6: depends on the first writer and on the one that isn't held.
     Reader {
         time: 8,
         dependency: true,
         other: 3,
         waits: true,
     },
+    // Place 7: waits, but what it read of the first writer is no dependency, so nothing releases it.
     Reader {
         time: 9,
         dependency: false,
@@ -196,15 +202,25 @@ fn take_all(alloc: Global, table: &mut Table) -> Result<(), Fail> {
 
 /// Shards, a shard, a place, an outcome, and the votes that it releases. Of two shards b is of 0 and c of 1.
 const RELEASED: &[(u8, u8, u32, Decision, &[(u32, Decision)])] = &[
+    // The first writer commits: only place 3 needs no other; 2 waits for the second, 6 for the one that isn't held.
     (1, 0, 0, COMMIT, &[(3, COMMIT)]),
+    // The first writer aborts: all that wait and depend on it abort, whatever else they depend on.
     (1, 0, 0, ABORT, &[(2, ABORT), (3, ABORT), (6, ABORT)]),
+    // The second writer commits: place 2 still waits for the first.
     (1, 0, 1, COMMIT, &[]),
+    // The second writer aborts: so does place 2, which alone depends on it.
     (1, 0, 1, ABORT, &[(2, ABORT)]),
+    // A reader commits on which nobody depends: nothing is released.
     (1, 0, 3, COMMIT, &[]),
+    // In shard 0 only the reads of b count: the first writer's commit is enough for places 2 and 6 too.
     (2, 0, 0, COMMIT, &[(2, COMMIT), (3, COMMIT), (6, COMMIT)]),
+    // In shard 0 the first writer's abort aborts the same three.
     (2, 0, 0, ABORT, &[(2, ABORT), (3, ABORT), (6, ABORT)]),
+    // In shard 0 place 2's read of c doesn't count: the second writer's abort releases nothing.
     (2, 0, 1, ABORT, &[]),
+    // In shard 1 the reads of b don't count: the first writer's abort releases nothing.
     (2, 1, 0, ABORT, &[]),
+    // In shard 1 place 2 depends by c alone: the second writer's commit is enough.
     (2, 1, 1, COMMIT, &[(2, COMMIT)]),
 ];
 
@@ -231,9 +247,13 @@ fn an_outcome_releases_these_votes(rt: HostRuntime) -> Result<(), Fail> {
 type After = (Decision, Decision, &'static [(u32, Decision)]);
 
 const AFTER: &[After] = &[
+    // Both commit: place 2 commits.
     (COMMIT, COMMIT, &[(2, COMMIT)]),
+    // The second aborts: place 2 aborts.
     (COMMIT, ABORT, &[(2, ABORT)]),
+    // The first has aborted: the second's commit doesn't help place 2.
     (ABORT, COMMIT, &[(2, ABORT)]),
+    // Both abort: place 2 aborts.
     (ABORT, ABORT, &[(2, ABORT)]),
 ];
 

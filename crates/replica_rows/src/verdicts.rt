@@ -143,12 +143,19 @@ const GENESIS: Asks = Asks::Reads {
 
 /// Times, keys, what is done with them, and the verdicts, of a replica at moment 50 with a delta of 100.
 const VERDICTS: &[(u64, u8, Asks, Verdict)] = &[
+    // A time of 151 is more than delta above the moment: abort.
     (151, b'd', Asks::Writes, Verdict::Abort),
+    // A time of exactly the moment plus delta is allowed, and nobody else uses d: commit.
     (150, b'd', Asks::Writes, Verdict::Commit),
+    // A, which is committed, wrote a between the genesis that was read and 50: abort, with A as the proof.
     (50, b'a', GENESIS, Verdict::AbortBy { place: 0 }),
+    // C, at 40, read a below this write at 30 and is committed: abort, with C as the proof.
     (30, b'a', Asks::Writes, Verdict::AbortBy { place: 2 }),
+    // A read of b is noted at 60, above this write at 55: abort, and a noted read is no proof.
     (55, b'b', Asks::Writes, Verdict::Abort),
+    // B, which is only prepared, wrote b between the genesis that was read and 25: abort without a proof.
     (25, b'b', GENESIS, Verdict::Abort),
+    // A dependency on B, which has no outcome yet: wait.
     (
         50,
         b'b',
@@ -158,6 +165,7 @@ const VERDICTS: &[(u64, u8, Asks, Verdict)] = &[
         },
         Verdict::Wait,
     ),
+    // A dependency on a version of B's time and client whose id isn't known: abort.
     (
         50,
         b'b',
@@ -167,6 +175,7 @@ const VERDICTS: &[(u64, u8, Asks, Verdict)] = &[
         },
         Verdict::Abort,
     ),
+    // A read of A's version, which is the latest of a: commit.
     (
         50,
         b'a',
@@ -176,6 +185,7 @@ const VERDICTS: &[(u64, u8, Asks, Verdict)] = &[
         },
         Verdict::Commit,
     ),
+    // The same read as a dependency, on A, which is committed already: commit.
     (
         50,
         b'a',

@@ -114,24 +114,24 @@ fn apply(change: &Change, signed: &mut Signed) {
 
 /// Changes of the case of two levels, whose upper signature has 2,508 bytes, and its whole signature 3,860.
 const CHANGES: &[(Change, (u8, u8, u8))] = &[
-    (Change::None, (0, 0, 0)),
-    (Change::CutPublic(59), (1, 0, 0)),
-    (Change::LevelCount(0), (2, 0, 0)),
-    (Change::LevelCount(9), (2, 0, 0)),
-    (Change::Public(0), (2, 0, 0)),
-    (Change::LevelCount(3), (3, 0, 0)),
-    (Change::LevelCount(1), (3, 0, 0)),
-    (Change::Signature(3), (3, 0, 0)),
-    (Change::Cut(3), (3, 0, 0)),
-    (Change::Public(11), (4, 0, 0)),
-    (Change::Cut(4), (5, 0, 0)),
-    (Change::Cut(100), (5, 0, 0)),
-    (Change::Cut(2567), (5, 0, 0)),
-    (Change::Public(59), (6, 0, 6)),
-    (Change::Signature(2511), (6, 0, 6)),
-    (Change::Signature(2519), (6, 0, 6)),
-    (Change::Cut(3859), (6, 1, 3)),
-    (Change::Signature(3859), (6, 1, 6)),
+    (Change::None, (0, 0, 0)), // Nothing is changed: valid.
+    (Change::CutPublic(59), (1, 0, 0)), // The key lacks its last byte.
+    (Change::LevelCount(0), (2, 0, 0)), // A key of no level.
+    (Change::LevelCount(9), (2, 0, 0)), // A key of 9 levels, one too many.
+    (Change::Public(0), (2, 0, 0)), // A key of 2^24 + 2 levels.
+    (Change::LevelCount(3), (3, 0, 0)), // A key of 3 levels; the signature has 2.
+    (Change::LevelCount(1), (3, 0, 0)), // A key of 1 level; the signature has 2.
+    (Change::Signature(3), (3, 0, 0)), // A signature of 1 level; the key has 2.
+    (Change::Cut(3), (3, 0, 0)), // The number of levels isn't whole.
+    (Change::Public(11), (4, 0, 0)), // The top key's LM-OTS type is 2, of no set.
+    (Change::Cut(4), (5, 0, 0)), // Nothing follows the number of levels.
+    (Change::Cut(100), (5, 0, 0)), // The signature ends inside the upper one.
+    (Change::Cut(2567), (5, 0, 0)), // The signature ends a byte before the end of the lower key.
+    (Change::Public(59), (6, 0, 6)), // The last byte of the top key's root is another.
+    (Change::Signature(2511), (6, 0, 6)), // The last byte of the upper signature is another.
+    (Change::Signature(2519), (6, 0, 6)), // The lower key has LM-OTS type 5, but isn't signed so.
+    (Change::Cut(3859), (6, 1, 3)), // The lower signature lacks its last byte.
+    (Change::Signature(3859), (6, 1, 6)), // The last byte of the lower signature is another.
 ];
 
 #[test]
@@ -199,31 +199,37 @@ struct Made {
 
 /// The first number, the last under the first top leaf and the first under the second, one in the middle, and the last.
 const MADE: &[Made] = &[
+    // The first number: top leaf 0, bottom leaf 0.
     Made {
         number: 0,
         message: b"message",
         digest: "a912a75db9a89b7b9434945006ccfa83ae0548de63b2f840b1c63088ac3c4e9d",
     },
+    // The last number under the first top leaf: top leaf 0, bottom leaf 31.
     Made {
         number: 31,
         message: b"last",
         digest: "fd3dd51ff7238a7bd719d3fa23b199a1de7ecf3333f2452204e786c699fd23a5",
     },
+    // The first number under the second top leaf: top leaf 1, bottom leaf 0.
     Made {
         number: 32,
         message: b"first",
         digest: "7492e4caaf850a62d76f196dd85b1dc439c72c6790fac0089b38eb258829a2ec",
     },
+    // One in the middle: top leaf 2, bottom leaf 7.
     Made {
         number: 71,
         message: b"another",
         digest: "be3fe9bd86d3dfa149219693eebf62acb91cbbbb60a19b942675a07606cf03a1",
     },
+    // The last but one: top leaf 31, bottom leaf 30.
     Made {
         number: 1022,
         message: b"last but one",
         digest: "9645efa61f1728f30abe3fcea5bcd2dda82d8abdcbd6923543e6f43fe162f6b9",
     },
+    // The last number: top leaf 31, bottom leaf 31.
     Made {
         number: 1023,
         message: b"last",
@@ -260,6 +266,7 @@ fn keys_begin_at_numbers(rt: HostRuntime) -> Result<(), Fail> {
 /// The next top leaf signs the next bottom key, and each number signs once.
 #[test]
 fn keys_go_on(rt: HostRuntime) -> Result<(), Fail> {
+    // Numbers 31 and 32 pass from the first top leaf to the second; 1022 and 1023 are the last two.
     for (first, second) in [(1, 2), (4, 5)] {
         let (first, second): (&Made, &Made) = (&MADE[first], &MADE[second]);
         let mut key = key_at(rt.alloc(), first.number.min(1024))?;

@@ -40,36 +40,42 @@ struct PublicKey {
 /// The public keys of Bouncy Castle, of the RFC authors' program (the first) and of RFC 8554,
 /// appendix F, test case 2 (the last two).
 const PUBLIC_KEYS: &[PublicKey] = &[
+    // LMS type 5 and LM-OTS type 3 (w4h5), 16 bytes 01 as I, then the root; the seed is 32 bytes 01.
     PublicKey {
         set: LmsSet::W4H5,
         seed: ONES,
         ident: ONES_IDENT,
         public: "00000005000000030101010101010101010101010101010166bf6f5816eee4bbf33c50acb480e09b4169ebb533372959bc4315c388e501ac",
     },
+    // The same seed and I under w4h10: LMS type 6, LM-OTS type 3, I, and the root.
     PublicKey {
         set: LmsSet::W4H10,
         seed: ONES,
         ident: ONES_IDENT,
         public: "000000060000000301010101010101010101010101010101f59d2b7804e210b9265620a3d4f64005aa1c786bf805f2ba113c77aabb20ce19",
     },
+    // The same seed and I under w8h5: LMS type 5, LM-OTS type 4, I, and the root.
     PublicKey {
         set: LmsSet::W8H5,
         seed: ONES,
         ident: ONES_IDENT,
         public: "000000050000000401010101010101010101010101010101599d16861dc9aacdc40b4275991c60ebdf9decfb219eb795df51d5c9a347762a",
     },
+    // The same seed and I under w8h10: LMS type 6, LM-OTS type 4, I, and the root.
     PublicKey {
         set: LmsSet::W8H10,
         seed: ONES,
         ident: ONES_IDENT,
         public: "00000006000000040101010101010101010101010101010163f3aa29d987632d5bddaa237e3d676706638f8bb9dd19da28c8fce34d2f3ccf",
     },
+    // The RFC's SEED and I of the upper level give its upper public key.
     PublicKey {
         set: LmsSet::W4H10,
         seed: "558b8966c48ae9cb898b423c83443aae014a72f1b1ab5cc85cf1d892903b5439",
         ident: "d08fabd4a2091ff0a8cb4ed834e74534",
         public: RFC_UPPER_PUBLIC,
     },
+    // The RFC's SEED and I of the lower level give its lower public key.
     PublicKey {
         set: LmsSet::W8H5,
         seed: "a1c4696e2608035a886100d05cd99945eb3370731884a8235e2fb3d4d71f2547",
@@ -99,24 +105,28 @@ struct Signed {
 }
 
 const SIGNED: &[Signed] = &[
+    // Digits of 4 bits and 32 leaves: signatures of 2,348 bytes.
     Signed {
         set: LmsSet::W4H5,
         public: COUNTING_W4H5,
         stream_c: W4H5_STREAM_C,
         chosen_c: W4H5_CHOSEN_C,
     },
+    // Digits of 4 bits and 1,024 leaves: signatures of 2,508 bytes.
     Signed {
         set: LmsSet::W4H10,
         public: COUNTING_W4H10,
         stream_c: W4H10_STREAM_C,
         chosen_c: W4H10_CHOSEN_C,
     },
+    // Digits of 8 bits and 32 leaves: signatures of 1,292 bytes.
     Signed {
         set: LmsSet::W8H5,
         public: COUNTING_W8H5,
         stream_c: W8H5_STREAM_C,
         chosen_c: W8H5_CHOSEN_C,
     },
+    // Digits of 8 bits and 1,024 leaves: signatures of 1,452 bytes.
     Signed {
         set: LmsSet::W8H10,
         public: COUNTING_W8H10,
@@ -162,24 +172,28 @@ struct Verdict {
 
 /// RFC 8554, appendix F, test case 2: the lower signature of the message, and the upper one of the lower public key.
 const OF_THE_RFC: &[Verdict] = &[
+    // The lower key accepts the lower signature of the message.
     Verdict {
         public: RFC_LOWER_PUBLIC,
         message: RFC_MESSAGE,
         signature: RFC_LOWER_SIGNATURE,
         refused: 0,
     },
+    // The upper key refuses the lower signature by its length: 1,292 bytes, and w4h10 has 2,508.
     Verdict {
         public: RFC_UPPER_PUBLIC,
         message: RFC_MESSAGE,
         signature: RFC_LOWER_SIGNATURE,
         refused: 3,
     },
+    // The upper key accepts the upper signature of the lower public key.
     Verdict {
         public: RFC_UPPER_PUBLIC,
         message: RFC_LOWER_PUBLIC,
         signature: RFC_UPPER_SIGNATURE,
         refused: 0,
     },
+    // The upper signature isn't of the message, so it leads to another root.
     Verdict {
         public: RFC_UPPER_PUBLIC,
         message: RFC_MESSAGE,
@@ -244,38 +258,47 @@ struct Refused {
 
 /// What other programs refuse, and which test fails first.
 const REFUSED: &[Refused] = &[
+    // Leaf 30 instead of 31 leads to another root.
     Refused {
         changes: &[Change::Flip(3, 0)],
         number: 6,
     },
+    // Leaf 32 is the first behind the last.
     Refused {
         changes: &[Change::Put(0, [0x00, 0x00, 0x00, 0x20])],
         number: 5,
     },
+    // Leaf 63 is out of range, though its low five bits are those of 31.
     Refused {
         changes: &[Change::Put(0, [0x00, 0x00, 0x00, 0x3f])],
         number: 5,
     },
+    // The top bit of q is turned: leaf 2^31 + 31 is out of range.
     Refused {
         changes: &[Change::Flip(0, 7)],
         number: 5,
     },
+    // Leaf 0 is in range, but leads to another root.
     Refused {
         changes: &[Change::Put(0, [0x00, 0x00, 0x00, 0x00])],
         number: 6,
     },
+    // The signature's LM-OTS type is 0, and the key's is 3.
     Refused {
         changes: &[Change::Put(4, [0x00, 0x00, 0x00, 0x00])],
         number: 4,
     },
+    // LM-OTS type 1 isn't the key's.
     Refused {
         changes: &[Change::Put(4, [0x00, 0x00, 0x00, 0x01])],
         number: 4,
     },
+    // LM-OTS type 2 isn't the key's.
     Refused {
         changes: &[Change::Put(4, [0x00, 0x00, 0x00, 0x02])],
         number: 4,
     },
+    // Leaf 2^32 - 1, LM-OTS type 9 and a last byte missing: the length is tested first.
     Refused {
         changes: &[
             Change::Put(0, [0xff, 0xff, 0xff, 0xff]),
@@ -284,22 +307,27 @@ const REFUSED: &[Refused] = &[
         ],
         number: 3,
     },
+    // An empty key and an empty signature: the key's length is tested first.
     Refused {
         changes: &[Change::CutKey(0), Change::Cut(0)],
         number: 1,
     },
+    // Nothing is changed, and the signature is valid.
     Refused {
         changes: &[],
         number: 0,
     },
+    // The signature lacks its last byte.
     Refused {
         changes: &[Change::Cut(2347)],
         number: 3,
     },
+    // LM-OTS type 4 is that of the w8 sets, but not the key's.
     Refused {
         changes: &[Change::Put(4, [0x00, 0x00, 0x00, 0x04])],
         number: 4,
     },
+    // Leaf 2^32 - 1 and LM-OTS type 9: the type is tested before the leaf.
     Refused {
         changes: &[
             Change::Put(0, [0xff, 0xff, 0xff, 0xff]),
@@ -307,38 +335,47 @@ const REFUSED: &[Refused] = &[
         ],
         number: 4,
     },
+    // The top bit of C's first byte is turned, and the signature leads to another root.
     Refused {
         changes: &[Change::Flip(8, 7)],
         number: 6,
     },
+    // The signature is one byte, the first of q.
     Refused {
         changes: &[Change::Cut(1)],
         number: 3,
     },
+    // The signature ends inside q.
     Refused {
         changes: &[Change::Cut(3)],
         number: 3,
     },
+    // The key is one byte, the first of its LMS type.
     Refused {
         changes: &[Change::CutKey(1)],
         number: 1,
     },
+    // The key ends behind its LMS type.
     Refused {
         changes: &[Change::CutKey(4)],
         number: 1,
     },
+    // The key ends behind I, without a root.
     Refused {
         changes: &[Change::CutKey(24)],
         number: 1,
     },
+    // The key's LMS type is 0, which is that of no set.
     Refused {
         changes: &[Change::Types([0x00, 0x00, 0x00, 0x00])],
         number: 2,
     },
+    // The key's LMS type is 1, which is that of no set.
     Refused {
         changes: &[Change::Types([0x00, 0x00, 0x00, 0x01])],
         number: 2,
     },
+    // The key's LMS type is 4, one below those of the sets.
     Refused {
         changes: &[Change::Types([0x00, 0x00, 0x00, 0x04])],
         number: 2,
