@@ -17,7 +17,7 @@ use serial_audit::audit::{Verdict, audit};
 use std::alloc::Global;
 
 /// What an audit's input leads to.
-#[derive(Debug, Drop)]
+#[derive(Drop)]
 pub enum Finding {
     /// The first line that is refused, from 1, and why.
     BadLine { line: u64, reason: Reason },

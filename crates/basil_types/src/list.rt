@@ -7,7 +7,7 @@ use std::alloc::Global;
 use std::marker::Model;
 
 /// An owned list. Contracts see its items, and beside them the number of items that it can take without memory.
-#[derive(Debug, Drop)]
+#[derive(Drop)]
 pub struct List<T> {
     vec: Vec<T>,
 }

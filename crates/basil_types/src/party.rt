@@ -13,7 +13,7 @@ pub enum Party {
 }
 
 /// What a vote, a log reply or a certificate says.
-#[derive(Clone, Copy, Debug, PartialEq, Eq, PartialOrd, Ord)]
+#[derive(Clone, Copy, PartialEq, Eq, PartialOrd, Ord)]
 pub enum Decision {
     Commit,
     Abort,

@@ -7,7 +7,7 @@ use std::cmp::Ordering;
 
 /// A version of a key: the time, the client and the id of the transaction that wrote it, in that order.
 /// Genesis, the version (0, 0, 32 zero bytes), stands for an absent key.
-#[derive(Clone, Copy, Debug, PartialEq, Eq, PartialOrd, Ord)]
+#[derive(Clone, Copy, PartialEq, Eq, PartialOrd, Ord)]
 pub struct Version {
     pub time: u64,
     pub client: u8,

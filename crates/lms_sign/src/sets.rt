@@ -7,7 +7,7 @@ use crate::bytes::read_number;
 use lms_ots::OtsSet;
 
 /// A parameter set of RFC 8554, section 5.1, with SHA-256 and m = 32, over one of section 4.1.
-#[derive(Clone, Copy, Debug, PartialEq, Eq)]
+#[derive(Clone, Copy, PartialEq, Eq)]
 pub enum LmsSet {
     /// LMS_SHA256_M32_H5 over LMOTS_SHA256_N32_W4: 32 leaves, signatures of 2,348 bytes.
     W4H5,

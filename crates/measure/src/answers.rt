@@ -14,7 +14,7 @@ use node_steps::pending::outbox;
 use std::alloc::Global;
 
 /// What a client is handed about a transaction.
-#[derive(Clone, Copy, Debug, PartialEq, Eq)]
+#[derive(Clone, Copy, PartialEq, Eq)]
 pub enum Answering {
     /// The votes to commit of every replica, of which the last one decides.
     Votes,

@@ -12,7 +12,7 @@ use lms_sign::LmsSet;
 use std::alloc::Global;
 
 /// How the votes of a made frame are signed.
-#[derive(Clone, Copy, Debug, PartialEq, Eq)]
+#[derive(Clone, Copy, PartialEq, Eq)]
 pub enum Votes {
     /// By bytes that are no signature, as many as in the longest one of the program's keyrings.
     Filler,

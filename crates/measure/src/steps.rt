@@ -16,7 +16,7 @@ use replica_core::Replica;
 use std::alloc::Global;
 
 /// What a replica is handed, each about a transaction of its own.
-#[derive(Clone, Copy, Debug, PartialEq, Eq)]
+#[derive(Clone, Copy, PartialEq, Eq)]
 pub enum Stepping {
     /// First stages of transactions that aren't known.
     FirstStage,
@@ -27,7 +27,7 @@ pub enum Stepping {
 }
 
 /// Whether frames are handed to a replica, or only made.
-#[derive(Clone, Copy, Debug, PartialEq, Eq)]
+#[derive(Clone, Copy, PartialEq, Eq)]
 pub enum Handing {
     Made,
     Handed,

@@ -7,7 +7,7 @@ use basil_types::bytes::Bytes;
 use basil_types::party::Party;
 
 /// What became of a message. A round passes over what was delivered or lost.
-#[derive(Clone, Copy, Debug, PartialEq, Eq)]
+#[derive(Clone, Copy, PartialEq, Eq)]
 pub enum Fate {
     Waiting,
     Delivered,

@@ -11,7 +11,7 @@ pub mod replicas;
 use crate::fields::spellings::is_text;
 
 /// The kinds of lines, by their first words.
-#[derive(Clone, Copy, Debug, PartialEq, Eq)]
+#[derive(Clone, Copy, PartialEq, Eq)]
 pub enum Kind {
     Basil,
     Faulty,

@@ -6,7 +6,7 @@ use basil_types::cluster::Cluster;
 use basil_types::party::{Decision, Party};
 
 /// How the parties of a run sign.
-#[derive(Clone, Copy, Debug, PartialEq, Eq)]
+#[derive(Clone, Copy, PartialEq, Eq)]
 pub enum KeysKind {
     /// `plain`: no signing at all.
     Plain,

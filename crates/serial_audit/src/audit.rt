@@ -12,7 +12,7 @@ use basil_types::version::Version;
 use std::alloc::Global;
 
 /// Whether each read of listed transactions is of the version that the serial order gives it.
-#[derive(Debug, Drop)]
+#[derive(Drop)]
 pub enum Verdict {
     /// Each is.
     Serial,

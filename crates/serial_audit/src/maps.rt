@@ -23,7 +23,7 @@ use std::collections::BTreeMap;
 use txn_meta::form::version_of;
 
 /// The latest write of a key: its writer's version, and the value, which is empty where it deletes the key.
-#[derive(Debug, Drop)]
+#[derive(Drop)]
 pub struct Pair {
     pub key: Bytes,
     pub writer: Version,

@@ -15,7 +15,7 @@ use std::alloc::Global;
 use std::marker::Model;
 
 /// A transaction, by its canonical bytes.
-#[derive(Debug, Drop)]
+#[derive(Drop)]
 pub struct Transaction {
     bytes: Vec<u8>,
 }

@@ -4,7 +4,7 @@ use crate::bytes::Bytes;
 use crate::version::Version;
 
 /// A read: the key, the version that was read, and whether that version was only prepared.
-#[derive(Debug, Drop)]
+#[derive(Drop)]
 pub struct ReadPart {
     /// 1 to 64 bytes.
     pub key: Bytes,
@@ -13,7 +13,7 @@ pub struct ReadPart {
 }
 
 /// A write: it gives its key a value, or deletes it.
-#[derive(Debug, Drop)]
+#[derive(Drop)]
 pub struct WritePart {
     /// 1 to 64 bytes.
     pub key: Bytes,
@@ -23,7 +23,7 @@ pub struct WritePart {
 }
 
 /// A read of borrowed bytes.
-#[derive(Clone, Copy, Debug)]
+#[derive(Clone, Copy)]
 pub struct ReadItem<'a> {
     /// 1 to 64 bytes.
     pub key: &'a [u8],
@@ -32,7 +32,7 @@ pub struct ReadItem<'a> {
 }
 
 /// A write of borrowed bytes.
-#[derive(Clone, Copy, Debug)]
+#[derive(Clone, Copy)]
 pub struct WriteItem<'a> {
     /// 1 to 64 bytes.
     pub key: &'a [u8],
