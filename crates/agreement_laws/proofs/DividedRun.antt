@@ -135,13 +135,18 @@ lawful = (
                               (
                                 (refl, (refl, lit< tt)),
                                 (
-                                  (refl, elected _ (2, lit< tt, refl) (2, lit< tt, refl) (2, lit< tt, refl) (2, lit< tt, refl) (2, lit< tt, refl)),
+                                  (
+                                    refl,
+                                    elected _
+                                        (2, lit< tt, refl) (2, lit< tt, refl) (2, lit< tt, refl) (2, lit< tt, refl) (2, lit< tt, refl),
+                                  ),
                                   (
                                     (
                                       refl,
                                       (
                                         (lit< tt, lit≤ tt),
-                                        elected _ (2, lit< tt, refl) (2, lit< tt, refl) (2, lit< tt, refl) (2, lit< tt, refl) (2, lit< tt, refl),
+                                        elected _
+                                            (2, lit< tt, refl) (2, lit< tt, refl) (2, lit< tt, refl) (2, lit< tt, refl) (2, lit< tt, refl),
                                         inr (3, lit< tt, refl),
                                       ),
                                     ),
@@ -150,7 +155,8 @@ lawful = (
                                         refl,
                                         (
                                           (lit< tt, lit≤ tt),
-                                          elected _ (2, lit< tt, refl) (2, lit< tt, refl) (2, lit< tt, refl) (2, lit< tt, refl) (2, lit< tt, refl),
+                                          elected _ (2, lit< tt, refl)
+                                              (2, lit< tt, refl) (2, lit< tt, refl) (2, lit< tt, refl) (2, lit< tt, refl),
                                           inr (3, lit< tt, refl),
                                         ),
                                       ),
@@ -159,7 +165,8 @@ lawful = (
                                           refl,
                                           (
                                             (lit< tt, lit≤ tt),
-                                            elected _ (2, lit< tt, refl) (2, lit< tt, refl) (2, lit< tt, refl) (2, lit< tt, refl) (2, lit< tt, refl),
+                                            elected _ (2, lit< tt, refl)
+                                                (2, lit< tt, refl) (2, lit< tt, refl) (2, lit< tt, refl) (2, lit< tt, refl),
                                             inr (3, lit< tt, refl),
                                           ),
                                         ),
@@ -168,7 +175,8 @@ lawful = (
                                             refl,
                                             (
                                               (lit< tt, lit≤ tt),
-                                              elected _ (2, lit< tt, refl) (2, lit< tt, refl) (2, lit< tt, refl) (2, lit< tt, refl) (2, lit< tt, refl),
+                                              elected _ (2, lit< tt, refl)
+                                                  (2, lit< tt, refl) (2, lit< tt, refl) (2, lit< tt, refl) (2, lit< tt, refl),
                                               inr (3, lit< tt, refl),
                                             ),
                                           ),
@@ -177,12 +185,20 @@ lawful = (
                                               refl,
                                               (
                                                 (lit< tt, lit≤ tt),
-                                                elected _ (2, lit< tt, refl) (2, lit< tt, refl) (2, lit< tt, refl) (2, lit< tt, refl) (2, lit< tt, refl),
+                                                elected _ (2, lit< tt, refl)
+                                                    (2, lit< tt, refl) (2, lit< tt, refl) (2, lit< tt, refl) (2, lit< tt, refl),
                                                 inr (3, lit< tt, refl),
                                               ),
                                             ),
                                             (
-                                              (refl, (refl, committed _ (3, lit< tt, refl) (4, lit< tt, refl) (3, lit< tt, refl) (3, lit< tt, refl) (3, lit< tt, refl))),
+                                              (
+                                                refl,
+                                                (
+                                                  refl,
+                                                  committed _ (3, lit< tt, refl)
+                                                      (4, lit< tt, refl) (3, lit< tt, refl) (3, lit< tt, refl) (3, lit< tt, refl),
+                                                ),
+                                              ),
                                               tt,
                                             ),
                                           ),

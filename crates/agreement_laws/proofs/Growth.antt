@@ -3,7 +3,8 @@ use Rattle.std.proofs.Common.{ℕ, inl, inr}
 use Rattle.quorum_laws.proofs.Quorums.{weaker}
 use Rattle.agreement_laws.specs.Words.{Id, Decision, Commit, Abort, Word, Vote, LogReply, Election}
 use Rattle.agreement_laws.specs.Settings.{Setting}
-use Rattle.agreement_laws.specs.Certificates.{Signed, Grows, Says, Voted, Tallied, Logged, Elected, CanCommit, FastAbort, LoggedAbort, ConflictAbort, CanAbort}
+use Rattle.agreement_laws.specs.Certificates.{Signed, Grows, Says, Voted, Tallied, Logged, Elected}
+use Rattle.agreement_laws.specs.Certificates.{CanCommit, FastAbort, LoggedAbort, ConflictAbort, CanAbort}
 
 module _ (c : Setting) (p q : Signed) (g : Grows p q) where
   pub Says-grows : (s r : ℕ) (w : Word) → Says c p s r w → Says c q s r w
@@ -21,7 +22,13 @@ module _ (c : Setting) (p q : Signed) (g : Grows p q) where
   Logged-grows x d v l = weaker _ _ (λ r _ h. (h.0, Says-grows (c.log_shard x) r (LogReply (c.log_shard x) r x d v h.0) h.1)) l
 
   pub Elected-grows : (x : Id) (d : Decision) (v : ℕ) → Elected c p x d v → Elected c q x d v
-  Elected-grows x d v e = record { who = e.who; names = e.names; exact = e.exact; most = e.most; each = λ r l h. Says-grows (c.log_shard x) r (Election (c.log_shard x) r x (e.names r) v) (e.each r l h) }
+  Elected-grows x d v e = record {
+    who = e.who;
+    names = e.names;
+    exact = e.exact;
+    most = e.most;
+    each = λ r l h. Says-grows (c.log_shard x) r (Election (c.log_shard x) r x (e.names r) v) (e.each r l h);
+  }
 
   pub CanCommit-grows : (x : Id) → CanCommit c p x → CanCommit c q x
   CanCommit-grows x (inl h) = inl (λ s i. Voted-grows x s Commit _ (h s i))

@@ -5,7 +5,8 @@ use Rattle.std.proofs.lemmas.List.Elements.{Contains-append_left, Contains-appen
 use Rattle.agreement_laws.specs.Words.{Id, Decision, Word, Vote, LogReply, Election, Proposal}
 use Rattle.agreement_laws.specs.Settings.{Setting}
 use Rattle.agreement_laws.specs.Certificates.{Signed, Tallied, Elected, Grows}
-use Rattle.agreement_laws.specs.Replicas.{LogCell, Book, Act, Votes, Waits, Ends, Logs, Repeats, Enters, Proposes, Adopts, entered, after, reply_of, election_of, words, CanEnter, CanAdopt, May}
+use Rattle.agreement_laws.specs.Replicas.{LogCell, Book, Act, Votes, Waits, Ends, Logs, Repeats, Enters, Proposes}
+use Rattle.agreement_laws.specs.Replicas.{Adopts, entered, after, reply_of, election_of, words, CanEnter, CanAdopt, May}
 use Rattle.agreement_laws.specs.Runs.{put_id}
 use Rattle.agreement_laws.specs.Invariants.{IsUnder, IsReached, IsBacked, LogHolds}
 use Rattle.agreement_laws.proofs.Puts.{in_none, in_one, put_id_cases}
@@ -31,8 +32,10 @@ module _ (c : Setting) (signed : Signed) (s r : ℕ) (own : List Word) (x : Id) 
   pub LogHolds-other : (cell : Option LogCell) (ws : List Word) → ((d : Decision) (v a : ℕ) → Contains ws (Reply d v a) → ⊥) →
       ((d : Decision) (w : ℕ) → Contains ws (Names d w) → ⊥) → Holds own cell → Holds (own ++ ws) cell
   LogHolds-other cell ws no_reply no_election l =
-      let old_reply = λ (d : Decision) (v a : ℕ) (h : Contains (own ++ ws) (Reply d v a)). let k : Contains own (Reply d v a) = elim (Contains-append_cases own ws _ h) [ inl k ↦ k | inr k ↦ absurd (no_reply d v a k) ] in k in
-      let old_name = λ (d : Decision) (w : ℕ) (h : Contains (own ++ ws) (Names d w)). let k : Contains own (Names d w) = elim (Contains-append_cases own ws _ h) [ inl k ↦ k | inr k ↦ absurd (no_election d w k) ] in k in
+      let old_reply = λ (d : Decision) (v a : ℕ) (h : Contains (own ++ ws) (Reply d v a)). let k : Contains own (Reply d v a) =
+      elim (Contains-append_cases own ws _ h) [ inl k ↦ k | inr k ↦ absurd (no_reply d v a k) ] in k in
+      let old_name = λ (d : Decision) (w : ℕ) (h : Contains (own ++ ws) (Names d w)). let k : Contains own (Names d w) =
+      elim (Contains-append_cases own ws _ h) [ inl k ↦ k | inr k ↦ absurd (no_election d w k) ] in k in
       record {
         under = λ d v a h. l.under d v a (old_reply d v a h);
         backed = IsBacked-more ws cell l.backed;
@@ -41,7 +44,8 @@ module _ (c : Setting) (signed : Signed) (s r : ℕ) (own : List Word) (x : Id) 
         first = λ d a h. l.first d a (old_reply d 0 a h);
         later = λ d v a h. l.later d v a (old_reply d v a h);
         named = λ d w h. let z = l.named d w (old_name d w h) in (z.0, z.1, z.2, Contains-append_left own ws (Reply d z.0 z.1) z.3);
-        latest = λ e w d v a h k i. let z = l.latest e w d v a (old_name e w h) (old_reply d v a k) i in (z.0, z.1, z.2, z.3, Contains-append_left own ws (Reply e z.0 z.1) z.4);
+        latest = λ e w d v a h k i. let z = l.latest e w d v a (old_name e w h) (old_reply d v a k) i in
+            (z.0, z.1, z.2, z.3, Contains-append_left own ws (Reply e z.0 z.1) z.4);
       }
 
   under_now : (k : LogCell) (d : Decision) (v : ℕ) → IsUnder (Some k) d v → (v ≤ k.decided) × (v ≡ k.decided → d ≡ k.decision)
@@ -51,29 +55,44 @@ module _ (c : Setting) (signed : Signed) (s r : ℕ) (own : List Word) (x : Id) 
   -- one more log reply, of a cell at or above the old one
   LogHolds-reply : (cell : Option LogCell) (k : LogCell) (a : ℕ) → k.decided ≤ k.current →
       ((d : Decision) (v : ℕ) → IsUnder cell d v → IsUnder (Some k) d v) → ((w : ℕ) → IsReached cell w → w ≤ k.current)
-      → ((e : Decision) (w : ℕ) → Contains own (Names e w) → k.decided < w → (u b : ℕ) × (k.decided ≤ u) × (u < w) × Contains own (Reply e u b))
+      → ((e : Decision) (w : ℕ) → Contains own (Names e w) →
+      k.decided < w → (u b : ℕ) × (k.decided ≤ u) × (u < w) × Contains own (Reply e u b))
       → (k.decided ≡ 0 → Tallied c signed x k.decision) → (0 < k.decided → Elected c signed x k.decision k.decided)
       → Holds own cell → Holds (own ++ Reply k.decision k.decided a ∷ []) (Some k)
   LogHolds-reply cell k a low raised reached_by named_by tally election l =
       let new : Word = Reply k.decision k.decided a in
       let ws : List Word = new ∷ [] in
       let IsOld : Decision → ℕ → ℕ → Type 0 = λ d v b. Contains own (Reply d v b) ⊎ ((k.decision ≡ d) × (k.decided ≡ v)) in
-      let old_reply = λ (d : Decision) (v b : ℕ) (h : Contains (own ++ ws) (Reply d v b)). let z : IsOld d v b = elim (Contains-append_cases own ws _ h) [ inl i ↦ inl i | inr i ↦ let e : new ≡ Reply d v b = in_one _ _ i in inr ((cc), (cc)) ] in z in
-      let old_name = λ (d : Decision) (w : ℕ) (h : Contains (own ++ ws) (Names d w)). let z : Contains own (Names d w) = elim (Contains-append_cases own ws _ h) [ inl i ↦ i | inr i ↦ let e : new ≡ Names d w = in_one _ _ i in cc ] in z in
+      let old_reply = λ (d : Decision) (v b : ℕ) (h : Contains (own ++ ws) (Reply d v b)). let z : IsOld d v b = elim (Contains-append_cases
+      own ws _ h) [ inl i ↦ inl i | inr i ↦ let e : new ≡ Reply d v b = in_one _ _ i in inr ((cc), (cc)) ] in z in
+      let old_name = λ (d : Decision) (w : ℕ) (h : Contains (own ++ ws) (Names d w)). let z : Contains own (Names d w) =
+      elim (Contains-append_cases own ws _ h) [ inl i ↦ i | inr i ↦ let e : new ≡ Names d w = in_one _ _ i in cc ] in z in
       record {
         under = λ d v b h. elim (old_reply d v b h) [ inl i ↦ raised d v (l.under d v b i) | inr i ↦ inr (sym i.1, sym i.0) ];
         backed = (low, a, Contains-append_right own ws new (0, omega arith, refl));
         reached = λ d w h. reached_by w (l.reached d w (old_name d w h));
         one_decision = λ d e v b b' h i. elim (old_reply d v b h) [
-          | inl p ↦ elim (old_reply e v b' i) [ inl q ↦ l.one_decision d e v b b' p q | inr q ↦ (under_now k d v (raised d v (l.under d v b p))).1 (sym q.1) ∙ q.0 ]
-          | inr p ↦ elim (old_reply e v b' i) [ inl q ↦ sym p.0 ∙ sym ((under_now k e v (raised e v (l.under e v b' q))).1 (sym p.1)) | inr q ↦ sym p.0 ∙ q.0 ]
+          | inl p ↦ elim (old_reply e v b' i) [
+            | inl q ↦ l.one_decision d e v b b' p q
+            | inr q ↦ (under_now k d v (raised d v (l.under d v b p))).1 (sym q.1) ∙ q.0
+          ]
+          | inr p ↦ elim (old_reply e v b' i) [
+            | inl q ↦ sym p.0 ∙ sym ((under_now k e v (raised e v (l.under e v b' q))).1 (sym p.1))
+            | inr q ↦ sym p.0 ∙ q.0
+          ]
         ];
         first = λ d b h. elim (old_reply d 0 b h) [ inl i ↦ l.first d b i | inr i ↦ subst (Tallied c signed x) i.0 (tally i.1) ];
-        later = λ d v b h p. elim (old_reply d v b h) [ inl i ↦ l.later d v b i p | inr i ↦ let z = election (omega (arith, i.1)) in subst (λ g. Elected c signed x g v) i.0 (subst (λ (n : ℕ). Elected c signed x k.decision n) i.1 z) ];
+        later = λ d v b h p. elim (old_reply d v b h) [
+          | inl i ↦ l.later d v b i p
+          | inr i ↦ let z = election (omega (arith, i.1)) in
+              subst (λ g. Elected c signed x g v) i.0 (subst (λ (n : ℕ). Elected c signed x k.decision n) i.1 z)
+        ];
         named = λ d w h. let z = l.named d w (old_name d w h) in (z.0, z.1, z.2, Contains-append_left own ws (Reply d z.0 z.1) z.3);
         latest = λ e w d v b h i p. elim (old_reply d v b i) [
-          | inl q ↦ let z = l.latest e w d v b (old_name e w h) q p in (z.0, z.1, z.2, z.3, Contains-append_left own ws (Reply e z.0 z.1) z.4)
-          | inr q ↦ let z = named_by e w (old_name e w h) (omega (arith, q.1)) in (z.0, z.1, omega (arith, z.2, q.1), z.3, Contains-append_left own ws (Reply e z.0 z.1) z.4)
+          | inl q ↦ let z =
+              l.latest e w d v b (old_name e w h) q p in (z.0, z.1, z.2, z.3, Contains-append_left own ws (Reply e z.0 z.1) z.4)
+          | inr q ↦ let z = named_by e w (old_name e w h) (omega (arith, q.1)) in
+              (z.0, z.1, omega (arith, z.2, q.1), z.3, Contains-append_left own ws (Reply e z.0 z.1) z.4)
         ];
       }
 
@@ -84,23 +103,38 @@ module _ (c : Setting) (signed : Signed) (s r : ℕ) (own : List Word) (x : Id) 
       let new : Word = Names k.decision w in
       let ws : List Word = new ∷ [] in
       let IsOld : Decision → ℕ → Type 0 = λ d u. Contains own (Names d u) ⊎ ((k.decision ≡ d) × (w ≡ u)) in
-      let old_reply = λ (d : Decision) (v b : ℕ) (h : Contains (own ++ ws) (Reply d v b)). let z : Contains own (Reply d v b) = elim (Contains-append_cases own ws _ h) [ inl i ↦ i | inr i ↦ let e : new ≡ Reply d v b = in_one _ _ i in cc ] in z in
-      let old_name = λ (d : Decision) (u : ℕ) (h : Contains (own ++ ws) (Names d u)). let z : IsOld d u = elim (Contains-append_cases own ws _ h) [ inl i ↦ inl i | inr i ↦ let e : new ≡ Names d u = in_one _ _ i in inr ((cc), (cc)) ] in z in
+      let old_reply = λ (d : Decision) (v b : ℕ) (h : Contains (own ++ ws) (Reply d v b)). let z : Contains own (Reply d v b) =
+      elim (Contains-append_cases own ws _ h) [ inl i ↦ i | inr i ↦ let e : new ≡ Reply d v b = in_one _ _ i in cc ] in z in
+      let old_name = λ (d : Decision) (u : ℕ) (h : Contains (own ++ ws) (Names d u)). let z : IsOld d u = elim (Contains-append_cases own
+      ws _ h) [ inl i ↦ inl i | inr i ↦ let e : new ≡ Names d u = in_one _ _ i in inr ((cc), (cc)) ] in z in
       let b = l.backed in
       record {
         under = λ d v a h. l.under d v a (old_reply d v a h);
         backed = (omega (arith, b.0), b.1, Contains-append_left own ws _ b.2);
-        reached = λ d u h. elim (old_name d u h) [ inl i ↦ let z : u ≤ k.current = l.reached d u i in omega arith | inr i ↦ omega (arith, i.1) ];
+        reached =
+            λ d u h. elim (old_name d u h) [ inl i ↦ let z : u ≤ k.current = l.reached d u i in omega arith | inr i ↦ omega (arith, i.1) ];
         one_decision = λ d e v a b' h i. l.one_decision d e v a b' (old_reply d v a h) (old_reply e v b' i);
         first = λ d a h. l.first d a (old_reply d 0 a h);
         later = λ d v a h. l.later d v a (old_reply d v a h);
         named = λ d u h. elim (old_name d u h) [
           | inl i ↦ let z = l.named d u i in (z.0, z.1, z.2, Contains-append_left own ws (Reply d z.0 z.1) z.3)
-          | inr i ↦ (k.decided, b.1, omega (arith, b.0, i.1), Contains-append_left own ws _ (subst (λ g. Contains own (Reply g k.decided b.1)) i.0 b.2))
+          | inr i ↦ (
+            k.decided,
+            b.1,
+            omega (arith, b.0, i.1),
+            Contains-append_left own ws _ (subst (λ g. Contains own (Reply g k.decided b.1)) i.0 b.2),
+          )
         ];
         latest = λ e u d v a h i p. elim (old_name e u h) [
-          | inl q ↦ let z = l.latest e u d v a q (old_reply d v a i) p in (z.0, z.1, z.2, z.3, Contains-append_left own ws (Reply e z.0 z.1) z.4)
-          | inr q ↦ (k.decided, b.1, (under_now k d v (l.under d v a (old_reply d v a i))).0, omega (arith, b.0, q.1), Contains-append_left own ws _ (subst (λ g. Contains own (Reply g k.decided b.1)) q.0 b.2))
+          | inl q ↦ let z =
+              l.latest e u d v a q (old_reply d v a i) p in (z.0, z.1, z.2, z.3, Contains-append_left own ws (Reply e z.0 z.1) z.4)
+          | inr q ↦ (
+            k.decided,
+            b.1,
+            (under_now k d v (l.under d v a (old_reply d v a i))).0,
+            omega (arith, b.0, q.1),
+            Contains-append_left own ws _ (subst (λ g. Contains own (Reply g k.decided b.1)) q.0 b.2),
+          )
         ];
       }
 
@@ -147,21 +181,25 @@ module _ (c : Setting) (signed : Signed) (s r : ℕ) (own : List Word) (x : Id) 
   module _ (up : (y : Id) (d : Decision) (v : ℕ) → Elected c signed y d v → 0 < v) (aborted : Id → Bool) (book : Book) where
     LogHolds-act : (a : Act) → May c signed aborted s book x a → Holds own (book x).cell →
         Holds (own ++ words s r x a (book x)) (after a (book x)).cell
-    LogHolds-act (Votes d) m l = LogHolds-other _ (Vote s r x d ∷ []) (λ e v b h. let k = in_one _ _ h in cc) (λ e w h. let k = in_one _ _ h in cc) l
+    LogHolds-act (Votes d) m l =
+        LogHolds-other _ (Vote s r x d ∷ []) (λ e v b h. let k = in_one _ _ h in cc) (λ e w h. let k = in_one _ _ h in cc) l
     LogHolds-act Waits m l = LogHolds-other _ [] (λ e v b h. in_none _ h) (λ e w h. in_none _ h) l
     LogHolds-act (Ends d) m l = LogHolds-other _ [] (λ e v b h. in_none _ h) (λ e w h. in_none _ h) l
     LogHolds-act (Logs d) m l = logs _ d m.1 m.2 l
     LogHolds-act Repeats m l = repeats _ l
     LogHolds-act (Enters w) m l = enters _ w m.1 l
-    LogHolds-act (Proposes d v) m l = LogHolds-other _ (Proposal s r x d v ∷ []) (λ e u b h. let k = in_one _ _ h in cc) (λ e w h. let k = in_one _ _ h in cc) l
+    LogHolds-act (Proposes d v) m l =
+        LogHolds-other _ (Proposal s r x d v ∷ []) (λ e u b h. let k = in_one _ _ h in cc) (λ e w h. let k = in_one _ _ h in cc) l
     LogHolds-act (Adopts d v) m l = adopts _ d v (up x d v m.1) m.0 m.1 l
 
-module _ (c : Setting) (signed : Signed) (s r : ℕ) (own : List Word) (x : Id) (up : (y : Id) (d : Decision) (v : ℕ) → Elected c signed y d v → 0 < v) (aborted : Id → Bool) (book : Book) where
+module _ (c : Setting) (signed : Signed) (s r : ℕ) (own : List Word)
+    (x : Id) (up : (y : Id) (d : Decision) (v : ℕ) → Elected c signed y d v → 0 < v) (aborted : Id → Bool) (book : Book) where
   pub LogHolds-step : (a : Act) → May c signed aborted s book x a → ((y : Id) → LogHolds c signed s r own y (book y).cell) → (y : Id) →
       LogHolds c signed s r (own ++ words s r x a (book x)) y (put_id book x (after a (book x)) y).cell
   LogHolds-step a m l = put_id_cases (λ y t. LogHolds c signed s r (own ++ words s r x a (book x)) y t.cell) book x (after a (book x))
       (LogHolds-act c signed s r own x up aborted book a m (l x))
-      (λ y n. LogHolds-other c signed s r own y (book y).cell (words s r x a (book x)) (λ d v b h. n (reply_signed s r x y a (book x) d v b h)) (λ d w h. n (election_signed s r x y a (book x) d w h)) (l y))
+      (λ y n. LogHolds-other c signed s r own y (book y).cell (words s r x a (book x))
+      (λ d v b h. n (reply_signed s r x y a (book x) d v b h)) (λ d w h. n (election_signed s r x y a (book x) d w h)) (l y))
 
 -- what others sign is of no matter
 pub LogHolds-grows : (c : Setting) (p q : Signed) → Grows p q → (s r : ℕ) (own : List Word) (x : Id) (cell : Option LogCell) →

@@ -26,14 +26,16 @@ module _ {A : Type 0} where
   pub put_id_cases : (P : Id → A → Type 0) (g : Id → A) (x : Id) (a : A) → P x a → ((y : Id) → (y ≡ x → ⊥) → P y (g y)) → (y : Id) →
       P y (put_id g x a y)
   put_id_cases P g x a h k y = elim (cases_Bool (same_id y x)) [
-    | inl e ↦ let Q : Id → Type 0 = λ z. P z a in subst (P y) (sym (ap (λ b. cond b a (g y)) e)) (subst Q (sym ((bytes_eq-Decides y x).0 e)) h)
+    | inl e ↦ let Q : Id → Type 0 =
+        λ z. P z a in subst (P y) (sym (ap (λ b. cond b a (g y)) e)) (subst Q (sym ((bytes_eq-Decides y x).0 e)) h)
     | inr e ↦ subst (P y) (sym (ap (λ b. cond b a (g y)) e)) (k y (λ p. let q : true ≡ false = sym ((bytes_eq-Decides y x).1 p) ∙ e in cc))
   ]
 
   pub put_cases : (P : ℕ → A → Type 0) (g : ℕ → A) (i : ℕ) (a : A) → P i a → ((j : ℕ) → (j ≡ i → ⊥) → P j (g j)) → (j : ℕ) →
       P j (put g i a j)
   put_cases P g i a h k j = elim (cases_eq j i) [
-    | inl e ↦ let Q : ℕ → Type 0 = λ z. P z (put g i a z) in subst Q (sym e) (subst (P i) (sym (ap (λ b. cond b a (g i)) (eq-eqb i i refl))) h)
+    | inl e ↦ let Q : ℕ → Type 0 =
+        λ z. P z (put g i a z) in subst Q (sym e) (subst (P i) (sym (ap (λ b. cond b a (g i)) (eq-eqb i i refl))) h)
     | inr n ↦ subst (P j) (sym (ap (λ b. cond b a (g j)) (ne_eqb j i n))) (k j n)
   ]
 

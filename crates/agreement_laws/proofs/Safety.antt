@@ -1,5 +1,6 @@
 -- Conflict exclusion and agreement: the invariant, kept by each lawful event.
-use Rattle.std.proofs.Common.{◌≡◌, ℕ, ◌<◌, ◌+◌, ◌*◌, true, false, refl, arith, ◌⊎◌, inl, inr, sym, ◌∙◌, ap, subst, List, [], ◌∷◌, Some, None}
+use Rattle.std.proofs.Common.{◌≡◌, ℕ, ◌<◌, ◌+◌, ◌*◌, true, false, refl, arith, ◌⊎◌}
+use Rattle.std.proofs.Common.{inl, inr, sym, ◌∙◌, ap, subst, List, [], ◌∷◌, Some, None}
 use Rattle.std.specs.List.{Contains}
 use Rattle.std.proofs.lemmas.Bool.{cases_Bool, false_from_ne_true}
 use Rattle.std.proofs.lemmas.List.Elements.{Contains-append_left, Contains-append_cases}
@@ -10,9 +11,11 @@ use Rattle.agreement_laws.specs.Words.{Id, Commit, Abort, Word, Vote}
 use Rattle.agreement_laws.specs.Settings.{Setting, Sane}
 use Rattle.agreement_laws.specs.Certificates.{Signed, Says, CanCommit, FastAbort, LoggedAbort, ConflictAbort, CanAbort, Grows}
 use Rattle.agreement_laws.specs.Replicas.{Slot, is_standing, Act, after, words, May}
-use Rattle.agreement_laws.specs.Runs.{Node, State, signed_of, Event, Acts, Lies, Shows, put_id, put_node, acted, lied, happens, IsLawful, run, AreLawful, start, answered, MayAnswer, answers}
+use Rattle.agreement_laws.specs.Runs.{Node, State, signed_of, Event, Acts, Lies, Shows, put_id, put_node, acted}
+use Rattle.agreement_laws.specs.Runs.{lied, happens, IsLawful, run, AreLawful, start, answered, MayAnswer, answers}
 use Rattle.agreement_laws.specs.Invariants.{VotesHold, InOrder, Bars, IsBlocked, Invariant}
-use Rattle.agreement_laws.specs.Laws.{Counting, LockIn, Exclusion, Dependency, DependencyThere, CommitVotes, Voters, Agreement, FromInvariant, InEveryRun, HoldsAtStart, HoldsAfterEvent, HoldsAfterAnswer}
+use Rattle.agreement_laws.specs.Laws.{Counting, LockIn, Exclusion, Dependency, DependencyThere, CommitVotes, Voters}
+use Rattle.agreement_laws.specs.Laws.{Agreement, FromInvariant, InEveryRun, HoldsAtStart, HoldsAfterEvent, HoldsAfterAnswer}
 use Rattle.agreement_laws.proofs.Puts.{in_none, put_id_same, put_id_cases, put_node_cases}
 use Rattle.agreement_laws.proofs.Growth.{CanCommit-grows, FastAbort-grows, LoggedAbort-grows}
 use Rattle.agreement_laws.proofs.Signings.{vote_signed}
@@ -43,7 +46,8 @@ module _ (c : Setting) (ok : Sane c) (st : State) (inv : Invariant c st) where
   pub one_gave_way : (s r : ℕ) (x y : Id) → c.faulty s r ≡ false → c.conflict x y s ≡ true → Contains (Words s r) (Vote s r x Commit) →
       Contains (Words s r) (Vote s r y Commit) →
       (((st.nodes s r).book x).outcome ≡ Some Abort) ⊎ (((st.nodes s r).book y).outcome ≡ Some Abort)
-  one_gave_way s r x y b k h i = let z = (inv.in_order s r b).votes in z.apart x y k (ap is_standing (z.said x Commit h)) (ap is_standing (z.said y Commit i))
+  one_gave_way s r x y b k h i = let z =
+      (inv.in_order s r b).votes in z.apart x y k (ap is_standing (z.said x Commit h)) (ap is_standing (z.said y Commit i))
 
   -- what has had an abort certificate shown cannot be committed
   pub no_commit : (x : Id) → st.aborted x ≡ true → CanCommit c (signed_of st) x → ⊥
@@ -53,7 +57,8 @@ module _ (c : Setting) (ok : Sane c) (st : State) (inv : Invariant c st) where
         let s = p.shard in
         let P : ℕ → Type 0 = λ r. Says c Words s r (Vote s r x Commit) in
         let B : ℕ → Type 0 = λ r. Bars c x p.rival s r (Words s r) in
-        let o = one _ (omega arith) (correct c ok Words 1 s (λ r. P r × B r) (omega arith) (both {k = c.f + 1} P B (omega arith) (votes_there x p.rival s p.conflicts k) p.barred)) in
+        let o = one _ (omega arith) (correct c ok Words 1 s
+        (λ r. P r × B r) (omega arith) (both {k = c.f + 1} P B (omega arith) (votes_there x p.rival s p.conflicts k) p.barred)) in
         elim o.2.0.1 [
           | inl b ↦ let e : true ≡ false = sym b ∙ o.2.1 in cc
           | inr q ↦ q.1 (signed_it c ok Words s o.0 (Vote s o.0 x Commit) o.2.0.0 o.2.1)
@@ -66,7 +71,8 @@ module _ (c : Setting) (ok : Sane c) (st : State) (inv : Invariant c st) where
       let t = both {k = c.f + 1} (P x) (P y) (omega arith) (votes_there x y s k p) (votes_there y x s (ok.both_ways x y s k) q) in
       let o = one _ (omega arith) (correct c ok Words 1 s (λ r. P x r × P y r) (omega arith) t) in
       let z = (inv.in_order s o.0 o.2.1).votes in
-      elim (one_gave_way s o.0 x y o.2.1 k (signed_it c ok Words s o.0 (Vote s o.0 x Commit) o.2.0.0 o.2.1) (signed_it c ok Words s o.0 (Vote s o.0 y Commit) o.2.0.1 o.2.1)) [
+      elim (one_gave_way s o.0 x y o.2.1 k (signed_it c ok Words s o.0 (Vote s o.0 x Commit) o.2.0.0 o.2.1)
+      (signed_it c ok Words s o.0 (Vote s o.0 y Commit) o.2.0.1 o.2.1)) [
         | inl e ↦ no_commit x (z.ended_abort x e) p
         | inr e ↦ no_commit y (z.ended_abort y e) q
       ]
@@ -86,7 +92,8 @@ module _ (c : Setting) (ok : Sane c) (st : State) (inv : Invariant c st) where
   pub voted : (x : Id) (s : ℕ) → CanCommit c (signed_of st) x → c.involved x s ≡ true →
       (r : ℕ) × (r < replicas c.f) × (c.faulty s r ≡ false) × Contains (signed_of st s r) (Vote s r x Commit)
   voted x s p i =
-      let o = one _ (omega arith) (correct c ok Words 1 s (λ r. Says c Words s r (Vote s r x Commit)) (omega arith) (tallied c ok Words all_honest x p s i)) in
+      let o = one _ (omega arith)
+      (correct c ok Words 1 s (λ r. Says c Words s r (Vote s r x Commit)) (omega arith) (tallied c ok Words all_honest x p s i)) in
       (o.0, o.1, o.2.1, signed_it c ok Words s o.0 (Vote s o.0 x Commit) o.2.0 o.2.1)
 
   pub no_abort : (x : Id) → CanCommit c (signed_of st) x → CanAbort c (signed_of st) x → ⊥
@@ -120,7 +127,10 @@ pub voters_of : FromInvariant Voters
 voters_of c ok st inv = voted c ok st inv
 
 pub agreement_of : FromInvariant Agreement
-agreement_of c ok st inv = record { none_shown = λ x k. false_from_ne_true (st.aborted x) (λ a. no_commit c ok st inv x a k); none_possible = no_abort c ok st inv }
+agreement_of c ok st inv = record {
+  none_shown = λ x k. false_from_ne_true (st.aborted x) (λ a. no_commit c ok st inv x a k);
+  none_possible = no_abort c ok st inv;
+}
 
 -- One replica goes on, to more words.
 module _ (c : Setting) (ok : Sane c) (st : State) (inv : Invariant c st) (s r : ℕ) (p : Node) where
@@ -157,7 +167,8 @@ module _ (c : Setting) (ok : Sane c) (st : State) (inv : Invariant c st) (s r : 
             conflicts = k.conflicts;
             commits = CanCommit-grows c (signed_of st) (signed_of next) g k.rival k.commits;
             barred = weaker _ _ (λ q _ b.
-                put_node_cases (λ t i z. c.conflict x k.rival t ≡ true → Bars c x k.rival t i (st.nodes t i).own → Bars c x k.rival t i z.own) st.nodes s r p
+                put_node_cases (λ t i z. c.conflict x k.rival t ≡ true →
+                Bars c x k.rival t i (st.nodes t i).own → Bars c x k.rival t i z.own) st.nodes s r p
                 (λ e. bars x k.rival e k.commits) (λ t i _ j. j) k.shard q k.conflicts b) k.barred;
           })
         ];
@@ -184,11 +195,14 @@ module _ (c : Setting) (ok : Sane c) where
         λ i. elim (Contains-append_cases p.own ws _ i) [
           | inl j ↦ e.1 j
           | inr j ↦
-              elim (o.apart u y k (ap is_standing (o.said u Commit i)) (ap is_standing (o.said y Commit (Contains-append_left p.own ws _ e.0)))) [
+              elim (o.apart u y k (ap is_standing (o.said u Commit i))
+              (ap is_standing (o.said y Commit (Contains-append_left p.own ws _ e.0)))) [
                 | inl l ↦
                     let n = vote_open c (signed_of st) st.aborted s r p.book x a m u Commit j in
                     let w = (vote_signed s r x u a (p.book x) Commit j).0 in
-                    let q : (put_id p.book x (after a (p.book x)) u).outcome ≡ None = subst (λ (v : Id). (put_id p.book x (after a (p.book x)) v).outcome ≡ None) (sym w) (subst (λ (t : Slot). t.outcome ≡ None) (sym (put_id_same p.book x (after a (p.book x)))) n) in
+                    let q : (put_id p.book x (after a (p.book x)) u).outcome ≡ None =
+                    subst (λ (v : Id). (put_id p.book x (after a (p.book x)) v).outcome ≡ None)
+                    (sym w) (subst (λ (t : Slot). t.outcome ≡ None) (sym (put_id_same p.book x (after a (p.book x)))) n) in
                     let f : None ≡ Some Abort = sym q ∙ l in cc
                 | inr l ↦ no_commit c ok st inv y (o.ended_abort y l) cy
               ]
@@ -207,7 +221,11 @@ module _ (c : Setting) (ok : Sane c) where
   went st inv s r p (k ∷ rest) m o =
       let g = signed_of st in
       let up = elected_above c ok g (all_honest c ok st inv) in
-      let next : InOrder c g st.aborted s r (acted s r p k.0 k.1) = record { votes = VotesHold-step c g st.aborted s r p.book k.0 ok k.1 p.own m.0 o.votes; logs = LogHolds-step c g s r p.own k.0 up st.aborted p.book k.1 m.0 o.logs } in
+      let next : InOrder c g st.aborted s r (acted s r p k.0 k.1) = record {
+        votes = VotesHold-step c g st.aborted
+            s r p.book k.0 ok k.1 p.own m.0 o.votes;
+        logs = LogHolds-step c g s r p.own k.0 up st.aborted p.book k.1 m.0 o.logs;
+      } in
       let z = went st inv s r (acted s r p k.0 k.1) rest m.1 next in
       record {
         up = λ w i. z.up w (Contains-append_left p.own (words s r k.0 k.1 (p.book k.0)) w i);
@@ -254,7 +272,11 @@ module _ (c : Setting) (ok : Sane c) where
       let g = signed_of st in
       let more = put_id_cases (λ y b. st.aborted y ≡ true → b ≡ true) st.aborted x true (λ _. refl) (λ y _ e. e) in
       record {
-        in_order = λ s r b. let z = inv.in_order s r b in record { votes = VotesHold-grows c g g (λ _ _ _ h. h) st.aborted (put_id st.aborted x true) more s r (st.nodes s r).own (st.nodes s r).book z.votes; logs = z.logs };
+        in_order = λ s r b. let z = inv.in_order s r b in record {
+          votes = VotesHold-grows c g g
+              (λ _ _ _ h. h) st.aborted (put_id st.aborted x true) more s r (st.nodes s r).own (st.nodes s r).book z.votes;
+          logs = z.logs;
+        };
         causes = put_id_cases (λ y b. b ≡ true → (FastAbort c g y ⊎ LoggedAbort c g y) ⊎ IsBlocked c g y) st.aborted x true
             (λ _. elim k [
               | inl q ↦ inl (inl q)
@@ -279,7 +301,13 @@ module _ (c : Setting) (ok : Sane c) where
 pub at_start : HoldsAtStart
 at_start c = record {
   in_order = λ s r b. record {
-    votes = record { said = λ x d h. absurd (in_none _ h); apart = λ x y k h. cc; ended_abort = λ x e. cc; ended_commit = λ x e. cc; dependencies = λ x y h. absurd (in_none _ h) };
+    votes = record {
+      said = λ x d h. absurd (in_none _ h);
+      apart = λ x y k h. cc;
+      ended_abort = λ x e. cc;
+      ended_commit = λ x e. cc;
+      dependencies = λ x y h. absurd (in_none _ h);
+    };
     logs = λ x. record {
       under = λ d v a h. absurd (in_none _ h);
       backed = tt;

@@ -2,7 +2,8 @@
 use Rattle.std.proofs.Common.{◌≡◌, ℕ, Option, Some, None}
 use Rattle.std.specs.List.{Contains}
 use Rattle.agreement_laws.specs.Words.{Id, Decision, Vote, LogReply, Election}
-use Rattle.agreement_laws.specs.Replicas.{Cast, LogCell, Slot, Act, Votes, Waits, Ends, Logs, Repeats, Enters, Proposes, Adopts, after, reply_of, election_of, words}
+use Rattle.agreement_laws.specs.Replicas.{Cast, LogCell, Slot, Act, Votes, Waits, Ends, Logs, Repeats}
+use Rattle.agreement_laws.specs.Replicas.{Enters, Proposes, Adopts, after, reply_of, election_of, words}
 use Rattle.agreement_laws.proofs.Puts.{in_none, in_one}
 
 module _ (s r : ℕ) (x y : Id) where

@@ -6,7 +6,8 @@ use Rattle.agreement_laws.specs.Words.{Word}
 use Rattle.agreement_laws.specs.Settings.{Setting}
 use Rattle.agreement_laws.specs.Certificates.{Grows, CanAbort}
 use Rattle.agreement_laws.specs.Replicas.{words}
-use Rattle.agreement_laws.specs.Runs.{Node, State, signed_of, Event, Acts, Lies, Shows, put_node, acted, lied, happens, IsLawful, run, AreLawful, start}
+use Rattle.agreement_laws.specs.Runs.{Node, State, signed_of, Event, Acts, Lies, Shows, put_node}
+use Rattle.agreement_laws.specs.Runs.{acted, lied, happens, IsLawful, run, AreLawful, start}
 use Rattle.agreement_laws.specs.Laws.{WithMoreWords, WithMoreEvents, ShownArePossible, InEveryRun}
 use Rattle.agreement_laws.proofs.Puts.{put_id_cases, put_node_cases}
 use Rattle.agreement_laws.proofs.Growth.{CanCommit-grows, CanAbort-grows}

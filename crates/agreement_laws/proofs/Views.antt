@@ -1,5 +1,6 @@
 -- Counting and lock-in: what follows from the signed words of one moment.
-use Rattle.std.proofs.Common.{◌≡◌, ℕ, Bool, zero, suc, ◌+◌, ◌*◌, ◌<◌, ◌≤◌, true, false, ◌&&◌, refl, arith, inl, inr, ◌⊎◌, sym, ◌∙◌, subst, List}
+use Rattle.std.proofs.Common.{◌≡◌, ℕ, Bool, zero, suc, ◌+◌, ◌*◌, ◌<◌, ◌≤◌, true, false}
+use Rattle.std.proofs.Common.{◌&&◌, refl, arith, inl, inr, ◌⊎◌, sym, ◌∙◌, subst, List}
 use Rattle.std.specs.List.{Contains}
 use Rattle.std.proofs.lemmas.Bool.{and_parts, cases_lt, cases_order}
 use Rattle.quorum_laws.specs.Numbers.{replicas, majority, commit_tally}
@@ -39,7 +40,8 @@ one_elected f who names d e h p q =
     let inside = λ (g : Decision) (r : ℕ) (_ : r < n) (k : P g r ≡ true). (and_parts (who r) (same_decision (names r) g) k).0 in
     let m = some_member (shared (P d) (P e)) n (omega (arith, shared_within (P d) (P e) who n (inside d) (inside e))) in
     let k = and_parts (P d m.0) (P e m.0) m.2 in
-    sym (same_yes (names m.0) d (and_parts (who m.0) (same_decision (names m.0) d) k.0).1) ∙ same_yes (names m.0) e (and_parts (who m.0) (same_decision (names m.0) e) k.1).1
+    sym (same_yes (names m.0) d (and_parts (who m.0) (same_decision (names m.0) d) k.0).1)
+    ∙ same_yes (names m.0) e (and_parts (who m.0) (same_decision (names m.0) e) k.1).1
 
 reply_at : (ws : List Word) (s r : ℕ) (x : Id) (d : Decision) (u v a : ℕ) → u ≡ v → Contains ws (LogReply s r x d u a) →
     Contains ws (LogReply s r x d v a)
@@ -74,7 +76,8 @@ module _ (c : Setting) (ok : Sane c) (signed : Signed) where
     naming x d v e = record {
       who = λ r. e.who r && same_decision (e.names r) d;
       many = e.most;
-      each = λ r l w. let p = and_parts (e.who r) (same_decision (e.names r) d) w in subst (λ z. Says c signed (c.log_shard x) r (Election (c.log_shard x) r x z v)) (same_yes (e.names r) d p.1) (e.each r l p.0);
+      each = λ r l w. let p = and_parts (e.who r) (same_decision (e.names r) d) w in
+          subst (λ z. Says c signed (c.log_shard x) r (Election (c.log_shard x) r x z v)) (same_yes (e.names r) d p.1) (e.each r l p.0);
     }
 
     -- a correct replica named what an election decided
@@ -98,7 +101,8 @@ module _ (c : Setting) (ok : Sane c) (signed : Signed) where
           let o = namer x d v ((all (c.log_shard x) r b).later x d v a m p) in
           let z = (all (c.log_shard x) o.0 o.1).named x d v o.2 in
           origin n x d z.0 z.1 o.0 (omega (arith, z.2)) o.1 z.3
-      | inr p ↦ let e : v ≡ 0 = omega arith in (all (c.log_shard x) r b).first x d a (subst (λ (k : ℕ). Contains (signed (c.log_shard x) r) (LogReply (c.log_shard x) r x d k a)) e m)
+      | inr p ↦ let e : v ≡ 0 = omega arith in (all (c.log_shard x) r b).first x d a
+          (subst (λ (k : ℕ). Contains (signed (c.log_shard x) r) (LogReply (c.log_shard x) r x d k a)) e m)
     ]
 
     -- A log certificate of view v fixes what correct replicas log above v. Its replicas and those whose words elected a
@@ -135,8 +139,10 @@ module _ (c : Setting) (ok : Sane c) (signed : Signed) where
     logged_at x d e v p q =
         let s = c.log_shard x in
         let P : Decision → ℕ → Type 0 = λ g i. (u : ℕ) × Says c signed s i (LogReply s i x g v u) in
-        let o = one _ (omega arith) (correct 1 s (λ i. P d i × P e i) (omega arith) (both {k = 3 * c.f + 1} (P d) (P e) (omega arith) p q)) in
-        (all s o.0 o.2.1).one_decision x d e v o.2.0.0.0 o.2.0.1.0 (signed_it s o.0 (LogReply s o.0 x d v o.2.0.0.0) o.2.0.0.1 o.2.1) (signed_it s o.0 (LogReply s o.0 x e v o.2.0.1.0) o.2.0.1.1 o.2.1)
+        let o =
+        one _ (omega arith) (correct 1 s (λ i. P d i × P e i) (omega arith) (both {k = 3 * c.f + 1} (P d) (P e) (omega arith) p q)) in
+        (all s o.0 o.2.1).one_decision x d e v o.2.0.0.0 o.2.0.1.0 (signed_it s o.0 (LogReply s o.0 x d v o.2.0.0.0) o.2.0.0.1 o.2.1)
+        (signed_it s o.0 (LogReply s o.0 x e v o.2.0.1.0) o.2.0.1.1 o.2.1)
 
     pub lock_in : (x : Id) (d e : Decision) (v w : ℕ) → Logged c signed x d v → Logged c signed x e w → d ≡ e
     lock_in x d e v w p q = elim (cases_order v w) [

@@ -5,7 +5,8 @@ use Rattle.std.proofs.lemmas.List.Elements.{Contains-append_cases}
 use Rattle.agreement_laws.specs.Words.{Id, Decision, Commit, Abort, Word, Vote}
 use Rattle.agreement_laws.specs.Settings.{Setting, Sane}
 use Rattle.agreement_laws.specs.Certificates.{Signed, CanCommit, Grows}
-use Rattle.agreement_laws.specs.Replicas.{VoteState, Unvoted, Waiting, Cast, Book, is_standing, is_held, Act, Votes, Waits, Ends, Logs, Repeats, Enters, Proposes, Adopts, after, words, IsClear, May}
+use Rattle.agreement_laws.specs.Replicas.{VoteState, Unvoted, Waiting, Cast, Book, is_standing, is_held, Act, Votes}
+use Rattle.agreement_laws.specs.Replicas.{Waits, Ends, Logs, Repeats, Enters, Proposes, Adopts, after, words, IsClear, May}
 use Rattle.agreement_laws.specs.Runs.{put_id}
 use Rattle.agreement_laws.specs.Invariants.{VotesHold}
 use Rattle.agreement_laws.proofs.Puts.{in_none, in_one, put_id_cases}
@@ -108,7 +109,8 @@ module _ (c : Setting) (signed : Signed) (aborted : Id → Bool) (s r : ℕ) (bo
   -- a commit vote is signed once what the transaction depends on is committed
   vote_after_dependencies : (a : Act) → Allowed a → (u y : Id) → Contains (words s r x a (book x)) (Vote s r u Commit) →
       c.depends u y s ≡ true → (book y).outcome ≡ Some Commit
-  vote_after_dependencies (Votes Commit) m u y h n = let e : Vote s r x Commit ≡ Vote s r u Commit = in_one _ _ h in let i : x ≡ u = cc in m.1 y (subst (λ (z : Id). c.depends z y s ≡ true) (sym i) n)
+  vote_after_dependencies (Votes Commit) m u y h n = let e : Vote s r x Commit ≡ Vote s r u Commit =
+      in_one _ _ h in let i : x ≡ u = cc in m.1 y (subst (λ (z : Id). c.depends z y s ≡ true) (sym i) n)
   vote_after_dependencies (Votes Abort) m u y h n = let e : Vote s r x Abort ≡ Vote s r u Commit = in_one _ _ h in cc
   vote_after_dependencies Waits m u y h n = absurd (in_none _ h)
   vote_after_dependencies (Ends e) m u y h n = absurd (in_none _ h)
@@ -125,24 +127,34 @@ module _ (c : Setting) (signed : Signed) (aborted : Id → Bool) (s r : ℕ) (bo
       let ws = words s r x a (book x) in
       record {
         said = λ y d. put_id_cases (λ z u. Contains (own ++ ws) (Vote s r z d) → u.vote ≡ Cast d) book x t
-            (λ h. elim (Contains-append_cases own ws _ h) [ inl k ↦ vote_kept a d m (o.said x d k) | inr k ↦ (vote_signed s r x x a (book x) d k).1 ])
-            (λ z n h. elim (Contains-append_cases own ws _ h) [ inl k ↦ o.said z d k | inr k ↦ absurd (n (vote_signed s r x z a (book x) d k).0) ]) y;
+            (λ h. elim (Contains-append_cases own ws _ h) [
+              | inl k ↦ vote_kept a d m (o.said x d k)
+              | inr k ↦ (vote_signed s r x x a (book x) d k).1
+            ])
+            (λ z n h. elim (Contains-append_cases own ws _ h) [
+              | inl k ↦ o.said z d k
+              | inr k ↦ absurd (n (vote_signed s r x z a (book x) d k).0)
+            ]) y;
         ended_abort = put_id_cases (λ z u. u.outcome ≡ Some Abort → aborted z ≡ true) book x t
             (λ h. elim (abort_from a m h) [ inl k ↦ o.ended_abort x k | inr k ↦ k ])
             (λ z _ h. o.ended_abort z h);
         ended_commit = put_id_cases (λ z u. u.outcome ≡ Some Commit → CanCommit c signed z) book x t
             (λ h. elim (commit_from a m h) [ inl k ↦ o.ended_commit x k | inr k ↦ k ])
             (λ z _ h. o.ended_commit z h);
-        dependencies = λ u y h n. put_id_cases (λ z v. (book z).outcome ≡ Some Commit → v.outcome ≡ Some Commit) book x t (commit_kept a m) (λ z _ e. e) y
+        dependencies = λ u y h n. put_id_cases
+            (λ z v. (book z).outcome ≡ Some Commit → v.outcome ≡ Some Commit) book x t (commit_kept a m) (λ z _ e. e) y
             (elim (Contains-append_cases own ws _ h) [ inl k ↦ o.dependencies u y k n | inr k ↦ vote_after_dependencies a m u y k n ]);
-        apart = put_id_cases (λ y u. (z : Id) → c.conflict y z s ≡ true → is_standing u.vote ≡ true → is_standing (put_id book x t z).vote ≡ true → (u.outcome ≡ Some Abort) ⊎ ((put_id book x t z).outcome ≡ Some Abort)) book x t
-            (put_id_cases (λ z v. c.conflict x z s ≡ true → is_standing t.vote ≡ true → is_standing v.vote ≡ true → (t.outcome ≡ Some Abort) ⊎ (v.outcome ≡ Some Abort)) book x t
+        apart = put_id_cases (λ y u. (z : Id) → c.conflict y z s ≡ true → is_standing u.vote ≡ true →
+            is_standing (put_id book x t z).vote ≡ true → (u.outcome ≡ Some Abort) ⊎ ((put_id book x t z).outcome ≡ Some Abort)) book x t
+            (put_id_cases (λ z v. c.conflict x z s ≡ true →
+            is_standing t.vote ≡ true → is_standing v.vote ≡ true → (t.outcome ≡ Some Abort) ⊎ (v.outcome ≡ Some Abort)) book x t
             (λ k _ _. let e : false ≡ true = sym (ok.not_itself x s) ∙ k in cc)
             (λ z n k h i. elim (standing_from a m h) [
               | inl j ↦ elim (o.apart x z k j i) [ inl l ↦ inl (abort_kept a m l) | inr l ↦ inr l ]
               | inr j ↦ inr (abort_outcome (book z).vote (book z).outcome i (j z k))
             ]))
-            (λ y n'. put_id_cases (λ z v. c.conflict y z s ≡ true → is_standing (book y).vote ≡ true → is_standing v.vote ≡ true → ((book y).outcome ≡ Some Abort) ⊎ (v.outcome ≡ Some Abort)) book x t
+            (λ y n'. put_id_cases (λ z v. c.conflict y z s ≡ true → is_standing (book y).vote ≡ true →
+            is_standing v.vote ≡ true → ((book y).outcome ≡ Some Abort) ⊎ (v.outcome ≡ Some Abort)) book x t
             (λ k i h. elim (standing_from a m h) [
               | inl j ↦ elim (o.apart y x k i j) [ inl l ↦ inl l | inr l ↦ inr (abort_kept a m l) ]
               | inr j ↦ inl (abort_outcome (book y).vote (book y).outcome i (j y (ok.both_ways y x s k)))

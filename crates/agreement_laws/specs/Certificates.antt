@@ -1,8 +1,10 @@
 use Rattle.std.specs.Prelude.{◌≡◌, ℕ, ◌<◌, ◌≤◌, Bool, true, ◌&&◌, ◌⊎◌, List}
 use Rattle.std.specs.List.{Contains}
-use Rattle.quorum_laws.specs.Numbers.{replicas, fast_commit, commit_tally, abort_tally, fast_abort, log_quorum, majority}
+use Rattle.quorum_laws.specs.Numbers.{replicas, fast_commit, commit_tally}
+use Rattle.quorum_laws.specs.Numbers.{abort_tally, fast_abort, log_quorum, majority}
 use Rattle.quorum_laws.specs.Sets.{size, Quorum}
-use Rattle.agreement_laws.specs.Words.{Id, Decision, Commit, Abort, same_decision, Word, Vote, LogReply, Election, Proposal}
+use Rattle.agreement_laws.specs.Words.{Id, Decision, Commit, Abort, same_decision}
+use Rattle.agreement_laws.specs.Words.{Word, Vote, LogReply, Election, Proposal}
 use Rattle.agreement_laws.specs.Settings.{Setting}
 
 -- the words that each replica of each shard has signed

@@ -3,9 +3,11 @@ use Rattle.std.specs.List.{Contains}
 use Rattle.quorum_laws.specs.Numbers.{replicas, commit_tally}
 use Rattle.agreement_laws.specs.Words.{Id, Decision, Commit, Vote}
 use Rattle.agreement_laws.specs.Settings.{Setting, Sane}
-use Rattle.agreement_laws.specs.Certificates.{Signed, Grows, Voted, IsElection, IsMajority, Logged, CanCommit, FastAbort, LoggedAbort, CanAbort}
+use Rattle.agreement_laws.specs.Certificates.{Signed, Grows, Voted, IsElection, IsMajority}
+use Rattle.agreement_laws.specs.Certificates.{Logged, CanCommit, FastAbort, LoggedAbort, CanAbort}
 use Rattle.agreement_laws.specs.Replicas.{Act}
-use Rattle.agreement_laws.specs.Runs.{State, signed_of, Event, happens, IsLawful, run, AreLawful, start, MayAnswer, answers}
+use Rattle.agreement_laws.specs.Runs.{State, signed_of, Event, happens, IsLawful}
+use Rattle.agreement_laws.specs.Runs.{run, AreLawful, start, MayAnswer, answers}
 use Rattle.agreement_laws.specs.Invariants.{Invariant}
 
 -- What the laws say of a state.

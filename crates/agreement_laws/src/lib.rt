@@ -2,8 +2,8 @@
 //!
 //! The argument of the Basil paper (SOSP 2021, sections 4 and 5) in this project's numbers, on definitions that know no
 //! bytes and no code. `specs/` says what replicas sign (`Words`), what is fixed of a cluster (`Settings`), what a
-//! certificate is (`Certificates`), what a correct replica may do (`Replicas`), what a run is (`Runs`) and what holds in
-//! each state of a run (`Invariants`). `Laws` has the statements. Each function here has an empty body or calls of
+//! certificate is (`Certificates`), what a correct replica may do (`Replicas`), what a run is (`Runs`) and what holds
+//! in each state of a run (`Invariants`). `Laws` has the statements. Each function here has an empty body or calls of
 //! the others alone: its contract is the law. `docs/agreement.md` tells the argument.
 #![tactic(auto)]
 

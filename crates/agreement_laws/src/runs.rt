@@ -1,6 +1,7 @@
 //! The laws of every lawful list of events, from the invariant.
 
-ghost use Rattle.agreement_laws.specs.Laws.{InEveryRun, Counting, LockIn, Exclusion, Dependency, DependencyThere, CommitVotes, Voters, Agreement};
+ghost use Rattle.agreement_laws.specs.Laws.{InEveryRun, Counting, LockIn, Exclusion, Dependency};
+ghost use Rattle.agreement_laws.specs.Laws.{DependencyThere, CommitVotes, Voters, Agreement};
 ghost use Rattle.agreement_laws.specs.Laws.{ShownArePossible, WithMoreEvents};
 
 use crate::invariant::invariant_in_every_run;

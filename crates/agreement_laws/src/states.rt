@@ -1,6 +1,7 @@
 //! What the invariant says of the certificates of a state.
 
-ghost use Rattle.agreement_laws.specs.Laws.{FromInvariant, Counting, LockIn, Exclusion, Dependency, DependencyThere, CommitVotes, Voters, Agreement, OneElected, WithMoreWords};
+ghost use Rattle.agreement_laws.specs.Laws.{FromInvariant, Counting, LockIn, Exclusion, Dependency, DependencyThere};
+ghost use Rattle.agreement_laws.specs.Laws.{CommitVotes, Voters, Agreement, OneElected, WithMoreWords};
 
 /// A transaction whose signed words allow a commit certificate allows neither a fast nor a logged abort, over all
 /// views.

@@ -1,5 +1,6 @@
 -- Names in a map.
-use Rattle.std.proofs.Common.{◌≡◌, ℕ, zero, suc, ◌+◌, ◌≤◌, length, drop, Bool, true, false, cond, List, [], ◌∷◌, Option, Some, None, refl, ap, sym, ◌∙◌, Vec}
+use Rattle.std.proofs.Common.{◌≡◌, ℕ, zero, suc, ◌+◌, ◌≤◌, length, drop, Bool, true, false}
+use Rattle.std.proofs.Common.{cond, List, [], ◌∷◌, Option, Some, None, refl, ap, sym, ◌∙◌, Vec}
 use Rattle.std.specs.Prelude.{codes, find, slice_get, option_map}
 use Rattle.std.specs.Map.{lookup}
 use Rattle.std.specs.Str.{bytes_eq}
@@ -15,7 +16,8 @@ module _ {A : Type 0} where
   abbrev pub as_name : Vec ℕ A × Version → List ℕ × Version
   as_name e = (e.0.items, e.1)
 
-  pub named : (name : List ℕ) (es : List (Vec ℕ A × Version)) → version_named (names_in es) name ≡ lookup (λ (k : Vec ℕ A). bytes_eq name k.items) es
+  pub named : (name : List ℕ) (es : List (Vec ℕ A × Version)) →
+      version_named (names_in es) name ≡ lookup (λ (k : Vec ℕ A). bytes_eq name k.items) es
   named name [] = refl
   named name (e ∷ es) = ap (λ o. cond (bytes_eq name e.0.items) (Some e.1) o) (named name es)
 
@@ -30,7 +32,8 @@ module _ {A : Type 0} where
   named_first v [] = refl
   named_first v (e ∷ es) = by (same_version e.1 v) (named_first v es)
     where
-      by : (c : Bool) → find (λ n. same_version n.1 v) (names_in es) ≡ option_map as_name (find (λ (x : Vec ℕ A × Version). same_version x.1 v) es)
+      by : (c : Bool) → find (λ n. same_version n.1 v) (names_in es)
+          ≡ option_map as_name (find (λ (x : Vec ℕ A × Version). same_version x.1 v) es)
           → cond c (Some (as_name e)) (find (λ n. same_version n.1 v) (names_in es))
           ≡ option_map as_name (cond c (Some e) (find (λ (x : Vec ℕ A × Version). same_version x.1 v) es))
       by true later = refl
@@ -41,15 +44,18 @@ module _ {A : Type 0} where
   bytes_of None = []
   bytes_of (Some name) = name.items
 
-  word_of_name : (o : Option (Vec ℕ A × Version)) → name_word (option_map as_name o) ≡ bytes_of (option_map (λ (e : Vec ℕ A × Version). e.0) o)
+  word_of_name : (o : Option (Vec ℕ A × Version)) →
+      name_word (option_map as_name o) ≡ bytes_of (option_map (λ (e : Vec ℕ A × Version). e.0) o)
   word_of_name None = refl
   word_of_name (Some e) = refl
 
   -- the word of a version that isn't genesis
   pub word_is : (v : Version) (es : List (Vec ℕ A × Version)) (r : Option (Vec ℕ A)) → same_version v genesis ≡ false
-      → r ≡ option_map (λ (e : Vec ℕ A × Version). e.0) (find (λ (e : Vec ℕ A × Version). same_version e.1 v) es) → bytes_of r ≡ version_word (names_in es) v
+      → r ≡ option_map (λ (e : Vec ℕ A × Version). e.0) (find (λ (e : Vec ℕ A × Version). same_version e.1 v) es) →
+      bytes_of r ≡ version_word (names_in es) v
   word_is v es r other found =
-      ap bytes_of found ∙ sym (word_of_name (find (λ (e : Vec ℕ A × Version). same_version e.1 v) es)) ∙ ap name_word (sym (named_first v es))
+      ap bytes_of found ∙ sym (word_of_name (find (λ (e : Vec ℕ A × Version). same_version e.1 v) es))
+      ∙ ap name_word (sym (named_first v es))
       ∙ sym (ap (λ b. cond b (codes "-") (name_word (find (λ n. same_version n.1 v) (names_in es)))) other)
 
   pub named_put : (eq : Vec ℕ A → Vec ℕ A → Bool) → ((a b : Vec ℕ A) → eq a b ≡ bytes_eq a.items b.items) → (k : Vec ℕ A) (v : Version)
@@ -75,7 +81,8 @@ pub met : {A : Type 0} (v : Version) (es : List (A × Version)) (i : ℕ) (e : A
 met v es i e here h =
     ap (find (of_version v)) (drop_here es i e here) ∙ ap (λ b. cond b (Some e) (find (of_version v) (drop (i + 1) es))) h
 
-pub passed : {A : Type 0} (v : Version) (es : List (A × Version)) (i : ℕ) (e : A × Version) → slice_get es i ≡ Some e → of_version v e ≡ false
+pub passed : {A : Type 0} (v : Version) (es : List (A × Version)) (i : ℕ) (e : A × Version) →
+    slice_get es i ≡ Some e → of_version v e ≡ false
     → find (of_version v) (drop i es) ≡ find (of_version v) (drop (i + 1) es)
 passed v es i e here h =
     ap (find (of_version v)) (drop_here es i e here) ∙ ap (λ b. cond b (Some e) (find (of_version v) (drop (i + 1) es))) h

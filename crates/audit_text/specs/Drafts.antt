@@ -1,5 +1,6 @@
 -- A transaction whose lines are read.
-use Rattle.std.specs.Prelude.{ℕ, List, [], ◌∷◌, Bool, true, false, ◌&&◌, ◌||◌, ◌==◌, length, Option, Some, None, is_none, is_some, if◌then◌else◌}
+use Rattle.std.specs.Prelude.{ℕ, List, [], ◌∷◌, Bool, true, false, ◌&&◌, ◌||◌, ◌==◌}
+use Rattle.std.specs.Prelude.{length, Option, Some, None, is_none, is_some, if◌then◌else◌}
 use Rattle.std.specs.BTreeMap.{insert_entry, is_at}
 use Rattle.std.specs.Cmp.Lexicographic.{slice_cmp}
 use Rattle.std.specs.List.{list_all}
@@ -75,7 +76,7 @@ made time client reads writes =
 abbrev pub is_empty : DraftValue → Bool
 is_empty o = length o.reads == 0 && length o.writes == 0
 
--- what it is at its end: nothing where it is empty, has two reads of one key or a 33rd read or write, or reads a version
--- that isn't below its own
+-- what it is at its end: nothing where it is empty, has two reads of one key or a 33rd read or write, or reads a
+-- version that isn't below its own
 abbrev pub ended : DraftValue → Option TransactionValue
 ended o = if o.twice || is_empty o then None else made o.time o.client (read_parts o.reads) (write_parts o.writes)

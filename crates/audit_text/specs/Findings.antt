@@ -1,5 +1,6 @@
 -- What an audit's input leads to.
-use Rattle.std.specs.Prelude.{ℕ, List, [], ◌∷◌, ◌++◌, codes, find, slice_get, Option, Some, None, Result, Ok, Err, if◌then◌else◌}
+use Rattle.std.specs.Prelude.{ℕ, List, [], ◌∷◌, ◌++◌, codes, find, slice_get}
+use Rattle.std.specs.Prelude.{Option, Some, None, Result, Ok, Err, if◌then◌else◌}
 use Rattle.audit_text.specs.Listing.{Names, ListingValue, Refusal, listed}
 use Rattle.audit_text.specs.declared.finding.Finding.{Finding}
 use Rattle.audit_text.specs.declared.finding.Finding.TheVariants as finding

@@ -1,5 +1,6 @@
 -- What a line of an audit's input says, or the reason why it says nothing.
-use Rattle.std.specs.Prelude.{ℕ, Bool, false, codes, bytes_eq, List, [], ◌∷◌, length, nat_lt, nat_le, if◌then◌else◌, Result, Ok, Err}
+use Rattle.std.specs.Prelude.{ℕ, Bool, false, codes, bytes_eq, List, [], ◌∷◌}
+use Rattle.std.specs.Prelude.{length, nat_lt, nat_le, if◌then◌else◌, Result, Ok, Err}
 use Rattle.audit_text.specs.declared.line.AuditLine.{AuditLine}
 use Rattle.audit_text.specs.declared.line.AuditLine.TheVariants.{Skipped, Tx, Read, Write, Delete}
 use Rattle.schedule_text.specs.Complaints.{made2, made3, reason_of}

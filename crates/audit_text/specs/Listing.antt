@@ -1,5 +1,6 @@
 -- The transactions that the lines of an audit's input list.
-use Rattle.std.specs.Prelude.{ℕ, ◌+◌, List, [], ◌∷◌, ◌++◌, Option, Some, None, option_map, Result, Ok, Err, if◌then◌else◌}
+use Rattle.std.specs.Prelude.{ℕ, ◌+◌, List, [], ◌∷◌, ◌++◌, Option, Some, None}
+use Rattle.std.specs.Prelude.{option_map, Result, Ok, Err, if◌then◌else◌}
 use Rattle.indexmap.specs.IndexMap.{insert_entry}
 use Rattle.std.specs.Map.{lookup}
 use Rattle.std.specs.Str.{bytes_eq}
@@ -62,7 +63,8 @@ line_step st number Skipped = Ok st
 line_step st number (Tx name time client) = begun st (begun_at number name time client) (version_named st.names name)
 line_step st number (Read name key writer) =
     changed st (with_read key (draft_named name st.draft) (writer_version st.names writer))
-line_step st number (Write name key value) = changed st (option_map (add_write key (Some value)) (draft_named name st.draft))
+line_step st number (Write name key value) =
+    changed st (option_map (add_write key (Some value)) (draft_named name st.draft))
 line_step st number (Delete name key) = changed st (option_map (add_write key None) (draft_named name st.draft))
 
 -- ---- lines
@@ -90,7 +92,8 @@ closed_with st (Some o) = listed_as st o (ended o)
 abbrev pub closed : ListingValue → Result ListingValue Refusal
 closed st = closed_with st st.draft
 
-abbrev pub go_on : Result ListingValue Refusal → (ListingValue → Result ListingValue Refusal) → Result ListingValue Refusal
+abbrev pub go_on :
+    Result ListingValue Refusal → (ListingValue → Result ListingValue Refusal) → Result ListingValue Refusal
 go_on (Ok st) others = others st
 go_on (Err refusal) others = Err refusal
 
@@ -103,7 +106,8 @@ abbrev pub closed_before : List ℕ → ListingValue → Result ListingValue Ref
 closed_before line st = if is_tx line then closed st else Ok st
 
 abbrev pub step : ListingValue → List ℕ → (number : ℕ) → Result ListingValue Refusal
-step st line number = go_on (closed_before line st) (λ next. at_line number (step_said next number (line_at line number)))
+step st line number =
+    go_on (closed_before line st) (λ next. at_line number (step_said next number (line_at line number)))
 
 -- the lines from this number on
 abbrev pub list_lines : List (List ℕ) → (number : ℕ) → ListingValue → Result ListingValue Refusal

@@ -92,8 +92,8 @@ impl Draft {
         Ok(())
     }
 
-    /// Its name, and the transaction that it is at its end, unless it can't stand: it is empty, has two reads of one key or
-    /// a 33rd read or write, or reads a version that isn't below its own.
+    /// Its name, and the transaction that it is at its end, unless it can't stand: it is empty, has two reads of one
+    /// key or a 33rd read or write, or reads a version that isn't below its own.
     pub(crate) fn end(self, alloc: Global) -> Result<(Bytes, Option<Transaction>), NoMemory>
         ensures { IfOk result (λ r. r ≡ (self.name, ended self)) }
     {

@@ -2,7 +2,8 @@
 
 ghost use Rattle.std.specs.Prelude.{◌≡◌, ◌≤◌, ◌+◌, ◌<◌, ◌^◌, IfOk, OnOk, length, option_map};
 ghost use Rattle.audit_text.specs.Listing as lists;
-ghost use Rattle.audit_text.specs.Listing.{nothing, line_step, step_said, step, closed, closed_before, list_lines, listed, begun, changed, draft_named, with_read, writer_version};
+ghost use Rattle.audit_text.specs.Listing.{nothing, line_step, step_said, step, closed, closed_before, list_lines};
+ghost use Rattle.audit_text.specs.Listing.{listed, begun, changed, draft_named, with_read, writer_version};
 ghost use Rattle.audit_text.specs.Grammar.{line_at};
 ghost use Rattle.audit_text.specs.Drafts as drafts;
 ghost use Rattle.audit_text.specs.Parts.{Did, Ran, Lists};

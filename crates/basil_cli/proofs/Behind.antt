@@ -32,7 +32,8 @@ use Rattle.basil_cli.specs.declared.ending.Ending.{Ending}
 use Rattle.basil_cli.specs.declared.input.InputFail.{InputFail}
 use Rattle.basil_cli.specs.declared.replay.Reading.{Reading}
 use Rattle.basil_cli.proofs.LineEnds.{ended_line, fresh_line, joined, longer_line, same_ended}
-use Rattle.basil_cli.proofs.Settling.{faulty_outcome, long_outcome, no_long, one_line, run_append, settled_fault, settled_long, settled_more, unsettled, whole_line}
+use Rattle.basil_cli.proofs.Settling.{faulty_outcome, long_outcome, no_long, one_line, run_append}
+use Rattle.basil_cli.proofs.Settling.{settled_fault, settled_long, settled_more, unsettled, whole_line}
 use Rattle.basil_cli.proofs.Stopping.{NotYet, all_through, enough_through, not_settled}
 
 -- ---- a line that ends

@@ -179,7 +179,8 @@ skipped_alike [] more some = absurd (omega (arith, some))
 skipped_alike (b ∷ w) more some = refl
 
 -- so does an open line that is too long
-pub long_outcome : (road : Road) (read more : List ℕ) → longest_line < length (open_line read) → outcome_on road (read ++ more) ≡ outcome_on road (read ++ 10 ∷ [])
+pub long_outcome : (road : Road) (read more : List ℕ) →
+    longest_line < length (open_line read) → outcome_on road (read ++ more) ≡ outcome_on road (read ++ 10 ∷ [])
 unfolding Outcome_of
 long_outcome road read more h =
     let w = open_line read in
@@ -193,12 +194,14 @@ long_outcome road read more h =
     let number = 1 + length (ended_lines read) in
     let one : run_lines (lines_of (read ++ more)) 1 (Begins road)
     ≡ Refused (run_lines (ended_lines read) 1 (Begins road)) (is_skipped (open_line read ++ f.more)) number =
-    ap (λ (ls : List (List ℕ)). run_lines ls 1 (Begins road)) here ∙ run_long road (ended_lines read) (open_line read ++ f.more) f.others longer in
+    ap (λ (ls : List (List ℕ)). run_lines ls 1 (Begins road)) here
+    ∙ run_long road (ended_lines read) (open_line read ++ f.more) f.others longer in
     let two : run_lines (lines_of (read ++ 10 ∷ [])) 1 (Begins road)
     ≡ Refused (run_lines (ended_lines read) 1 (Begins road)) (is_skipped (open_line read)) number =
     ap (λ (ls : List (List ℕ)). run_lines ls 1 (Begins road)) there ∙ run_long road (ended_lines read) (open_line read) [] h in
     ap Outcome_of one
-    ∙ ap (λ (b : Bool). Outcome_of (Refused (run_lines (ended_lines read) 1 (Begins road)) b number)) (skipped_alike (open_line read) f.more some)
+    ∙ ap (λ (b : Bool). Outcome_of (Refused (run_lines (ended_lines read) 1 (Begins road)) b number))
+    (skipped_alike (open_line read) f.more some)
     ∙ sym (ap Outcome_of two)
 
 -- ---- bytes that decide
@@ -217,7 +220,8 @@ or_either false b e = inr e
 settled_err : (road : Road) (read : List ℕ) → is_err (run_lines (ended_lines read) 1 (Begins road)) ≡ true → is_settled road read ≡ true
 settled_err road read h = or_left (is_err (run_lines (ended_lines read) 1 (Begins road))) (nat_lt longest_line (length (open_line read))) h
 
-pub settled_fault : (road : Road) (read : List ℕ) (f : ReplayFault) → run_lines (ended_lines read) 1 (Begins road) ≡ Err f → is_settled road read ≡ true
+pub settled_fault : (road : Road) (read : List ℕ) (f : ReplayFault) →
+    run_lines (ended_lines read) 1 (Begins road) ≡ Err f → is_settled road read ≡ true
 settled_fault road read f h = settled_err road read (ap is_err h)
 
 pub settled_long : (road : Road) (read : List ℕ) → longest_line < length (open_line read) → is_settled road read ≡ true
@@ -240,7 +244,8 @@ goes_err road read lines more e h =
 pub settled_more : (road : Road) (read more : List ℕ) → is_settled road read ≡ true → is_settled road (read ++ more) ≡ true
 settled_more road read more h =
     let g = grown read more in
-    by g.some g.others g.is (or_either (is_err (run_lines (ended_lines read) 1 (Begins road))) (nat_lt longest_line (length (open_line read))) h)
+    by g.some g.others g.is
+    (or_either (is_err (run_lines (ended_lines read) 1 (Begins road))) (nat_lt longest_line (length (open_line read))) h)
   where
     by : (some : List ℕ) (others : List (List ℕ)) →
         ((ended_lines (read ++ more) ≡ ended_lines read) × (open_line (read ++ more) ≡ open_line read ++ some))

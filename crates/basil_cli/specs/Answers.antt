@@ -11,7 +11,8 @@ use Rattle.schedule_replay.specs.Roads.{Direct, Road}
 use Rattle.schedule_replay.specs.Totals.{totals}
 use Rattle.schedule_replay.specs.declared.fault.ReplayFault.{ReplayFault}
 use Rattle.schedule_replay.specs.declared.fault.ReplayFault.TheVariants as fault
-use Rattle.basil_cli.specs.Outcome.{Outcome, Usage, BadLine, Written, Broken, Refused, Stray, Full, TooLong, text_of, link_fault_text, read_fault_text}
+use Rattle.basil_cli.specs.Outcome.{Outcome, Usage, BadLine, Written, Broken, Refused, Stray}
+use Rattle.basil_cli.specs.Outcome.{Full, TooLong, text_of, link_fault_text, read_fault_text}
 use Rattle.basil_cli.specs.Output.{load_text}
 use Rattle.schedule_text.specs.Complaints.{reason_number}
 use Rattle.basil_cli.specs.declared.command.LoadSize.{LoadSize}
@@ -31,8 +32,8 @@ status_number ends.NoMemory = 9
 status_number (ends.Full messages bytes) = 10
 status_number ends.TooLong = 12
 
--- a status as text: the line that tells it, but for an output, a breach and a stray read, whose own text is more, and for
--- a failed write and want of memory, of which nothing is written
+-- a status as text: the line that tells it, but for an output, a breach and a stray read, whose own text is more, and
+-- for a failed write and want of memory, of which nothing is written
 abbrev pub status_text : Status → List ℕ
 status_text ends.Done = codes "done"
 status_text ends.BadWords = codes "usage"

@@ -6,7 +6,8 @@ use Rattle.schedule_replay.specs.Roads.{Road, road_with}
 use Rattle.schedule_replay.specs.Schedules.{Ends, IsAt, IsGoing}
 use Rattle.schedule_replay.specs.Stages.{Stage, Begins, road_of, run_lines}
 use Rattle.schedule_replay.specs.declared.fault.ReplayFault.{ReplayFault}
-use Rattle.schedule_replay.specs.declared.fault.ReplayFault.TheVariants.{BadInput, Broken, Full, LinkFault, WriteFault, NoMemory}
+use Rattle.schedule_replay.specs.declared.fault.ReplayFault.TheVariants.{BadInput, Broken, Full}
+use Rattle.schedule_replay.specs.declared.fault.ReplayFault.TheVariants.{LinkFault, WriteFault, NoMemory}
 use Rattle.schedule_replay.specs.declared.replay.Replay.{Replay}
 use Rattle.schedule_text.specs.Limits.{longest_line}
 use Rattle.basil_cli.specs.Reading.{ended_lines, has_newline, is_settled, open_line}
@@ -52,7 +53,8 @@ Reads (Err LinkFault) whole left read = ⊤
 Reads (Err WriteFault) whole left read = ⊥
 Reads (Err NoMemory) whole left read = ⊤
 
--- behind what links gave and what was read, these gifts and this piece come to what they should, whatever links give later
+-- behind what links gave and what was read, these gifts and this piece come to what they should, whatever links give
+-- later
 abbrev pub ReadsOn :
     (carried : Bool) → Reading → (piece : List ℕ) → Result Reading ReplayFault → (more : List (List ℕ)) → Type 0
 ReadsOn carried reading piece result more =

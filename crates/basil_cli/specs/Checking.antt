@@ -10,7 +10,8 @@ use Rattle.certificates.specs.Refusals.{decision_of, refusal}
 use Rattle.certificates.specs.declared.refusal.CertRefusal.{CertRefusal}
 use Rattle.frame_views.specs.Fitting.{bounds_of}
 use Rattle.frame_views.specs.Frames.{frame_in}
-use Rattle.frame_views.specs.Values.{CertificateValue, MessageValue, WritebackValue, Read, ReadReply, St1, Vote, St2, LogReply, Writeback, Recover, Invoke, Elect, Decide}
+use Rattle.frame_views.specs.Values.{CertificateValue, MessageValue, WritebackValue, Read, ReadReply}
+use Rattle.frame_views.specs.Values.{St1, Vote, St2, LogReply, Writeback, Recover, Invoke, Elect, Decide}
 use Rattle.frame_views.specs.declared.fault.BadFrame.{BadFrame}
 use Rattle.keyring.specs.Plain.{plain_accepts}
 use Rattle.keyring_lms.specs.Replay.{replay_accepts}

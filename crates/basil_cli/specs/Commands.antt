@@ -1,5 +1,6 @@
 -- The commands, as words spell them.
-use Rattle.std.specs.Prelude.{ℕ, ◌<◌, ◌==◌, nat_lt, List, [], ◌∷◌, length, Bool, true, false, codes, Option, Some, None, option_map, Result, Ok, Err, ⊤, if◌then◌else◌}
+use Rattle.std.specs.Prelude.{ℕ, ◌<◌, ◌==◌, nat_lt, List, [], ◌∷◌, length, Bool, true, false, codes}
+use Rattle.std.specs.Prelude.{Option, Some, None, option_map, Result, Ok, Err, ⊤, if◌then◌else◌}
 use Rattle.std.specs.Str.{bytes_eq}
 use Rattle.lms_sign.specs.Sets.{leaves_of}
 use Rattle.lms_sign.specs.declared.sets.LmsSet.{LmsSet}
@@ -8,7 +9,8 @@ use Rattle.schedule_text.specs.Fields.{hex, number, number_in}
 use Rattle.schedule_text.specs.Words.{Word}
 use Rattle.schedule_text.specs.declared.complaint.Complaint.{Complaint}
 use Rattle.basil_cli.specs.declared.command.Command.{Command}
-use Rattle.basil_cli.specs.declared.command.Command.TheVariants.{Replay, Generate, Load, Keys, Sign, Verify, Check, Audit}
+use Rattle.basil_cli.specs.declared.command.Command.TheVariants.{Replay, Generate, Load, Keys}
+use Rattle.basil_cli.specs.declared.command.Command.TheVariants.{Sign, Verify, Check, Audit}
 use Rattle.basil_cli.specs.declared.command.KeyMaterial.{KeyMaterial}
 use Rattle.basil_cli.specs.declared.command.LoadSize.{LoadSize}
 

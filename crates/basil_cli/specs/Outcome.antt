@@ -26,7 +26,8 @@ pub data Outcome : Type 0 where
   -- the input has more than 16,777,216 bytes
   TooLong : Outcome
 
--- `broken forged PARTY WORDS SIGNATURE`, or `broken collision BYTES BYTES`: the party as a schedule says it, the rest in hex
+-- `broken forged PARTY WORDS SIGNATURE`, or `broken collision BYTES BYTES`: the party as a schedule says it, the rest
+-- in hex
 abbrev pub broken_text : premise.Broken → List ℕ
 broken_text (Forged party words signature) =
     codes "broken forged " ++ join_with_byte 32 (party_words party) ++ 32 ∷ encode_lower words

@@ -16,7 +16,8 @@ use Rattle.basil_cli.specs.Outcome.{Outcome, Usage, BadLine, Written, Broken, Fu
 use Rattle.basil_cli.specs.Signatures.{keys_made, signed, verified}
 use Rattle.basil_cli.specs.declared.command.Command.{Command}
 use Rattle.basil_cli.specs.declared.command.LoadSize.{LoadSize}
-use Rattle.basil_cli.specs.declared.command.Command.TheVariants.{Replay, Generate, Load, Keys, Sign, Verify, Check, Audit}
+use Rattle.basil_cli.specs.declared.command.Command.TheVariants.{Replay, Generate, Load, Keys}
+use Rattle.basil_cli.specs.declared.command.Command.TheVariants.{Sign, Verify, Check, Audit}
 
 -- a schedule leads to its report, or to one of three faults; to the others none leads
 abbrev pub replayed : Result (List ℕ) ReplayFault → Outcome

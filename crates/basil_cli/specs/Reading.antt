@@ -1,12 +1,14 @@
 -- How far an input is read.
-use Rattle.std.specs.Prelude.{◌≡◌, ◌⊎◌, ℕ, ◌-◌, ◌<◌, ◌==◌, nat_lt, Bool, true, ◌||◌, List, [], ◌++◌, length, take, slice_index_or}
+use Rattle.std.specs.Prelude.{◌≡◌, ◌⊎◌, ℕ, ◌-◌, ◌<◌, ◌==◌, nat_lt, Bool, true}
+use Rattle.std.specs.Prelude.{◌||◌, List, [], ◌++◌, length, take, slice_index_or}
 use Rattle.std.specs.Prelude.{Option, Some, None, is_err, ⊤}
 use Rattle.std.specs.List.{list_any, slice_split}
 use Rattle.schedule_replay.specs.Stages.{Begins, run_lines}
 use Rattle.schedule_text.specs.Limits.{longest_line}
 use Rattle.basil_cli.specs.Outcome.{is_too_long}
 use Rattle.basil_cli.specs.declared.command.Command.{Command}
-use Rattle.basil_cli.specs.declared.command.Command.TheVariants.{Replay, Generate, Load, Keys, Sign, Verify, Check, Audit}
+use Rattle.basil_cli.specs.declared.command.Command.TheVariants.{Replay, Generate, Load, Keys}
+use Rattle.basil_cli.specs.declared.command.Command.TheVariants.{Sign, Verify, Check, Audit}
 use Rattle.schedule_replay.specs.Roads.{Road, road_with}
 
 -- ---- the lines of bytes
@@ -29,8 +31,8 @@ open_line bytes = slice_index_or (pieces_of bytes) (length (pieces_of bytes) - 1
 
 -- ---- which bytes decide
 
--- whether no byte behind these changes what a schedule leads to by this road: a line that ended leads to a fault, or the
--- open one is too long
+-- whether no byte behind these changes what a schedule leads to by this road: a line that ended leads to a fault, or
+-- the open one is too long
 abbrev pub is_settled : Road → (bytes : List ℕ) → Bool
 is_settled road bytes =
     is_err (run_lines (ended_lines bytes) 1 (Begins road)) || nat_lt longest_line (length (open_line bytes))

@@ -6,7 +6,8 @@ ghost use Rattle.frame_views.specs.Fitting.{FitsCertificate, FitsWriteback, boun
 ghost use Rattle.frame_views.specs.Shown.{certificate_of, writeback_of};
 ghost use Rattle.txn_meta.specs.Form.{form_fault};
 ghost use Rattle.basil_cli.specs.Checking as checking;
-ghost use Rattle.basil_cli.specs.Checking.{accepted_by, proved_by, judged, judged_alone, framed, writeback_on, checked_under, headed, checked};
+ghost use Rattle.basil_cli.specs.Checking.{accepted_by, proved_by, judged, judged_alone};
+ghost use Rattle.basil_cli.specs.Checking.{framed, writeback_on, checked_under, headed, checked};
 ghost use Rattle.schedule_text.specs.TextLines.{lines_of};
 ghost use Rattle.basil_cli.specs.Parts.{outcome_is, Framed};
 
@@ -60,7 +61,9 @@ fn judge_with(
 ) -> Result<Ending, NoMemory>
     requires form { form_fault (transaction_of t) ≡ None }
     requires fits { FitsCertificate (bounds_of cluster.now) (certificate_of c.now) }
-    ensures { IfOk result (λ e. outcome_is e ≡ proved_by (accepted_by cluster.now ring) cluster.now (transaction_of t.entry) (certificate_of c.now)) }
+    ensures { IfOk result
+        (λ e. outcome_is e
+        ≡ proved_by (accepted_by cluster.now ring) cluster.now (transaction_of t.entry) (certificate_of c.now)) }
 {
     match ring {
         Ring::Plain => judge_by(alloc, &PlainKeys::new(cluster), cluster, t, c),
@@ -106,7 +109,8 @@ fn check_lines(
     line: &[u8],
     more: &[u8],
 ) -> Result<Ending, NoMemory>
-    ensures { IfOk result (λ e. outcome_is e ≡ judged_alone ring cluster.now (writeback_on cluster.now line.now) (lines_of more.now)) }
+    ensures { IfOk result
+        (λ e. outcome_is e ≡ judged_alone ring cluster.now (writeback_on cluster.now line.now) (lines_of more.now)) }
 {
     let Ok(bytes) = read_hex(alloc, line)? else {
         return Ok(Ending::BadLine {

@@ -4,7 +4,8 @@ ghost use Rattle.std.specs.Prelude.{◌≡◌, ◌<◌, ◌≤◌, IfOk, IfSome,
 ghost use Rattle.schedule_text.specs.Fields.{hex, number_in};
 ghost use Rattle.lms_sign.specs.Sets.{leaves_of};
 ghost use Rattle.basil_cli.specs.Commands as commands;
-ghost use Rattle.basil_cli.specs.Commands.{said, hex_of, material_of, leaf_of, command_of, replay_of, generate_of, load_of, size_of, keys_of, sign_of, verify_of, check_of, audit_of, HasLeaf};
+ghost use Rattle.basil_cli.specs.Commands.{said, hex_of, material_of, leaf_of, command_of, replay_of, generate_of};
+ghost use Rattle.basil_cli.specs.Commands.{load_of, size_of, keys_of, sign_of, verify_of, check_of, audit_of, HasLeaf};
 
 use basil_types::bytes::Bytes;
 use basil_types::memory::NoMemory;

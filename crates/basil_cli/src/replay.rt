@@ -1,6 +1,7 @@
 //! A schedule is run as it is read, line by line.
 
-ghost use Rattle.std.specs.Prelude.{◌≡◌, ◌<◌, ℕ, Bool, List, ◌++◌, ◌∷◌, [], false, IfErr, IfOk, IfSome, MatchOption, length, position, ◌==◌};
+ghost use Rattle.std.specs.Prelude.{◌≡◌, ◌<◌, ℕ, Bool, List, ◌++◌, ◌∷◌, [], false, IfErr};
+ghost use Rattle.std.specs.Prelude.{IfOk, IfSome, MatchOption, length, position, ◌==◌};
 ghost use Rattle.std.specs.Result.{IsErrOf};
 ghost use Rattle.basil_types.specs.Causes.{Rose};
 ghost use Rattle.schedule_replay.specs.Outcomes.{outcome_on, replay_of, replay_on};

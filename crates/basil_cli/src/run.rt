@@ -1,11 +1,13 @@
 //! The top call: all that the program does.
 
-ghost use Rattle.std.specs.Prelude.{◌≡◌, ◌⊎◌, ◌<◌, ℕ, List, Bool, true, false, Some, None, [], IfSome, IfOk, map, string_bytes};
+ghost use Rattle.std.specs.Prelude.{◌≡◌, ◌⊎◌, ◌<◌, ℕ, List, Bool, true, false};
+ghost use Rattle.std.specs.Prelude.{Some, None, [], IfSome, IfOk, map, string_bytes};
 ghost use Rattle.std.specs.Result.{IsErrOf};
 ghost use Rattle.basil_types.specs.Causes.{Rose, TookPrefix};
 ghost use Rattle.schedule_replay.specs.Outcomes as schedules;
 ghost use Rattle.schedule_replay.specs.Roads.{Direct, Uses};
-ghost use Rattle.basil_cli.specs.Answers.{Answers, Counts, IsBrokenEnd, IsTold, LoadedSafely, TookFault, WroteSafely, WroteSome};
+ghost use Rattle.basil_cli.specs.Answers.{Answers, Counts, IsBrokenEnd, IsTold};
+ghost use Rattle.basil_cli.specs.Answers.{LoadedSafely, TookFault, WroteSafely, WroteSome};
 ghost use Rattle.basil_cli.specs.Answers.{counted, is_outcomes, status_of};
 ghost use Rattle.basil_cli.specs.Commands as commands;
 ghost use Rattle.basil_cli.specs.Commands.{command_of, is_carried, runs, words_carried, words_read, reads, HasLeaf};
@@ -208,15 +210,15 @@ fn run_command<S: Source, K: Sink, L: Links>(
 /// - `replay` reads a schedule from the source and writes the report of the run that its lines describe.
 /// - `loopback` does the same for a run in which each delivery hands the node what the links' `carry` gave.
 /// - `generate N COUNT` writes the schedule of so many transactions that is drawn from that number.
-/// - `load N COUNT` runs that schedule and writes how many of its transactions committed, aborted and are open, and the number
-///   of messages.
+/// - `load N COUNT` runs that schedule and writes how many of its transactions committed, aborted and are open, and the
+///   number of messages.
 /// - `keys SET SEED IDENT` writes the LMS public key (RFC 8554) of that parameter set, SEED and identifier, in hex.
 /// - `sign SET SEED IDENT Q` reads a message and writes its signature with leaf Q of that key, in hex.
 /// - `verify PUBLIC SIGNATURE` reads a message and writes `accepted` where the signature is valid, else `refused R`.
-/// - `check` reads a header and a writeback's frame in hex and writes `commit` or `abort` where the certificate proves it, else
-///   `refused R`.
-/// - `audit` reads transactions with their reads and writes and writes `serial` where each read is of the version that the
-///   serial order gives it, else the first that isn't, as `stray NAME KEY FOUND EXPECTED`.
+/// - `check` reads a header and a writeback's frame in hex and writes `commit` or `abort` where the certificate proves
+///   it, else `refused R`.
+/// - `audit` reads transactions with their reads and writes and writes `serial` where each read is of the version that
+///   the serial order gives it, else the first that isn't, as `stray NAME KEY FOUND EXPECTED`.
 pub fn run<S: Source, K: Sink, L: Links, C: Clock>(
     alloc: Global,
     words: &[String],
@@ -226,17 +228,17 @@ pub fn run<S: Source, K: Sink, L: Links, C: Clock>(
     clock: &mut C,
 ) -> Status
     // Where the source tells its bytes, the status and what was written are those of the words, the bytes, and what the
-    // links gave. After a fault of the sink it is some of that text, or, where another count rose, some of the text of its
-    // fault.
+    // links gave. After a fault of the sink it is some of that text, or, where another count rose, some of the text of
+    // its fault.
     ensures answers { let command = command_of (map string_bytes words.now) in let counts =
         counted (S.faults source.old) (S.faults source.new) (L.faults links.old) (L.faults links.new) in
         IfSome (S.left source.old) (λ bytes. ByWords command (L.told links.old) (L.told links.new) (λ coming.
         Answers result (outcome_of (map string_bytes words.now) coming bytes) counts
         (K.taken sink.old) (K.taken sink.new))) }
-    // Where a report was written, it is that of a run with at most f faulty replicas of each shard, in which each node was
-    // handed each message as it is or, by `loopback`, what the links gave for it. No transaction has both a commit and an
-    // abort certificate there, and each committed transaction of a correct client read, key by key, what the latest
-    // committed writer before it wrote.
+    // Where a report was written, it is that of a run with at most f faulty replicas of each shard, in which each node
+    // was handed each message as it is or, by `loopback`, what the links gave for it. No transaction has both a commit
+    // and an abort certificate there, and each committed transaction of a correct client read, key by key, what the
+    // latest committed writer before it wrote.
     ensures safe { (carried : Bool) → command_of (map string_bytes words.now) ≡ Some (Command.Replay carried) →
         result ≡ Status.Done → IfSome (S.left source.old) (λ bytes.
         ByRoads carried (L.told links.old) (L.told links.new) (λ road.
@@ -256,8 +258,8 @@ pub fn run<S: Source, K: Sink, L: Links, C: Clock>(
         result ≡ Status.Broken → IfSome (S.left source.old) (λ bytes.
         ByRoads carried (L.told links.old) (L.told links.new) (λ road.
         IsBrokenEnd road bytes (K.taken sink.old) (K.taken sink.new))) }
-    // Where the totals of a load were written, they are those of such a run by the load's schedule, where each message was
-    // handed over as it is.
+    // Where the totals of a load were written, they are those of such a run by the load's schedule, where each message
+    // was handed over as it is.
     ensures load_safe { (size : LoadSize) → command_of (map string_bytes words.now) ≡ Some (Command.Load size) →
         result ≡ Status.Done → LoadedSafely size (K.taken sink.old) (K.taken sink.new) }
     // A breach that a load leads to is told and real as well.

@@ -21,15 +21,17 @@ pub enum Status {
     WriteFault,
     /// 6: a link failed; `link fault` was written.
     LinkFault,
-    /// 7: a premise of the run is broken: a signature is accepted for a correct party on words that it never signed, or two
-    /// transactions have one id; `broken forged PARTY WORDS SIGNATURE` or `broken collision BYTES BYTES` was written.
+    /// 7: a premise of the run is broken: a signature is accepted for a correct party on words that it never signed, or
+    /// two transactions have one id; `broken forged PARTY WORDS SIGNATURE` or `broken collision BYTES BYTES` was
+    /// written.
     Broken,
-    /// 8: what the command tests is false of its input, and why; `refused R` was written, or for `audit`, with the reason
-    /// 0, a line `stray`.
+    /// 8: what the command tests is false of its input, and why; `refused R` was written, or for `audit`, with the
+    /// reason 0, a line `stray`.
     Refused { reason: u8 },
     /// 9: memory is wanting; nothing was written.
     NoMemory,
-    /// 10: the messages of an event would pass a limit of the pool, which holds this; `full MESSAGES BYTES` was written.
+    /// 10: the messages of an event would pass a limit of the pool, which holds this; `full MESSAGES BYTES` was
+    /// written.
     Full { messages: u64, bytes: u64 },
     /// 12: an input that is read whole has more than 16,777,216 bytes; `too long 16777216` was written.
     TooLong,
@@ -56,8 +58,8 @@ impl Status {
     }
 }
 
-/// The line that tells the status; but the text of an output, a breach or a stray read says more, and nothing is written of
-/// a failed write and want of memory.
+/// The line that tells the status; but the text of an output, a breach or a stray read says more, and nothing is
+/// written of a failed write and want of memory.
 impl fmt::Display for Status {
     ghost output = { λ status. Some (status_text status) };
 

@@ -1,7 +1,8 @@
 //! Frames and certificates: read from bytes, owned, measured, and written.
 //!
-//! [`check`] reads a frame, [`signatures`], [`transactions`] and [`pairs`] walk over all that it carries, [`decode`] owns
-//! what it says, [`fits`] tells whether an owned message is in the grammar, and [`encode_into`] and the `put` calls append frames.
+//! [`check`] reads a frame, [`signatures`], [`transactions`] and [`pairs`] walk over all that it carries, [`decode`]
+//! owns what it says, [`fits`] tells whether an owned message is in the grammar, and [`encode_into`] and the `put`
+//! calls append frames.
 #![tactic(auto)]
 
 pub use frame_fitting::fits;

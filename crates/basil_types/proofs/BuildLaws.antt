@@ -1,5 +1,6 @@
 -- Parts without a fault are a transaction.
-use Rattle.std.proofs.Common.{◌≡◌, ℕ, ◌+◌, ◌≤◌, ◌<◌, ◌^◌, Bool, true, false, cond, leb, ltb, eqb, List, [], ◌∷◌, length, map, get_or, Option, Some, None, refl, sym, ◌∙◌, arith}
+use Rattle.std.proofs.Common.{◌≡◌, ℕ, ◌+◌, ◌≤◌, ◌<◌, ◌^◌, Bool, true, false, cond, leb, ltb, eqb, List}
+use Rattle.std.proofs.Common.{[], ◌∷◌, length, map, get_or, Option, Some, None, refl, sym, ◌∙◌, arith}
 use Rattle.std.specs.Prelude.{not, position, option_map, All}
 use Rattle.std.specs.List.{list_any, position_or_len, AllByRecursion}
 use Rattle.std.proofs.lemmas.Bool.{leb-true, eqb-true, ltb-false}
@@ -13,7 +14,8 @@ use Rattle.basil_types.specs.declared.transaction.fault.BuildFault.TheVariants.{
 use Rattle.basil_types.specs.Lists.{AreItems}
 use Rattle.basil_types.specs.Texts.{IsBytes, IsKey, IsValue, key_below}
 use Rattle.basil_types.specs.Transaction.{IsTransaction, FitsRead, FitsWrite, key_of_read, key_of_write}
-use Rattle.basil_types.specs.Built.{format_of, built, key_fits, read_fits, value_fits, write_fits, order_fault_from, order_fault, or_else, size_fault, key_fault, build_fault, ReadInRange, WriteInRange}
+use Rattle.basil_types.specs.Built.{format_of, built, key_fits, read_fits, value_fits, write_fits, order_fault_from}
+use Rattle.basil_types.specs.Built.{order_fault, or_else, size_fault, key_fault, build_fault, ReadInRange, WriteInRange}
 use Rattle.basil_types.proofs.Fields.{both_true}
 
 neither : {A : Type 0} (a b : Option A) → or_else a b ≡ None → (a ≡ None) × (b ≡ None)

@@ -46,7 +46,8 @@ module _ {K X : Type 0} (bytes : K → List ℕ) where
   pub lookup-set_value : (key k : List ℕ) (es : List (K × X)) (i w : X) → lookup (has_bytes bytes key) es ≡ Some i
       → lookup (has_bytes bytes k) (set_value (has_bytes bytes key) es w) ≡ cond (bytes_eq key k) (Some w) (lookup (has_bytes bytes k) es)
   lookup-set_value key k [] i w found = absurd cc
-  lookup-set_value key k (e ∷ es) i w found = by (lookup-set_value key k es i w) (bytes_eq key (bytes e.0)) (bytes_eq k (bytes e.0)) refl refl
+  lookup-set_value key k (e ∷ es) i w found =
+      by (lookup-set_value key k es i w) (bytes_eq key (bytes e.0)) (bytes_eq k (bytes e.0)) refl refl
     where
       by : (lookup (has_bytes bytes key) es ≡ Some i
           → lookup (has_bytes bytes k) (set_value (has_bytes bytes key) es w)
@@ -76,7 +77,8 @@ module _ {K X : Type 0} (bytes : K → List ℕ) where
       by false false p q = ap (λ z. cond z (Some w) None) (p ∙ sym q)
       by true false p q = true≢false' (sym (bytes_same key) ∙ ap (bytes_eq key) (sym is ∙ sym (bytes_tell k (bytes new) p)) ∙ q)
       by false true p q = true≢false' (sym (bytes_same k) ∙ ap (bytes_eq k) (sym (bytes_tell key k q) ∙ sym is) ∙ p)
-  lookup-push key k (e ∷ es) new w is none = by (lookup-push key k es new w is) (bytes_eq key (bytes e.0)) (bytes_eq k (bytes e.0)) refl refl
+  lookup-push key k (e ∷ es) new w is none =
+      by (lookup-push key k es new w is) (bytes_eq key (bytes e.0)) (bytes_eq k (bytes e.0)) refl refl
     where
       by : (lookup (has_bytes bytes key) es ≡ None
           → lookup (has_bytes bytes k) (es ++ (new, w) ∷ []) ≡ cond (bytes_eq key k) (Some w) (lookup (has_bytes bytes k) es))

@@ -1,5 +1,6 @@
 -- A key, value, version, read or write that is read is the one that was written, and what was written is read again.
-use Rattle.std.proofs.Common.{◌≡◌, ℕ, ◌≤◌, ◌<◌, ◌^◌, Bool, true, false, cond, leb, ltb, eqb, List, [], ◌∷◌, ◌++◌, length, Ok, Err, refl, sym, ap, subst, ◌∙◌, append_assoc, length-append, arith}
+use Rattle.std.proofs.Common.{◌≡◌, ℕ, ◌≤◌, ◌<◌, ◌^◌, Bool, true, false, cond, leb, ltb, eqb, List, [], ◌∷◌, ◌++◌}
+use Rattle.std.proofs.Common.{length, Ok, Err, refl, sym, ap, subst, ◌∙◌, append_assoc, length-append, arith}
 use Rattle.std.specs.Prelude.{not}
 use Rattle.std.specs.Int.{w16, w64, to_be_bytes}
 use Rattle.std.proofs.lemmas.Bool.{le-ltb, leb-true, le-leb, eqb-true}
@@ -11,9 +12,11 @@ use Rattle.basil_types.specs.declared.transaction.parts.WritePart.{WritePart}
 use Rattle.basil_types.specs.Steps.{◌>>=◌}
 use Rattle.basil_types.specs.Texts.{IsBytes, IsKey, IsValue, IsVersion, key_below}
 use Rattle.basil_types.specs.Transaction.{short_text, long_text, version_bytes, read_bytes, written_bytes, write_bytes, FitsRead, FitsWrite}
-use Rattle.basil_types.specs.Reading.{byte_at, number_at, run_at, between, flag_at, key_at, next_key_at, value_at, version_parts_at, version_at}
+use Rattle.basil_types.specs.Reading.{byte_at, number_at, run_at, between, flag_at, key_at}
+use Rattle.basil_types.specs.Reading.{next_key_at, value_at, version_parts_at, version_at}
 use Rattle.basil_types.specs.Parsed.{read_at, gives_at, given_at, write_at}
-use Rattle.basil_types.proofs.Fields.{bind_ok, pass_ok, ok_is, moved, Takes, Takes-then, byte_takes, between_takes, between_again, flag_takes, flag_again, number_takes, number_again, wide16, wide64, run_takes, run_again}
+use Rattle.basil_types.proofs.Fields.{bind_ok, pass_ok, ok_is, moved, Takes, Takes-then, byte_takes, between_takes, between_again}
+use Rattle.basil_types.proofs.Fields.{flag_takes, flag_again, number_takes, number_again, wide16, wide64, run_takes, run_again}
 use Rattle.basil_types.proofs.ListLaws.{Reads}
 
 -- ---- keys

@@ -1,5 +1,6 @@
 -- A transaction that is read is the one that was written, and what was written is read again.
-use Rattle.std.proofs.Common.{◌≡◌, ℕ, ◌+◌, ◌≤◌, ◌<◌, ◌-◌, ◌^◌, true, List, [], ◌∷◌, ◌++◌, length, take, Result, Ok, Err, refl, sym, ap, subst, ◌∙◌, append_assoc, length-append, arith}
+use Rattle.std.proofs.Common.{◌≡◌, ℕ, ◌+◌, ◌≤◌, ◌<◌, ◌-◌, ◌^◌, true, List, [], ◌∷◌, ◌++◌, length, take}
+use Rattle.std.proofs.Common.{Result, Ok, Err, refl, sym, ap, subst, ◌∙◌, append_assoc, length-append, arith}
 use Rattle.std.specs.List.{flat_map}
 use Rattle.std.specs.Int.{w64, to_be_bytes}
 use Rattle.std.proofs.lemmas.Bool.{eqb-true}
@@ -10,10 +11,13 @@ use Rattle.basil_types.specs.declared.transaction.parts.WritePart.{WritePart}
 use Rattle.basil_types.specs.Steps.{◌>>=◌}
 use Rattle.basil_types.specs.Lists.{items_at, AreItems, list_of, is_read, is_whole}
 use Rattle.basil_types.specs.Texts.{IsBytes}
-use Rattle.basil_types.specs.Transaction.{TransactionValue, IsTransaction, canonical, read_bytes, write_bytes, FitsRead, FitsWrite, key_of_read, key_of_write}
+use Rattle.basil_types.specs.Transaction.{TransactionValue, IsTransaction, canonical, read_bytes}
+use Rattle.basil_types.specs.Transaction.{write_bytes, FitsRead, FitsWrite, key_of_read, key_of_write}
 use Rattle.basil_types.specs.Reading.{number_at, between}
-use Rattle.basil_types.specs.Parsed.{Head, head_at, read_at, write_at, reads_at, writes_at, before_writes_at, transaction_at, read_value, transaction_in, spells_transaction}
-use Rattle.basil_types.proofs.Fields.{bind_ok, ok_is, moved, Takes, Takes-then, between_takes, between_again, number_takes, number_again, wide64}
+use Rattle.basil_types.specs.Parsed.{Head, head_at, read_at, write_at, reads_at, writes_at, before_writes_at}
+use Rattle.basil_types.specs.Parsed.{transaction_at, read_value, transaction_in, spells_transaction}
+use Rattle.basil_types.proofs.Fields.{bind_ok, ok_is, moved, Takes, Takes-then, between_takes}
+use Rattle.basil_types.proofs.Fields.{between_again, number_takes, number_again, wide64}
 use Rattle.basil_types.proofs.ListLaws.{reads-take, reads-again}
 use Rattle.basil_types.proofs.PartLaws.{reads_reads, writes_reads}
 

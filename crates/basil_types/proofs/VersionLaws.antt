@@ -122,7 +122,8 @@ tied_is_same a b = by (is_eq (version_cmp a b)) (same_version a b) refl refl
     by false false p q = refl
     by true false p q = absurd (let h = sym q ∙ (same_exactly a b).1 (version_tells a b p) in cc)
     by false true p q =
-        absurd (let h = sym p ∙ subst (λ v. is_eq (version_cmp a v) ≡ true) ((same_exactly a b).0 q) (ap is_eq (tied_itself version_total a)) in cc)
+        absurd (let h = sym p ∙ subst (λ v. is_eq (version_cmp a v) ≡ true)
+        ((same_exactly a b).0 q) (ap is_eq (tied_itself version_total a)) in cc)
 
 less_first : (o p : Ordering) → Less ≡ o → is_lt (ordering_then o p) ≡ true
 less_first o p e = ap (λ r. is_lt (ordering_then r p)) (sym e)

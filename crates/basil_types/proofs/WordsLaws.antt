@@ -6,7 +6,9 @@ use Rattle.basil_types.specs.declared.party.Decision.{Decision}
 use Rattle.basil_types.specs.declared.party.Decision.TheVariants.{Commit, Abort}
 use Rattle.basil_types.specs.declared.version.Version.{Version}
 use Rattle.basil_types.specs.Transaction.{version_bytes}
-use Rattle.basil_types.specs.Words.{TransactionWords, VoteWords, ReadReplyWords, LogReplyWords, ElectionWords, ProposalWords, VoteOf, ReadReplyOf, LogReplyOf, ViewOf, words_of, view_bytes, decision_byte, FitsVersion, FitsReply, FitsLog, FitsView, WordsTellFields}
+use Rattle.basil_types.specs.Words.{TransactionWords, VoteWords, ReadReplyWords, LogReplyWords, ElectionWords}
+use Rattle.basil_types.specs.Words.{ProposalWords, VoteOf, ReadReplyOf, LogReplyOf, ViewOf, words_of, view_bytes}
+use Rattle.basil_types.specs.Words.{decision_byte, FitsVersion, FitsReply, FitsLog, FitsView, WordsTellFields}
 
 same_head : (a b : ℕ) (x y : List ℕ) → a ∷ x ≡ b ∷ y → a ≡ b
 same_head a b x y e = ap (λ l. get_or l 0 0) e

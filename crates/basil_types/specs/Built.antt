@@ -1,5 +1,6 @@
 -- Transactions of owned parts: their format, and which fault comes first.
-use Rattle.std.specs.Prelude.{ℕ, ◌+◌, List, [], ◌∷◌, Bool, ◌&&◌, not, nat_le, ◌==◌, length, map, if◌then◌else◌, position, Option, Some, None, option_map}
+use Rattle.std.specs.Prelude.{ℕ, ◌+◌, List, [], ◌∷◌, Bool, ◌&&◌, not, nat_le, ◌==◌, length}
+use Rattle.std.specs.Prelude.{map, if◌then◌else◌, position, Option, Some, None, option_map}
 use Rattle.std.specs.List.{list_any}
 use Rattle.basil_types.specs.declared.transaction.parts.ReadPart.{ReadPart}
 use Rattle.basil_types.specs.declared.transaction.parts.WritePart.{WritePart}

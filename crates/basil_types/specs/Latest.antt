@@ -18,8 +18,8 @@ abbrev pub left_by : Version → List WritePart → (key : List ℕ) → Option 
 left_by v [] key old = old
 left_by v (w ∷ ws) key old = left_by v ws key (if bytes_eq w.key key then Some (latest_of v w) else old)
 
--- what a transaction leaves at a key: its version, and the value that it wrote, or none where it deletes the key; nothing
--- where it doesn't write the key
+-- what a transaction leaves at a key: its version, and the value that it wrote, or none where it deletes the key;
+-- nothing where it doesn't write the key
 abbrev pub leaves : TransactionValue → (key : List ℕ) → Option Latest
 leaves t key = left_by (version_of t) t.writes key None
 

@@ -6,8 +6,8 @@ use Rattle.basil_types.specs.Causes.{is_next}
 use Rattle.basil_types.specs.declared.links.LinkFail.{LinkFail}
 
 -- by what its reads give: the connections that open and accept will take, and what is left of the open one; the bytes
--- of all writes; in order of the calls the addresses of each open and listen, what each carry gave, and how many bytes had
--- been written before each open and accept
+-- of all writes; in order of the calls the addresses of each open and listen, what each carry gave, and how many bytes
+-- had been written before each open and accept
 pub record LinkState : Type 0 where
   pub coming : List (List ℕ)
   pub rest : Option (List ℕ)

@@ -1,6 +1,7 @@
 -- Fields read from left to right, with the first fault that is met. A fault tells how many bytes are left where its
 -- field begins.
-use Rattle.std.specs.Prelude.{ℕ, List, [], ◌∷◌, length, take, drop, Result, Ok, Err, nat_lt, nat_le, ◌==◌, ◌&&◌, Bool, if◌then◌else◌}
+use Rattle.std.specs.Prelude.{ℕ, List, [], ◌∷◌, length, take, drop, Result, Ok}
+use Rattle.std.specs.Prelude.{Err, nat_lt, nat_le, ◌==◌, ◌&&◌, Bool, if◌then◌else◌}
 use Rattle.std.specs.Int.{Width, w16, w64, byte_len, from_be_bytes}
 use Rattle.basil_types.specs.declared.reading.Fault.{Fault}
 use Rattle.basil_types.specs.declared.reading.Fault.TheVariants.{Short, Range, Order}

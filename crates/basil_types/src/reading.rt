@@ -2,7 +2,8 @@
 
 ghost use Rattle.std.specs.Prelude.{◌≡◌, ◌≤◌, IfOk, drop, length};
 ghost use Rattle.std.specs.Int.{w16, w64};
-ghost use Rattle.basil_types.specs.Reading.{byte_at, flag_at, number_at, run_at, key_at, next_key_at, value_at, version_parts_at, version_at};
+ghost use Rattle.basil_types.specs.Reading.{byte_at, flag_at, number_at, run_at, key_at};
+ghost use Rattle.basil_types.specs.Reading.{next_key_at, value_at, version_parts_at, version_at};
 ghost use Rattle.basil_types.specs.Steps.{Gives};
 ghost use Rattle.basil_types.specs.Texts.{IsBytes};
 

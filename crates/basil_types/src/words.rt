@@ -3,7 +3,8 @@
 ghost use Rattle.std.specs.Prelude.{◌≡◌, ◌+◌, ◌≤◌, ◌<◌, [], ◌∷◌, ◌++◌, length};
 ghost use Rattle.std.specs.Int.{to_be_bytes, w64};
 ghost use Rattle.basil_types.specs.Transaction.{version_bytes};
-ghost use Rattle.basil_types.specs.Words.{words_of, view_bytes, WordsTellFields, TransactionWords, VoteWords, ReadReplyWords, LogReplyWords, ElectionWords, ProposalWords};
+ghost use Rattle.basil_types.specs.Words.{words_of, view_bytes, WordsTellFields, TransactionWords, VoteWords};
+ghost use Rattle.basil_types.specs.Words.{ReadReplyWords, LogReplyWords, ElectionWords, ProposalWords};
 
 use crate::party::Decision;
 use crate::version::Version;

@@ -37,14 +37,22 @@ length_numbers who (x ∷ xs) = ap suc (length_numbers who xs)
 rising_votes : (b : Bounds) (floor : ℕ) (votes : List VoteValue) → AreItems (FitsVote b) after_vote floor votes
     → AreRising floor b.replicas (numbers (λ (v : VoteValue). v.replica) votes)
 rising_votes b floor [] h = tt
-rising_votes b floor (v ∷ vs) h =
-    (h.0.above, h.0.below, subst (λ (k : ℕ). AreRising k b.replicas (numbers (λ (w : VoteValue). w.replica) vs)) (add-one v.replica) (rising_votes b (v.replica + 1) vs h.1))
+rising_votes b floor (v ∷ vs) h = (
+  h.0.above,
+  h.0.below,
+  subst (λ (k : ℕ). AreRising k b.replicas (numbers (λ (w : VoteValue). w.replica) vs))
+      (add-one v.replica) (rising_votes b (v.replica + 1) vs h.1),
+)
 
 rising_logs : (b : Bounds) (decided floor : ℕ) (logs : List LogValue) → AreItems (FitsLog b decided) after_log floor logs
     → AreRising floor b.replicas (numbers (λ (l : LogValue). l.replica) logs)
 rising_logs b decided floor [] h = tt
-rising_logs b decided floor (l ∷ ls) h =
-    (h.0.above, h.0.below, subst (λ (k : ℕ). AreRising k b.replicas (numbers (λ (w : LogValue). w.replica) ls)) (add-one l.replica) (rising_logs b decided (l.replica + 1) ls h.1))
+rising_logs b decided floor (l ∷ ls) h = (
+  h.0.above,
+  h.0.below,
+  subst (λ (k : ℕ). AreRising k b.replicas (numbers (λ (w : LogValue). w.replica) ls))
+      (add-one l.replica) (rising_logs b decided (l.replica + 1) ls h.1),
+)
 
 -- ---- those whose item passes a test
 
@@ -80,28 +88,31 @@ pub size_voters : (A : Accepted) (b : Bounds) (id : List ℕ) (d : Decision) (ta
     → AreItems (FitsVote b) after_vote 0 tally.votes → list_all (accepts A) (tally_signed id d tally) ≡ true
     → size (voters A id d tally) b.replicas ≡ length tally.votes
 size_voters A b id d tally fits h =
-    size_passing (λ (v : VoteValue). v.replica) (λ v. accepts A (vote_signed tally.shard id d v)) b.replicas tally.votes (rising_votes b 0 tally.votes fits)
+    size_passing (λ (v : VoteValue). v.replica)
+    (λ v. accepts A (vote_signed tally.shard id d v)) b.replicas tally.votes (rising_votes b 0 tally.votes fits)
     (all_mapped (accepts A) (vote_signed tally.shard id d) tally.votes h)
 
 pub size_loggers : (A : Accepted) (b : Bounds) (id : List ℕ) (l : LoggedValue) → AreItems (FitsLog b l.decided) after_log 0 l.logs
     → list_all (accepts A) (logged_signed id l) ≡ true → size (loggers A id l) b.replicas ≡ length l.logs
 size_loggers A b id l fits h =
-    size_passing (λ (v : LogValue). v.replica) (λ v. accepts A (one_logged l.shard id l.decision l.decided v)) b.replicas l.logs (rising_logs b l.decided 0 l.logs fits)
+    size_passing (λ (v : LogValue). v.replica)
+    (λ v. accepts A (one_logged l.shard id l.decision l.decided v)) b.replicas l.logs (rising_logs b l.decided 0 l.logs fits)
     (all_mapped (accepts A) (one_logged l.shard id l.decision l.decided) l.logs h)
 
 -- ---- signatures
 
 pub none_refused : (A : Accepted) (signed : List SignedBy) → bad_signature A signed ≡ None → list_all (accepts A) signed ≡ true
 none_refused A [] h = refl
-none_refused A (s ∷ rest) h = by (accepts A s) (ap (option_map BadSignature) (sym (position-cons (λ x. not (accepts A x)) s rest)) ∙ h) (none_refused A rest) where
-  shift : (o : Option ℕ) → option_map BadSignature (option_map (λ k. k + 1) o) ≡ None → option_map BadSignature o ≡ None
-  shift None e = refl
-  shift (Some k) e = absurd cc
+none_refused A (s ∷ rest) h =
+    by (accepts A s) (ap (option_map BadSignature) (sym (position-cons (λ x. not (accepts A x)) s rest)) ∙ h) (none_refused A rest) where
+      shift : (o : Option ℕ) → option_map BadSignature (option_map (λ k. k + 1) o) ≡ None → option_map BadSignature o ≡ None
+      shift None e = refl
+      shift (Some k) e = absurd cc
 
-  by : (b : Bool) → option_map BadSignature (cond (not b) (Some 0) (option_map (λ k. k + 1) (first_refused A rest))) ≡ None
-      → (bad_signature A rest ≡ None → list_all (accepts A) rest ≡ true) → (b && list_all (accepts A) rest) ≡ true
-  by true g later = later (shift (first_refused A rest) g)
-  by false g later = absurd cc
+      by : (b : Bool) → option_map BadSignature (cond (not b) (Some 0) (option_map (λ k. k + 1) (first_refused A rest))) ≡ None
+          → (bad_signature A rest ≡ None → list_all (accepts A) rest ≡ true) → (b && list_all (accepts A) rest) ≡ true
+      by true g later = later (shift (first_refused A rest) g)
+      by false g later = absurd cc
 
 pub refused_none : (A : Accepted) (signed : List SignedBy) → list_all (accepts A) signed ≡ true → bad_signature A signed ≡ None
 refused_none A [] h = refl
@@ -133,8 +144,11 @@ pub enough_each : (needed : ℕ) (tallies : List TallyValue) → few_listed need
     → All (λ (t : TallyValue). needed ≤ length t.votes) tallies
 enough_each needed [] h = All-nil (λ (t : TallyValue). needed ≤ length t.votes)
 enough_each needed (t ∷ ts) h = elim (cases_lt (length t.votes) needed) [
-  | inl l ↦ absurd (some_none (ap (λ b. option_map (λ (u : TallyValue). Few (length u.votes) needed) (cond b (Some t) (find (λ u. nat_lt (length u.votes) needed) ts))) (sym (lt-ltb (length t.votes) needed l)) ∙ h))
-  | inr l ↦ All-cons (λ (u : TallyValue). needed ≤ length u.votes) t ts l (enough_each needed ts (ap (λ b. option_map (λ (u : TallyValue). Few (length u.votes) needed) (cond b (Some t) (find (λ u. nat_lt (length u.votes) needed) ts))) (sym (le-ltb (length t.votes) needed l)) ∙ h))
+  | inl l ↦ absurd (some_none (ap (λ b. option_map (λ (u : TallyValue). Few (length u.votes) needed)
+      (cond b (Some t) (find (λ u. nat_lt (length u.votes) needed) ts))) (sym (lt-ltb (length t.votes) needed l)) ∙ h))
+  | inr l ↦ All-cons (λ (u : TallyValue). needed ≤ length u.votes) t ts l
+      (enough_each needed ts (ap (λ b. option_map (λ (u : TallyValue). Few (length u.votes) needed)
+      (cond b (Some t) (find (λ u. nat_lt (length u.votes) needed) ts))) (sym (le-ltb (length t.votes) needed l)) ∙ h))
 ]
   where
     some_none : {X : Type 0} {x : X} → Some x ≡ None → ⊥
@@ -144,7 +158,8 @@ pub none_few : (needed : ℕ) (tallies : List TallyValue) → All (λ (t : Tally
     → few_listed needed tallies ≡ None
 none_few needed [] h = refl
 none_few needed (t ∷ ts) h =
-    ap (λ b. option_map (λ (u : TallyValue). Few (length u.votes) needed) (cond b (Some t) (find (λ u. nat_lt (length u.votes) needed) ts))) (le-ltb (length t.votes) needed (All-head (λ (u : TallyValue). needed ≤ length u.votes) t ts h))
+    ap (λ b. option_map (λ (u : TallyValue). Few (length u.votes) needed) (cond b (Some t) (find (λ u. nat_lt (length u.votes) needed) ts)))
+    (le-ltb (length t.votes) needed (All-head (λ (u : TallyValue). needed ≤ length u.votes) t ts h))
     ∙ none_few needed ts (All-tail (λ (u : TallyValue). needed ≤ length u.votes) t ts h)
 
 -- ---- each tally
@@ -158,14 +173,16 @@ pub voted_of : (A : Accepted) (b : Bounds) (f : ℕ) (id : List ℕ) (d : Decisi
     → AreItems (FitsVote b) after_vote 0 t.votes → list_all (accepts A) (tally_signed id d t) ≡ true → needed ≤ length t.votes
     → Voted A f id d needed t
 voted_of A b f id d needed t n fits h k =
-    let e : size (voters A id d t) (replicas f) ≡ length t.votes = subst (λ (m : ℕ). size (voters A id d t) m ≡ length t.votes) n (size_voters A b id d t fits h) in
+    let e : size (voters A id d t) (replicas f) ≡ length t.votes =
+    subst (λ (m : ℕ). size (voters A id d t) m ≡ length t.votes) n (size_voters A b id d t fits h) in
     omega arith
 
 pub counted_of : (A : Accepted) (b : Bounds) (f : ℕ) (id : List ℕ) (d : Decision) (needed : ℕ) (t : TallyValue) → b.replicas ≡ replicas f
     → AreItems (FitsVote b) after_vote 0 t.votes → list_all (accepts A) (tally_signed id d t) ≡ true → Voted A f id d needed t
     → needed ≤ length t.votes
 counted_of A b f id d needed t n fits h k =
-    let e : size (voters A id d t) (replicas f) ≡ length t.votes = subst (λ (m : ℕ). size (voters A id d t) m ≡ length t.votes) n (size_voters A b id d t fits h) in
+    let e : size (voters A id d t) (replicas f) ≡ length t.votes =
+    subst (λ (m : ℕ). size (voters A id d t) m ≡ length t.votes) n (size_voters A b id d t fits h) in
     omega arith
 
 pub each_voted : (A : Accepted) (b : Bounds) (f : ℕ) (id : List ℕ) (d : Decision) (needed floor : ℕ) (tallies : List TallyValue)

@@ -87,8 +87,10 @@ all_voted A c t id needed tallies i fits h k a = record {
 all_counted : (A : Accepted) (c : Setting) (t : TransactionValue) (id : List ℕ) (needed : ℕ) (tallies : List TallyValue)
     → FitsTallies (bounds_of c) tallies → list_all (accepts A) (tallies_signed id Commit tallies) ≡ true
     → VotedInAll A c t id needed tallies → (stray_listed c t tallies ≡ None) × (few_listed needed tallies ≡ None)
-all_counted A c t id needed tallies fits a v =
-    (none_stray c t tallies v.shards, none_few needed tallies (each_counted A (bounds_of c) c.f id Commit needed 0 tallies refl fits.each a v.votes))
+all_counted A c t id needed tallies fits a v = (
+  none_stray c t tallies v.shards,
+  none_few needed tallies (each_counted A (bounds_of c) c.f id Commit needed 0 tallies refl fits.each a v.votes),
+)
 
 one_voted : (A : Accepted) (c : Setting) (t : TransactionValue) (id : List ℕ) (needed floor : ℕ) (tally : TallyValue)
     → FitsTally (bounds_of c) floor tally → stray c t tally.shard ≡ None → few (length tally.votes) needed ≡ None
@@ -101,8 +103,10 @@ one_voted A c t id needed floor tally fits h k a = record {
 one_counted : (A : Accepted) (c : Setting) (t : TransactionValue) (id : List ℕ) (needed floor : ℕ) (tally : TallyValue)
     → FitsTally (bounds_of c) floor tally → list_all (accepts A) (tally_signed id Abort tally) ≡ true → VotedInOne A c t id needed tally
     → (stray c t tally.shard ≡ None) × (few (length tally.votes) needed ≡ None)
-one_counted A c t id needed floor tally fits a v =
-    (not_stray c t tally.shard v.shard, not_few (length tally.votes) needed (counted_of A (bounds_of c) c.f id Abort needed tally refl fits.votes.each a v.votes))
+one_counted A c t id needed floor tally fits a v = (
+  not_stray c t tally.shard v.shard,
+  not_few (length tally.votes) needed (counted_of A (bounds_of c) c.f id Abort needed tally refl fits.votes.each a v.votes),
+)
 
 logged_as : (A : Accepted) (c : Setting) (t : TransactionValue) (d : Decision) (id : List ℕ) (l : LoggedValue) → FitsLogged (bounds_of c) l
     → l.decision ≡ d → stray_logged c t l.shard ≡ None → few (length l.logs) (log_quorum c.f) ≡ None
@@ -134,8 +138,10 @@ paired t certificate = record { transaction = t; certificate = certificate }
 kind_of_commit : (A : Accepted) (c : Setting) (t : TransactionValue) (id : List ℕ) (b : BodyValue) → IsSetting c
     → FitsCertificate (bounds_of c) (record { id = id; body = b }) → Passes A c Commit (paired t (record { id = id; body = b }))
     → CommitsBy A c t id b
-kind_of_commit A c t id (values.Commits (values.FastCommit tallies)) i fits p = all_voted A c t id (fast_commit c.f) tallies i fits.body p.shards p.counts p.accepted
-kind_of_commit A c t id (values.Commits (values.Logged l)) i fits p = logged_as A c t Commit id l fits.body (not_mixed l.decision Commit p.decision) p.shards p.counts p.accepted
+kind_of_commit A c t id (values.Commits (values.FastCommit tallies)) i fits p =
+    all_voted A c t id (fast_commit c.f) tallies i fits.body p.shards p.counts p.accepted
+kind_of_commit A c t id (values.Commits (values.Logged l)) i fits p =
+    logged_as A c t Commit id l fits.body (not_mixed l.decision Commit p.decision) p.shards p.counts p.accepted
 kind_of_commit A c t id (values.FastAbort tally) i fits p = absurd (let e = p.decision in cc)
 kind_of_commit A c t id (values.ConflictAbort x) i fits p = absurd (let e = p.decision in cc)
 
@@ -151,7 +157,8 @@ commits_from A c t certificate i fits f p = record {
 tests_of_commit : (A : Accepted) (c : Setting) (t : TransactionValue) (id : List ℕ) (b : BodyValue)
     → FitsCertificate (bounds_of c) (record { id = id; body = b })
     → list_all (accepts A) (certificate_signed (record { id = id; body = b })) ≡ true → CommitsBy A c t id b
-    → (mixed Commit (paired t (record { id = id; body = b })) ≡ None) × (not_involved c (paired t (record { id = id; body = b })) ≡ None) × (too_few c (paired t (record { id = id; body = b })) ≡ None)
+    → (mixed Commit (paired t (record { id = id; body = b })) ≡ None) ×
+    (not_involved c (paired t (record { id = id; body = b })) ≡ None) × (too_few c (paired t (record { id = id; body = b })) ≡ None)
 tests_of_commit A c t id (values.Commits (values.FastCommit tallies)) fits a k =
     let tests = all_counted A c t id (fast_commit c.f) tallies fits.body a k in (refl, tests.0, tests.1)
 tests_of_commit A c t id (values.Commits (values.Logged l)) fits a k =
@@ -164,11 +171,18 @@ pub commits_to : (A : Accepted) (c : Setting) (t : TransactionValue) (certificat
 commits_to A c t certificate fits k =
     let a = all_to A (certificate_signed certificate) k.accepted in
     let tests = tests_of_commit A c t certificate.id certificate.body fits a k.kind in
-    record { id = no_wrong_id certificate.id (transactions.id t) k.about; decision = tests.0; shards = tests.1; counts = tests.2; accepted = a }
+    record {
+      id = no_wrong_id certificate.id (transactions.id t) k.about;
+      decision = tests.0;
+      shards = tests.1;
+      counts = tests.2;
+      accepted = a;
+    }
 
 -- ---- all tests of a certificate
 
-record AllPassed (A : Accepted) (c : Setting) (d : Decision) (p : PairValue) (inner : Option PairValue) (conflict_test : Option CertRefusal) : Type 0 where
+record AllPassed (A : Accepted) (c : Setting)
+    (d : Decision) (p : PairValue) (inner : Option PairValue) (conflict_test : Option CertRefusal) : Type 0 where
   outer : Passes A c d p
   conflicts : conflict_test ≡ None
   ids : option_and_then wrong_id inner ≡ None
@@ -190,7 +204,13 @@ passed_from A c t d certificate h =
     let shards = split_none _ _ third.0 in
     let counts = split_none _ _ fourth.0 in
     record {
-      outer = record { id = ids.0; decision = decisions.0; shards = shards.0; counts = counts.0; accepted = none_refused A (certificate_signed certificate) fifth.1 };
+      outer = record {
+        id = ids.0;
+        decision = decisions.0;
+        shards = shards.0;
+        counts = counts.0;
+        accepted = none_refused A (certificate_signed certificate) fifth.1;
+      };
       conflicts = fifth.0;
       ids = ids.1;
       decisions = decisions.1;
@@ -252,7 +272,8 @@ rival t x h = by (is_none (form_fault x.other) && conflict t x.other) refl h whe
 no_rival_fault : (t : TransactionValue) (x : ConflictValue) → form_fault x.other ≡ None → conflict t x.other ≡ true
     → no_conflict_by t (values.ConflictAbort x) ≡ None
 no_rival_fault t x f k =
-    ap (λ (o : Option FormFault). cond (is_none o && conflict t x.other) None (Some NoConflict)) f ∙ ap (λ b. cond b None (Some NoConflict)) k
+    ap (λ (o : Option FormFault). cond (is_none o && conflict t x.other) None (Some NoConflict)) f
+    ∙ ap (λ b. cond b None (Some NoConflict)) k
 
 pair_inside : (x : ConflictValue) → form_fault x.other ≡ None → nested_in (values.ConflictAbort x) ≡ Some (inside x)
 pair_inside x f = ap (λ (o : Option FormFault). cond (is_none o) (Some (inside x)) None) f
@@ -261,21 +282,24 @@ kind_of_abort : (A : Accepted) (c : Setting) (t : TransactionValue) (id : List �
     → FitsCertificate (bounds_of c) (record { id = id; body = b })
     → AllPassed A c Abort (paired t (record { id = id; body = b })) (nested_in b) (no_conflict_by t b) → AbortsBy A c t id b
 kind_of_abort A c t id (values.Commits (values.FastCommit tallies)) i fits p = absurd (let e = p.outer.decision in cc)
-kind_of_abort A c t id (values.Commits (values.Logged l)) i fits p = logged_as A c t Abort id l fits.body (not_mixed l.decision Abort p.outer.decision) p.outer.shards p.outer.counts p.outer.accepted
-kind_of_abort A c t id (values.FastAbort tally) i fits p = one_voted A c t id (fast_abort c.f) 0 tally fits.body p.outer.shards p.outer.counts p.outer.accepted
+kind_of_abort A c t id (values.Commits (values.Logged l)) i fits p =
+    logged_as A c t Abort id l fits.body (not_mixed l.decision Abort p.outer.decision) p.outer.shards p.outer.counts p.outer.accepted
+kind_of_abort A c t id (values.FastAbort tally) i fits p =
+    one_voted A c t id (fast_abort c.f) 0 tally fits.body p.outer.shards p.outer.counts p.outer.accepted
 kind_of_abort A c t id (values.ConflictAbort x) i fits p =
     let known = rival t x p.conflicts in
     let there = pair_inside x known.0 in
     record {
       shard = is_involved c t x.shard p.outer.shards;
       conflicts = known.1;
-      committed = commits_from A c x.other (as_certificate x.proof) i (record { id = fits.body.proof.id; body = fits.body.proof.body }) known.0 (record {
-        id = sym (ap (option_and_then wrong_id) there) ∙ p.ids;
-        decision = sym (ap (option_and_then (mixed Commit)) there) ∙ p.decisions;
-        shards = sym (ap (option_and_then (not_involved c)) there) ∙ p.shards;
-        counts = sym (ap (option_and_then (too_few c)) there) ∙ p.counts;
-        accepted = (and_parts _ _ p.outer.accepted).1;
-      });
+      committed = commits_from A c x.other
+          (as_certificate x.proof) i (record { id = fits.body.proof.id; body = fits.body.proof.body }) known.0 (record {
+            id = sym (ap (option_and_then wrong_id) there) ∙ p.ids;
+            decision = sym (ap (option_and_then (mixed Commit)) there) ∙ p.decisions;
+            shards = sym (ap (option_and_then (not_involved c)) there) ∙ p.shards;
+            counts = sym (ap (option_and_then (too_few c)) there) ∙ p.counts;
+            accepted = (and_parts _ _ p.outer.accepted).1;
+          });
     }
 
 tests_of_abort : (A : Accepted) (c : Setting) (t : TransactionValue) (id : List ℕ) (b : BodyValue)
@@ -285,12 +309,27 @@ tests_of_abort : (A : Accepted) (c : Setting) (t : TransactionValue) (id : List 
 tests_of_abort A c t id (values.Commits (values.FastCommit tallies)) fits w a k = absurd k
 tests_of_abort A c t id (values.Commits (values.Logged l)) fits w a k =
     let tests = logged_counted A c t Abort id l fits.body a k in
-    record { outer = record { id = w; decision = no_mixed l.decision Abort k.decides; shards = tests.0; counts = tests.1; accepted = a }; conflicts = refl; ids = refl; decisions = refl; shards = refl; counts = refl }
+    record {
+      outer = record { id = w; decision = no_mixed l.decision Abort k.decides; shards = tests.0; counts = tests.1; accepted = a };
+      conflicts = refl;
+      ids = refl;
+      decisions = refl;
+      shards = refl;
+      counts = refl;
+    }
 tests_of_abort A c t id (values.FastAbort tally) fits w a k =
     let tests = one_counted A c t id (fast_abort c.f) 0 tally fits.body a k in
-    record { outer = record { id = w; decision = refl; shards = tests.0; counts = tests.1; accepted = a }; conflicts = refl; ids = refl; decisions = refl; shards = refl; counts = refl }
+    record {
+      outer = record { id = w; decision = refl; shards = tests.0; counts = tests.1; accepted = a };
+      conflicts = refl;
+      ids = refl;
+      decisions = refl;
+      shards = refl;
+      counts = refl;
+    }
 tests_of_abort A c t id (values.ConflictAbort x) fits w a k =
-    let inner = commits_to A c x.other (as_certificate x.proof) (record { id = fits.body.proof.id; body = fits.body.proof.body }) k.committed in
+    let inner =
+    commits_to A c x.other (as_certificate x.proof) (record { id = fits.body.proof.id; body = fits.body.proof.body }) k.committed in
     let there = pair_inside x k.committed.form in
     record {
       outer = record { id = w; decision = refl; shards = not_stray c t x.shard k.shard; counts = refl; accepted = a };
@@ -312,7 +351,8 @@ aborts_exactly A c t certificate i fits f = (
         accepted = AllPass-from_list_all (accepts A) (certificate_signed certificate) p.outer.accepted;
       },
   λ k. passed_to A c t Abort certificate
-      (tests_of_abort A c t certificate.id certificate.body fits (no_wrong_id certificate.id (transactions.id t) k.about) (all_to A (certificate_signed certificate) k.accepted) k.kind),
+      (tests_of_abort A c t certificate.id certificate.body fits
+      (no_wrong_id certificate.id (transactions.id t) k.about) (all_to A (certificate_signed certificate) k.accepted) k.kind),
 )
 
 pub proves_exactly : (A : Accepted) (c : Setting) (t : TransactionValue) (d : Decision) (certificate : CertificateValue) → IsSetting c
@@ -329,7 +369,10 @@ tallied_exactly A c t Commit tallies i fits f =
       λ h. let first = split_none _ _ h in
           let second = split_none _ _ first.1 in
           let a = none_refused A (tallies_signed id Commit tallies) second.1 in
-          record { voted = all_voted A c t id (commit_tally c.f) tallies i fits first.0 second.0 a; accepted = AllPass-from_list_all (accepts A) (tallies_signed id Commit tallies) a },
+          record {
+            voted = all_voted A c t id (commit_tally c.f) tallies i fits first.0 second.0 a;
+            accepted = AllPass-from_list_all (accepts A) (tallies_signed id Commit tallies) a;
+          },
       λ k. let a = all_to A (tallies_signed id Commit tallies) k.accepted in
           let tests = all_counted A c t id (commit_tally c.f) tallies fits a k.voted in
           join_none _ _ tests.0 (join_none _ _ tests.1 (refused_none A (tallies_signed id Commit tallies) a)),
@@ -345,12 +388,18 @@ tallied_exactly A c t Abort tallies i fits f = (λ h. abort_from A c t tallies i
         let one = one_alone c t tallies i f first.0 in
         let fits_one = subst (λ (ts : List TallyValue). AreItems (FitsTally (bounds_of c)) after_tally 0 ts) one.1 fits.each in
         let few_one = subst (λ (ts : List TallyValue). few_listed (abort_tally c.f) ts ≡ None) one.1 second.0 in
-        let all_one = subst (λ (ts : List TallyValue). list_all (accepts A) (tallies_signed (transactions.id t) Abort ts) ≡ true) one.1 all in
-        let many = All-head (λ (u : TallyValue). abort_tally c.f ≤ length u.votes) one.0 [] (enough_each (abort_tally c.f) (one.0 ∷ []) few_one) in
+        let all_one =
+        subst (λ (ts : List TallyValue). list_all (accepts A) (tallies_signed (transactions.id t) Abort ts) ≡ true) one.1 all in
+        let many =
+        All-head (λ (u : TallyValue). abort_tally c.f ≤ length u.votes) one.0 [] (enough_each (abort_tally c.f) (one.0 ∷ []) few_one) in
         record {
           tally = one.0;
           alone = one.1;
-          voted = record { shard = one.2; votes = voted_of A (bounds_of c) c.f (transactions.id t) Abort (abort_tally c.f) one.0 refl fits_one.0.votes.each (front_accepted A (transactions.id t) Abort one.0 [] all_one).0 many };
+          voted = record {
+            shard = one.2;
+            votes = voted_of A (bounds_of c) c.f (transactions.id t) Abort
+                (abort_tally c.f) one.0 refl fits_one.0.votes.each (front_accepted A (transactions.id t) Abort one.0 [] all_one).0 many;
+          };
           accepted = AllPass-from_list_all (accepts A) (tallies_signed (transactions.id t) Abort tallies) all;
         }
 
@@ -359,11 +408,14 @@ tallied_exactly A c t Abort tallies i fits f = (λ h. abort_from A c t tallies i
     abort_to A c t tallies fits k =
         let all = all_to A (tallies_signed (transactions.id t) Abort tallies) k.accepted in
         let fits_one = subst (λ (ts : List TallyValue). AreItems (FitsTally (bounds_of c)) after_tally 0 ts) k.alone fits.each in
-        let all_one = subst (λ (ts : List TallyValue). list_all (accepts A) (tallies_signed (transactions.id t) Abort ts) ≡ true) k.alone all in
-        let many = counted_of A (bounds_of c) c.f (transactions.id t) Abort (abort_tally c.f) k.tally refl fits_one.0.votes.each (front_accepted A (transactions.id t) Abort k.tally [] all_one).0 k.voted.votes in
+        let all_one =
+        subst (λ (ts : List TallyValue). list_all (accepts A) (tallies_signed (transactions.id t) Abort ts) ≡ true) k.alone all in
+        let many = counted_of A (bounds_of c) c.f (transactions.id t) Abort (abort_tally c.f) k.tally refl fits_one.0.votes.each
+        (front_accepted A (transactions.id t) Abort k.tally [] all_one).0 k.voted.votes in
         join_none _ _ (ap (stray_alone c t) k.alone ∙ not_stray c t k.tally.shard k.voted.shard)
         (join_none _ _
-        (ap (few_listed (abort_tally c.f)) k.alone ∙ none_few (abort_tally c.f) (k.tally ∷ []) (All-cons (λ (u : TallyValue). abort_tally c.f ≤ length u.votes) k.tally [] many (All-nil (λ (u : TallyValue). abort_tally c.f ≤ length u.votes))))
+        (ap (few_listed (abort_tally c.f)) k.alone ∙ none_few (abort_tally c.f) (k.tally ∷ []) (All-cons (λ (u : TallyValue).
+        abort_tally c.f ≤ length u.votes) k.tally [] many (All-nil (λ (u : TallyValue). abort_tally c.f ≤ length u.votes))))
         (refused_none A (tallies_signed (transactions.id t) Abort tallies) all))
 
 -- ---- how many signatures there may be

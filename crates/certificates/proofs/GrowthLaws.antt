@@ -31,7 +31,8 @@ pub proofs_grow : ProofsGrow
 proofs_grow A B c t d certificate i fits m k =
     let f = good_form A c t d certificate k in
     (proves_exactly B c t d certificate i fits f).0
-    (certificates_carry A B c t d certificate (λ s _ e. m s.party s.words s.signature e) ((proves_exactly A c t d certificate i fits f).1 k))
+    (certificates_carry A B c t d certificate
+    (λ s _ e. m s.party s.words s.signature e) ((proves_exactly A c t d certificate i fits f).1 k))
 
 -- ---- one vote more
 
@@ -62,11 +63,13 @@ tally_of shard votes = record { shard = shard; votes = votes }
 voted_more : (A : Accepted) (f : ℕ) (x : List ℕ) (d : Decision) (needed shard : ℕ) (before after : List VoteValue) (vote : VoteValue)
     → Voted A f x d needed (tally_of shard (before ++ after)) → Voted A f x d needed (tally_of shard (before ++ vote ∷ after))
 voted_more A f x d needed shard before after vote h =
-    let more = size_more (voters A x d (tally_of shard (before ++ after))) (voters A x d (tally_of shard (before ++ vote ∷ after))) (replicas f)
+    let more =
+    size_more (voters A x d (tally_of shard (before ++ after))) (voters A x d (tally_of shard (before ++ vote ∷ after))) (replicas f)
     (λ r k. any_more (λ (v : VoteValue). (v.replica == r) && accepts A (vote_signed shard x d v)) before after vote k) in
     omega arith
 
-each_more : (A : Accepted) (f : ℕ) (x : List ℕ) (d : Decision) (needed shard : ℕ) (before after : List VoteValue) (vote : VoteValue) (front back : List TallyValue)
+each_more : (A : Accepted) (f : ℕ) (x : List ℕ)
+    (d : Decision) (needed shard : ℕ) (before after : List VoteValue) (vote : VoteValue) (front back : List TallyValue)
     → All (Voted A f x d needed) (front ++ tally_of shard (before ++ after) ∷ back)
     → All (Voted A f x d needed) (front ++ tally_of shard (before ++ vote ∷ after) ∷ back)
 each_more A f x d needed shard before after vote [] back h =
@@ -76,7 +79,8 @@ each_more A f x d needed shard before after vote [] back h =
 each_more A f x d needed shard before after vote (t ∷ ts) back h =
     All-cons (Voted A f x d needed) t (ts ++ tally_of shard (before ++ vote ∷ after) ∷ back)
     (All-head (Voted A f x d needed) t (ts ++ tally_of shard (before ++ after) ∷ back) h)
-    (each_more A f x d needed shard before after vote ts back (All-tail (Voted A f x d needed) t (ts ++ tally_of shard (before ++ after) ∷ back) h))
+    (each_more A f x d needed shard before after vote ts back
+    (All-tail (Voted A f x d needed) t (ts ++ tally_of shard (before ++ after) ∷ back) h))
 
 same_lists : (shard : ℕ) (some more : List VoteValue) (front back : List TallyValue) (s : ℕ)
     → lists (front ++ tally_of shard more ∷ back) s ≡ lists (front ++ tally_of shard some ∷ back) s
@@ -104,7 +108,8 @@ signed_joined : (A : Accepted) (x : List ℕ) (d : Decision) (t : TallyValue) (t
     → list_all (accepts A) (tallies_signed x d (t ∷ ts)) ≡ true
 signed_joined A x d t ts h k = list_all-append (accepts A) (tally_signed x d t) (tallies_signed x d ts) ∙ and_join _ _ h k
 
-signed_more : (A : Accepted) (x : List ℕ) (d : Decision) (shard : ℕ) (before after : List VoteValue) (vote : VoteValue) (front back : List TallyValue)
+signed_more : (A : Accepted) (x : List ℕ)
+    (d : Decision) (shard : ℕ) (before after : List VoteValue) (vote : VoteValue) (front back : List TallyValue)
     → accepts A (vote_signed shard x d vote) ≡ true
     → list_all (accepts A) (tallies_signed x d (front ++ tally_of shard (before ++ after) ∷ back)) ≡ true
     → list_all (accepts A) (tallies_signed x d (front ++ tally_of shard (before ++ vote ∷ after) ∷ back)) ≡ true
@@ -113,14 +118,17 @@ signed_more A x d shard before after vote [] back h k =
     signed_joined A x d (tally_of shard (before ++ vote ∷ after)) back (tally_more A x d shard before after vote h parts.0) parts.1
 signed_more A x d shard before after vote (t ∷ ts) back h k =
     let parts = signed_parts A x d t (ts ++ tally_of shard (before ++ after) ∷ back) k in
-    signed_joined A x d t (ts ++ tally_of shard (before ++ vote ∷ after) ∷ back) parts.0 (signed_more A x d shard before after vote ts back h parts.1)
+    signed_joined A x d t (ts ++ tally_of shard (before ++ vote ∷ after) ∷ back) parts.0
+    (signed_more A x d shard before after vote ts back h parts.1)
 
-accepted_more : (A : Accepted) (x : List ℕ) (d : Decision) (shard : ℕ) (before after : List VoteValue) (vote : VoteValue) (front back : List TallyValue)
+accepted_more : (A : Accepted) (x : List ℕ)
+    (d : Decision) (shard : ℕ) (before after : List VoteValue) (vote : VoteValue) (front back : List TallyValue)
     → accepts A (vote_signed shard x d vote) ≡ true → AllAccepted A (tallies_signed x d (front ++ tally_of shard (before ++ after) ∷ back))
     → AllAccepted A (tallies_signed x d (front ++ tally_of shard (before ++ vote ∷ after) ∷ back))
 accepted_more A x d shard before after vote front back h k =
     AllPass-from_list_all (accepts A) (tallies_signed x d (front ++ tally_of shard (before ++ vote ∷ after) ∷ back))
-    (signed_more A x d shard before after vote front back h (list_all-from_AllPass (accepts A) (tallies_signed x d (front ++ tally_of shard (before ++ after) ∷ back)) k))
+    (signed_more A x d shard before after vote front back h
+    (list_all-from_AllPass (accepts A) (tallies_signed x d (front ++ tally_of shard (before ++ after) ∷ back)) k))
 
 -- a list of one has nothing in front of it and nothing behind
 alone_front : (front back : List TallyValue) (t u : TallyValue) → front ++ t ∷ back ≡ u ∷ [] → (front ≡ []) × (back ≡ []) × (t ≡ u)
@@ -128,7 +136,8 @@ alone_front [] back t u e = (refl, cc, cc)
 alone_front (f ∷ []) back t u e = absurd cc
 alone_front (f ∷ g ∷ fs) back t u e = absurd cc
 
-commit_longer : (A : Accepted) (c : Setting) (t : TransactionValue) (shard : ℕ) (before after : List VoteValue) (vote : VoteValue) (front back : List TallyValue)
+commit_longer : (A : Accepted) (c : Setting)
+    (t : TransactionValue) (shard : ℕ) (before after : List VoteValue) (vote : VoteValue) (front back : List TallyValue)
     → accepts A (vote_signed shard (id t) Commit vote) ≡ true → CommitTallied A c t (front ++ tally_of shard (before ++ after) ∷ back)
     → CommitTallied A c t (front ++ tally_of shard (before ++ vote ∷ after) ∷ back)
 commit_longer A c t shard before after vote front back h k = record {
@@ -139,7 +148,8 @@ commit_longer A c t shard before after vote front back h k = record {
   accepted = accepted_more A (id t) Commit shard before after vote front back h k.accepted;
 }
 
-abort_longer : (A : Accepted) (c : Setting) (t : TransactionValue) (shard : ℕ) (before after : List VoteValue) (vote : VoteValue) (front back : List TallyValue)
+abort_longer : (A : Accepted) (c : Setting)
+    (t : TransactionValue) (shard : ℕ) (before after : List VoteValue) (vote : VoteValue) (front back : List TallyValue)
     → accepts A (vote_signed shard (id t) Abort vote) ≡ true → AbortTallied A c t (front ++ tally_of shard (before ++ after) ∷ back)
     → AbortTallied A c t (front ++ tally_of shard (before ++ vote ∷ after) ∷ back)
 abort_longer A c t shard before after vote front back h k =
@@ -147,12 +157,14 @@ abort_longer A c t shard before after vote front back h k =
     let voted = subst (λ (u : TallyValue). VotedInOne A c t (id t) (abort_tally c.f) u) (sym one.2) k.voted in
     record {
       tally = tally_of shard (before ++ vote ∷ after);
-      alone = ap (λ (f : List TallyValue). f ++ tally_of shard (before ++ vote ∷ after) ∷ back) one.0 ∙ ap (λ (b : List TallyValue). tally_of shard (before ++ vote ∷ after) ∷ b) one.1;
+      alone = ap (λ (f : List TallyValue). f ++ tally_of shard (before ++ vote ∷ after) ∷ back) one.0
+          ∙ ap (λ (b : List TallyValue). tally_of shard (before ++ vote ∷ after) ∷ b) one.1;
       voted = record { shard = voted.shard; votes = voted_more A c.f (id t) Abort (abort_tally c.f) shard before after vote voted.votes };
       accepted = accepted_more A (id t) Abort shard before after vote front back h k.accepted;
     }
 
-longer_by : (A : Accepted) (c : Setting) (t : TransactionValue) (d : Decision) (shard : ℕ) (before after : List VoteValue) (vote : VoteValue) (front back : List TallyValue)
+longer_by : (A : Accepted) (c : Setting)
+    (t : TransactionValue) (d : Decision) (shard : ℕ) (before after : List VoteValue) (vote : VoteValue) (front back : List TallyValue)
     → accepts A (vote_signed shard (id t) d vote) ≡ true → Tallied A c t d (front ++ tally_of shard (before ++ after) ∷ back)
     → Tallied A c t d (front ++ tally_of shard (before ++ vote ∷ after) ∷ back)
 longer_by A c t Commit shard before after vote front back h k = commit_longer A c t shard before after vote front back h k
@@ -161,7 +173,8 @@ longer_by A c t Abort shard before after vote front back h k = abort_longer A c 
 pub longer_tallies : LongerTallies
 longer_tallies A c t d tallies longer shard vote k adds h =
     subst (λ (ts : List TallyValue). Tallied A c t d ts) (sym adds.is)
-    (longer_by A c t d shard adds.before adds.after vote adds.front adds.back h (subst (λ (ts : List TallyValue). Tallied A c t d ts) adds.was k))
+    (longer_by A c t d shard adds.before adds.after vote adds.front adds.back h
+    (subst (λ (ts : List TallyValue). Tallied A c t d ts) adds.was k))
 
 pub longer_fast_aborts : LongerFastAborts
 longer_fast_aborts A c t x shard before after vote k h = record {
@@ -169,7 +182,8 @@ longer_fast_aborts A c t x shard before after vote k h = record {
   about = k.about;
   kind = record { shard = k.kind.shard; votes = voted_more A c.f x Abort (fast_abort c.f) shard before after vote k.kind.votes };
   accepted = AllPass-from_list_all (accepts A) (tally_signed x Abort (tally_of shard (before ++ vote ∷ after)))
-      (tally_more A x Abort shard before after vote h (list_all-from_AllPass (accepts A) (tally_signed x Abort (tally_of shard (before ++ after))) k.accepted));
+      (tally_more A x Abort shard before after vote h
+      (list_all-from_AllPass (accepts A) (tally_signed x Abort (tally_of shard (before ++ after))) k.accepted));
 }
 
 -- ---- one log reply more
@@ -183,14 +197,17 @@ replies_more : (A : Accepted) (x : List ℕ) (shard : ℕ) (d : Decision) (decid
     → list_all (accepts A) (logged_signed x (logged_with shard d decided (before ++ reply ∷ after))) ≡ true
 replies_more A x shard d decided [] after reply h k = and_join _ _ h k
 replies_more A x shard d decided (l ∷ ls) after reply h k =
-    let both = and_parts (accepts A (one_logged shard x d decided l)) (list_all (accepts A) (logged_signed x (logged_with shard d decided (ls ++ after)))) k in
+    let both = and_parts (accepts A (one_logged shard x d decided l))
+    (list_all (accepts A) (logged_signed x (logged_with shard d decided (ls ++ after)))) k in
     and_join _ _ both.0 (replies_more A x shard d decided ls after reply h both.1)
 
-logged_more : (A : Accepted) (c : Setting) (t : TransactionValue) (d : Decision) (x : List ℕ) (shard decided : ℕ) (before after : List LogValue) (reply : LogValue)
+logged_more : (A : Accepted) (c : Setting)
+    (t : TransactionValue) (d : Decision) (x : List ℕ) (shard decided : ℕ) (before after : List LogValue) (reply : LogValue)
     → LoggedAs A c t d x (logged_with shard d decided (before ++ after))
     → LoggedAs A c t d x (logged_with shard d decided (before ++ reply ∷ after))
 logged_more A c t d x shard decided before after reply k =
-    let more = size_more (loggers A x (logged_with shard d decided (before ++ after))) (loggers A x (logged_with shard d decided (before ++ reply ∷ after))) (replicas c.f)
+    let more = size_more (loggers A x (logged_with shard d decided (before ++ after)))
+    (loggers A x (logged_with shard d decided (before ++ reply ∷ after))) (replicas c.f)
     (λ r h. any_more (λ (l : LogValue). (l.replica == r) && accepts A (one_logged shard x d decided l)) before after reply h) in
     record { decides = k.decides; shard = k.shard; replies = omega (arith, k.replies) }
 
@@ -200,7 +217,8 @@ all_replies_more : (A : Accepted) (x : List ℕ) (shard : ℕ) (d : Decision) (d
     → AllAccepted A (logged_signed x (logged_with shard d decided (before ++ reply ∷ after)))
 all_replies_more A x shard d decided before after reply h k =
     AllPass-from_list_all (accepts A) (logged_signed x (logged_with shard d decided (before ++ reply ∷ after)))
-    (replies_more A x shard d decided before after reply h (list_all-from_AllPass (accepts A) (logged_signed x (logged_with shard d decided (before ++ after))) k))
+    (replies_more A x shard d decided before after reply h
+    (list_all-from_AllPass (accepts A) (logged_signed x (logged_with shard d decided (before ++ after))) k))
 
 pub longer_logs : LongerLogs
 longer_logs A c t Commit x shard decided before after reply k h = record {

@@ -33,13 +33,21 @@ nested_good x c e h f =
     ∙ ap (λ (d : CertificateValue). Some (record { transaction = x.other; certificate = d })) (ap as_certificate e ∙ seen_again c h)
 
 pub nested_bad : (x : ConflictValue) (fault : FormFault) → form_fault x.other ≡ Some fault → nested_in (ConflictAbort x) ≡ None
-nested_bad x fault f = ap (λ (o : Option FormFault). cond (is_none o) (Some (record { transaction = x.other; certificate = as_certificate x.proof })) None) f
+nested_bad x fault f =
+    ap (λ (o : Option FormFault). cond (is_none o) (Some (record { transaction = x.other; certificate = as_certificate x.proof })) None) f
 
 abbrev conflict_of : ℕ → ℕ → Bor (List ℕ) → TransactionView → CertificateView → ConflictValue
-conflict_of shard replica signature other proof = record { shard = shard; replica = replica; signature = signature.now; other = transaction_of other; proof = as_commit (certificate_of proof) }
+conflict_of shard replica signature other proof = record {
+  shard = shard;
+  replica = replica;
+  signature = signature.now;
+  other = transaction_of other;
+  proof = as_commit (certificate_of proof);
+}
 
 -- the same of views
-pub inner_good : (b : CertBody) (shard replica : ℕ) (signature : Bor (List ℕ)) (other : TransactionView) (proof : CertificateView) (p : Pair)
+pub inner_good : (b : CertBody) (shard replica : ℕ)
+    (signature : Bor (List ℕ)) (other : TransactionView) (proof : CertificateView) (p : Pair)
     → b ≡ shown.ConflictAbort shard replica signature other proof → HoldsCommit b → form_fault (transaction_of other) ≡ None
     → pair_of p ≡ record { transaction = transaction_of other; certificate = certificate_of proof }
     → Some (pair_of p) ≡ nested_in (body_of b)
@@ -48,10 +56,12 @@ inner_good b shard replica signature other proof p e h f i =
     ∙ sym (nested_good (conflict_of shard replica signature other proof) (certificate_of proof) refl (subst HoldsCommit e h) f)
     ∙ sym (ap (λ z. nested_in (body_of z)) e)
 
-pub inner_bad : (b : CertBody) (shard replica : ℕ) (signature : Bor (List ℕ)) (other : TransactionView) (proof : CertificateView) (fault : FormFault)
+pub inner_bad : (b : CertBody) (shard replica : ℕ)
+    (signature : Bor (List ℕ)) (other : TransactionView) (proof : CertificateView) (fault : FormFault)
     → b ≡ shown.ConflictAbort shard replica signature other proof → form_fault (transaction_of other) ≡ Some fault
     → None ≡ nested_in (body_of b)
-inner_bad b shard replica signature other proof fault e f = sym (ap (λ z. nested_in (body_of z)) e ∙ nested_bad (conflict_of shard replica signature other proof) fault f)
+inner_bad b shard replica signature other proof fault e f =
+    sym (ap (λ z. nested_in (body_of z)) e ∙ nested_bad (conflict_of shard replica signature other proof) fault f)
 
 -- ---- forms
 

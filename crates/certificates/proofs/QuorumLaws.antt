@@ -41,7 +41,8 @@ voter_says A t x d shard (v ∷ vs) r e h = elim (cases_Bool ((v.replica == r) &
       record {
         signature = v.signature;
         accepted =
-            sym (ap (λ (k : ℕ). A (Replica shard k) (words_of (VoteWords (record { shard = shard; replica = k; id = id t; decision = d }))) v.signature) (eqb-true v.replica r both.0))
+            sym (ap (λ (k : ℕ). A (Replica shard k) (words_of (VoteWords (record { shard = shard; replica = k; id = id t; decision = d })))
+            v.signature) (eqb-true v.replica r both.0))
             ∙ sym (ap (λ (y : List ℕ). accepts A (vote_signed shard y d v)) e) ∙ both.1;
         sized = length_id t;
       }
@@ -50,13 +51,15 @@ voter_says A t x d shard (v ∷ vs) r e h = elim (cases_Bool ((v.replica == r) &
 
 vote_quorum : (A : Accepted) (c : Setting) (t : TransactionValue) (x : List ℕ) (d : Decision) (needed : ℕ) (tally : TallyValue) → x ≡ id t
     → Voted A c.f x d needed tally → VoteQuorum A c t tally.shard d needed
-vote_quorum A c t x d needed tally e h = record { who = voters A x d tally; many = h; each = λ r _ k. voter_says A t x d tally.shard tally.votes r e k }
+vote_quorum A c t x d needed tally e h =
+    record { who = voters A x d tally; many = h; each = λ r _ k. voter_says A t x d tally.shard tally.votes r e k }
 
 quorum_of : (A : Accepted) (c : Setting) (t : TransactionValue) (x : List ℕ) (d : Decision) (needed shard : ℕ) (tallies : List TallyValue)
     → x ≡ id t → All (Voted A c.f x d needed) tallies → lists tallies shard ≡ true → VoteQuorum A c t shard d needed
 quorum_of A c t x d needed shard [] e h l = absurd cc
 quorum_of A c t x d needed shard (tally ∷ rest) e h l = elim (cases_Bool (tally.shard == shard)) [
-  | inl here ↦ subst (λ (s : ℕ). VoteQuorum A c t s d needed) (eqb-true tally.shard shard here) (vote_quorum A c t x d needed tally e (All-head (Voted A c.f x d needed) tally rest h))
+  | inl here ↦ subst (λ (s : ℕ). VoteQuorum A c t s d needed)
+      (eqb-true tally.shard shard here) (vote_quorum A c t x d needed tally e (All-head (Voted A c.f x d needed) tally rest h))
   | inr there ↦ quorum_of A c t x d needed shard rest e (All-tail (Voted A c.f x d needed) tally rest h) (rw there at l)
 ]
 
@@ -73,25 +76,34 @@ votes_in_one A c t x needed tally e v = (tally.shard, v.shard, vote_quorum A c t
 abbrev LogSaid : Accepted → TransactionValue → ℕ → Decision → ℕ → ℕ → Type 0
 LogSaid A t shard d decided r = (current : ℕ) × Says A shard r (log_words t shard r d decided current)
 
-logger_says : (A : Accepted) (b : Bounds) (t : TransactionValue) (x : List ℕ) (shard : ℕ) (d : Decision) (decided floor : ℕ) (logs : List LogValue) (r : ℕ)
+logger_says : (A : Accepted) (b : Bounds)
+    (t : TransactionValue) (x : List ℕ) (shard : ℕ) (d : Decision) (decided floor : ℕ) (logs : List LogValue) (r : ℕ)
     → x ≡ id t → decided < 2 ^ 64 → AreItems (FitsLog b decided) after_log floor logs
     → list_any (λ (l : LogValue). (l.replica == r) && accepts A (one_logged shard x d decided l)) logs ≡ true
     → LogSaid A t shard d decided r
 logger_says A b t x shard d decided floor [] r e n fits h = absurd cc
-logger_says A b t x shard d decided floor (l ∷ ls) r e n fits h = elim (cases_Bool ((l.replica == r) && accepts A (one_logged shard x d decided l))) [
-  | inl here ↦
-      let both = and_parts (l.replica == r) (accepts A (one_logged shard x d decided l)) here in (
-        l.current,
-        record {
-          signature = l.signature;
-          accepted =
-              sym (ap (λ (k : ℕ). A (Replica shard k) (words_of (LogReplyWords (record { shard = shard; replica = k; id = id t; decision = d; decided = decided; current = l.current }))) l.signature) (eqb-true l.replica r both.0))
-              ∙ sym (ap (λ (y : List ℕ). accepts A (one_logged shard y d decided l)) e) ∙ both.1;
-          sized = record { id = length_id t; decided = n; current = fits.0.current };
-        },
-      )
-  | inr there ↦ logger_says A b t x shard d decided (l.replica + 1) ls r e n fits.1 (rw there at h)
-]
+logger_says A b t x shard d decided floor (l ∷ ls) r e n fits h =
+    elim (cases_Bool ((l.replica == r) && accepts A (one_logged shard x d decided l))) [
+      | inl here ↦
+          let both = and_parts (l.replica == r) (accepts A (one_logged shard x d decided l)) here in (
+            l.current,
+            record {
+              signature = l.signature;
+              accepted =
+                  sym (ap (λ (k : ℕ). A (Replica shard k) (words_of (LogReplyWords (record {
+                    shard = shard;
+                    replica = k;
+                    id = id t;
+                    decision = d;
+                    decided = decided;
+                    current = l.current;
+                  }))) l.signature) (eqb-true l.replica r both.0))
+                  ∙ sym (ap (λ (y : List ℕ). accepts A (one_logged shard y d decided l)) e) ∙ both.1;
+              sized = record { id = length_id t; decided = n; current = fits.0.current };
+            },
+          )
+      | inr there ↦ logger_says A b t x shard d decided (l.replica + 1) ls r e n fits.1 (rw there at h)
+    ]
 
 log_quorum_of : (A : Accepted) (c : Setting) (t : TransactionValue) (d : Decision) (x : List ℕ) (l : LoggedValue) → x ≡ id t
     → FitsLogged (bounds_of c) l → LoggedAs A c t d x l → LogReplyQuorum A c t d l.decided
@@ -141,11 +153,13 @@ shown_by_abort A c t x (values.ConflictAbort z) e fits a k =
       in_range = fits.body.replica;
       voted = record {
         signature = z.signature;
-        accepted = sym (ap (λ (y : List ℕ). accepts A (vote_signed z.shard y Abort (record { replica = z.replica; signature = z.signature }))) e) ∙ (and_parts _ _ all).0;
+        accepted = sym (ap (λ (y : List ℕ).
+            accepts A (vote_signed z.shard y Abort (record { replica = z.replica; signature = z.signature }))) e) ∙ (and_parts _ _ all).0;
         sized = length_id t;
       };
       conflicts = k.conflicts;
-      commits = commits_can A c z.other (as_certificate z.proof) (record { id = fits.body.proof.id; body = fits.body.proof.body }) k.committed;
+      commits =
+          commits_can A c z.other (as_certificate z.proof) (record { id = fits.body.proof.id; body = fits.body.proof.body }) k.committed;
     }
 
 pub aborts_show : (A : Accepted) (c : Setting) (t : TransactionValue) (certificate : CertificateValue)

@@ -32,7 +32,8 @@ same_first A B [] h = refl
 same_first A B (s ∷ rest) h =
     position-cons (λ x. not (accepts A x)) s rest
     ∙ ap (λ (b : Bool). cond (not b) (Some 0) (option_map (λ k. k + 1) (first_refused A rest))) (h s (in_head s rest))
-    ∙ ap (λ (o : Option ℕ). cond (not (accepts B s)) (Some 0) (option_map (λ k. k + 1) o)) (same_first A B rest (λ x i. h x (in_tail s rest x i)))
+    ∙ ap (λ (o : Option ℕ). cond (not (accepts B s)) (Some 0) (option_map (λ k. k + 1) o))
+    (same_first A B rest (λ x i. h x (in_tail s rest x i)))
     ∙ sym (position-cons (λ x. not (accepts B x)) s rest)
 
 same_signatures : (A B : Accepted) (signed : List SignedBy) → AgreeOn A B signed → bad_signature A signed ≡ bad_signature B signed
@@ -57,11 +58,13 @@ none_carries A B signed m h = refused_none B signed (all_more A B signed m (none
 pub certificates_alike : CertificatesAlike
 certificates_alike A B c t d x h =
     let p : PairValue = record { transaction = t; certificate = x } in
-    ap (λ (o : Option CertRefusal). or_else (wrong_ids p (nested p)) (or_else (mixed_pairs d p (nested p)) (or_else (strays c p (nested p)) (or_else (shortages c p (nested p)) (or_else (no_conflict p) o)))))
+    ap (λ (o : Option CertRefusal). or_else (wrong_ids p (nested p)) (or_else (mixed_pairs d p (nested p))
+    (or_else (strays c p (nested p)) (or_else (shortages c p (nested p)) (or_else (no_conflict p) o)))))
     (same_signatures A B (certificate_signed x) h)
 
 -- what is kept as bytes is viewed again as what it was
-pub same_bytes : ((c : Setting) (x : CertificateValue) → IsSetting c → FitsCertificate (bounds_of c) x → certificate_in (certificate_bytes x) ≡ x)
+pub same_bytes : ((c : Setting) (x : CertificateValue) →
+    IsSetting c → FitsCertificate (bounds_of c) x → certificate_in (certificate_bytes x) ≡ x)
     → CertificatesOfBytes
 same_bytes kept c x y i f g e = sym (kept c x i f) ∙ ap certificate_in e ∙ kept c y i g
 
@@ -72,7 +75,8 @@ tallies_alike A B c t d tallies h =
 
 pub conflicts_alike : ConflictsAlike
 conflicts_alike A B c t p h =
-    ap (λ (o : Option CertRefusal). or_else (ill_formed p.transaction) (or_else (wrong_id p) (or_else (mixed Commit p) (or_else (not_involved c p) (or_else (too_few c p) (or_else (no_rival t p) o))))))
+    ap (λ (o : Option CertRefusal). or_else (ill_formed p.transaction)
+    (or_else (wrong_id p) (or_else (mixed Commit p) (or_else (not_involved c p) (or_else (too_few c p) (or_else (no_rival t p) o))))))
     (same_signatures A B (certificate_signed p.certificate) h)
 
 -- ---- no refusal

@@ -81,7 +81,8 @@ marked_involved c t (suc (suc (suc (suc (suc (suc (suc (suc s)))))))) h = absurd
 pub marked_more : (marks : List Bool) (shard s : ℕ) → shard < length marks
     → is_marked (set marks shard true) s ≡ ((shard == s) || is_marked marks s)
 marked_more marks shard s h = elim (cases_eq shard s) [
-  | inl e ↦ subst (λ (k : ℕ). is_marked (set marks shard true) k ≡ ((shard == k) || is_marked marks k)) e (get_or-set_same marks shard true false h ∙ sym (ap (λ b. b || is_marked marks shard) (eq-eqb shard shard refl)))
+  | inl e ↦ subst (λ (k : ℕ). is_marked (set marks shard true) k ≡ ((shard == k) || is_marked marks k)) e
+      (get_or-set_same marks shard true false h ∙ sym (ap (λ b. b || is_marked marks shard) (eq-eqb shard shard refl)))
   | inr e ↦ get_or-set_other marks shard s true false (λ k. e (sym k)) ∙ sym (ap (λ b. b || is_marked marks s) (ne_eqb shard s e))
 ]
 
@@ -99,7 +100,8 @@ none_above key n s (x ∷ xs) h k = rw (ne_eqb (sum (key x) % n) s (λ e. omega 
 
 pub involves_above : (c : Setting) (t : TransactionValue) (s : ℕ) → IsSetting c → c.shards ≤ s → involves c t s ≡ false
 involves_above c t s i h =
-    ap (λ b. b || list_any (λ (w : WritePart). shard_of c w.key == s) t.writes) (none_above (λ (r : ReadPart). r.key) c.shards s t.reads (omega (arith, i.some)) h)
+    ap (λ b. b || list_any (λ (w : WritePart). shard_of c w.key == s) t.writes)
+    (none_above (λ (r : ReadPart). r.key) c.shards s t.reads (omega (arith, i.some)) h)
     ∙ none_above (λ (w : WritePart). w.key) c.shards s t.writes (omega (arith, i.some)) h
 
 past_eight : (c : Setting) (t : TransactionValue) (s : ℕ) → 8 ≤ s → is_marked (marks_of c t) s ≡ false
@@ -172,17 +174,21 @@ first_none (Some s) p h = absurd cc
 pub listed_exactly : (c : Setting) (t : TransactionValue) (tallies : List TallyValue) → IsSetting c
     → AreItems (FitsTally (bounds_of c)) after_tally 0 tallies → stray_listed c t tallies ≡ None → ListsInvolved c t tallies
 listed_exactly c t tallies i fits h =
-    let parts = first_none (find (λ s. lists tallies s && not (involves c t s)) all_shards) (find (λ s. involves c t s && not (lists tallies s)) all_shards) (no_refusal _ h) in
+    let parts = first_none (find (λ s. lists tallies s && not (involves c t s)) all_shards)
+    (find (λ s. involves c t s && not (lists tallies s)) all_shards) (no_refusal _ h) in
     λ s. elim (cases_lt s 8) [
-      | inl low ↦ both_ways (lists tallies s) (involves c t s) (none_found (λ s. lists tallies s && not (involves c t s)) parts.0 s low) (none_found (λ s. involves c t s && not (lists tallies s)) parts.1 s low)
+      | inl low ↦ both_ways (lists tallies s) (involves c t s) (none_found (λ s. lists tallies s && not (involves c t s)) parts.0 s low)
+          (none_found (λ s. involves c t s && not (lists tallies s)) parts.1 s low)
       | inr high ↦ listed_low (bounds_of c) 0 s tallies fits (omega (arith, i.few)) ∙ sym (involves_above c t s i (omega (arith, i.few)))
     ]
 
 pub none_stray : (c : Setting) (t : TransactionValue) (tallies : List TallyValue) → ListsInvolved c t tallies
     → stray_listed c t tallies ≡ None
 none_stray c t tallies h =
-    ap (λ o. option_map NotInvolved (or_else o (find (λ s. involves c t s && not (lists tallies s)) all_shards))) (found_nowhere (λ s. lists tallies s && not (involves c t s)) all_shards (λ s. neither (lists tallies s) (involves c t s) (h s)))
-    ∙ ap (option_map NotInvolved) (found_nowhere (λ s. involves c t s && not (lists tallies s)) all_shards (λ s. neither (involves c t s) (lists tallies s) (sym (h s))))
+    ap (λ o. option_map NotInvolved (or_else o (find (λ s. involves c t s && not (lists tallies s)) all_shards)))
+    (found_nowhere (λ s. lists tallies s && not (involves c t s)) all_shards (λ s. neither (lists tallies s) (involves c t s) (h s)))
+    ∙ ap (option_map NotInvolved) (found_nowhere (λ s. involves c t s && not (lists tallies s)) all_shards
+    (λ s. neither (involves c t s) (lists tallies s) (sym (h s))))
 
 -- ---- one shard
 

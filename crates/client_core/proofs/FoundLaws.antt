@@ -1,5 +1,6 @@
 -- Where a transaction and a read are found.
-use Rattle.std.proofs.Common.{◌≡◌, ◌∙◌, ℕ, zero, suc, ◌+◌, ◌<◌, Bool, true, false, cond, List, [], ◌∷◌, length, map, get_or, refl, sym, ap, subst, arith}
+use Rattle.std.proofs.Common.{◌≡◌, ◌∙◌, ℕ, zero, suc, ◌+◌, ◌<◌, Bool, true, false, cond}
+use Rattle.std.proofs.Common.{List, [], ◌∷◌, length, map, get_or, refl, sym, ap, subst, arith}
 use Rattle.std.specs.Prelude.{Option, Some, None, IfSome, option_map, find, position, slice_get, nat_lt, ◌&&◌, ◌==◌}
 use Rattle.std.specs.List.{position_or_len}
 use Rattle.std.specs.Option.{ForSome, option_map_or}
@@ -53,7 +54,8 @@ got_or [] i x d e = absurd cc
 got_or (y ∷ ys) zero x d e = same_Some y x e
 got_or (y ∷ ys) (suc i) x d e = got_or ys i x d e
 
-pub position_passes : {A : Type 0} (p : A → Bool) (xs : List A) (i : ℕ) (x : A) → position p xs ≡ Some i → slice_get xs i ≡ Some x → p x ≡ true
+pub position_passes : {A : Type 0} (p : A → Bool) (xs : List A) (i : ℕ) (x : A) →
+    position p xs ≡ Some i → slice_get xs i ≡ Some x → p x ≡ true
 position_passes p xs i x e at = ap p (sym (got_or xs i x x at)) ∙ (position-Some p xs i x e).1
 
 pub position_within : {A : Type 0} (p : A → Bool) (xs : List A) (i : ℕ) → position p xs ≡ Some i → i < length xs

@@ -45,7 +45,8 @@ replied m r = list_any (λ (x : ReadReplyValue). x.replica == m.replica) r.repli
 abbrev with_more : ReadReplyValue → AskedRead → AskedRead
 with_more m r = record r { replies = r.replies ++ m ∷ [] }
 
-pub replied_law : (k : KeptRead) (r : AskedRead) (m : ReadReplyValue) → k ≡ kept_read r → list_any (λ (n : ℕ). n == m.replica) k.replied ≡ replied m r
+pub replied_law : (k : KeptRead) (r : AskedRead) (m : ReadReplyValue) →
+    k ≡ kept_read r → list_any (λ (n : ℕ). n == m.replica) k.replied ≡ replied m r
 replied_law k r m same =
     ap (λ (j : KeptRead). list_any (λ (n : ℕ). n == m.replica) j.replied) same
     ∙ any_map (λ (x : ReadReplyValue). x.replica) (λ (n : ℕ). n == m.replica) r.replies
@@ -102,12 +103,14 @@ reply_by_law me v place s m r = by (is_chosen me.cluster r)
 
 -- ---- the reads of a slot
 
-map_set : {A B : Type 0} (f : A → B) (xs : List A) (i : ℕ) (x y : A) → slice_get xs i ≡ Some x → f y ≡ f x → map f (slice_set xs i y) ≡ map f xs
+map_set : {A B : Type 0} (f : A → B) (xs : List A) (i : ℕ) (x y : A) →
+    slice_get xs i ≡ Some x → f y ≡ f x → map f (slice_set xs i y) ≡ map f xs
 map_set f [] i x y at e = refl
 map_set f (z ∷ zs) zero x y at e = ap (λ w. w ∷ map f zs) (e ∙ ap f (sym (same_Some z x at)))
 map_set f (z ∷ zs) (suc i) x y at e = ap (λ l. f z ∷ l) (map_set f zs i x y at e)
 
-pub read_at : (asked : List Asking) (reads : List AskedRead) (i : ℕ) (a : Asking) (r : AskedRead) → KeepsReads asked reads → slice_get asked i ≡ Some a
+pub read_at : (asked : List Asking) (reads : List AskedRead) (i : ℕ) (a : Asking) (r : AskedRead) →
+    KeepsReads asked reads → slice_get asked i ≡ Some a
     → slice_get reads i ≡ Some r → shown_read a ≡ kept_read r
 read_at asked reads i a r keeps at_a at_r =
     same_Some (shown_read a) (kept_read r)
@@ -127,11 +130,13 @@ pub slot_tells : (x : Slot) (s : SlotValue) (i : ℕ) (a : Asking) (r : AskedRea
     → shown_read a ≡ kept_read r → IsPlaceOf a.key i x.reads.items → ShowsSlot x (record s { reads = put_read r s.reads })
 slot_tells x s i a r h at same place =
     slot_reads x x s (put_read r s.reads) h refl
-    (subst (λ l. KeepsReads l (put_read r s.reads)) (place a refl ∙ set_own x.reads.items i a at) (put_keeps x.reads.items s.reads a r h.reads same))
+    (subst (λ l. KeepsReads l (put_read r s.reads))
+    (place a refl ∙ set_own x.reads.items i a at) (put_keeps x.reads.items s.reads a r h.reads same))
 
 -- ---- plans
 
-pub held_tells : (held : Held) (v : ClientValue) (i : ℕ) (x : Slot) (s : SlotValue) → ShowsHeld held v → slice_get held.slots.items i ≡ Some x
+pub held_tells : (held : Held) (v : ClientValue) (i : ℕ) (x : Slot) (s : SlotValue) →
+    ShowsHeld held v → slice_get held.slots.items i ≡ Some x
     → ShowsSlot x s → ShowsHeld held (with_slot v i s)
 held_tells held v i x s h at one =
     record {
@@ -141,7 +146,8 @@ held_tells held v i x s h at one =
           (slots_set held.slots.items v.slots i x s h.slots one);
     }
 
-pub nothing_kept : (signing : Signing) (held : Held) (v after : ClientValue) (plan : ClientPlan) → plan.work ≡ Nothing → plan.out.messages.items ≡ []
+pub nothing_kept : (signing : Signing) (held : Held) (v after : ClientValue) (plan : ClientPlan) →
+    plan.work ≡ Nothing → plan.out.messages.items ≡ []
     → ShowsHeld held after → after.pen ≡ v.pen → WillDo signing held v plan (quiet after)
 nothing_kept signing held v after plan work none h pen =
     record {
@@ -152,7 +158,8 @@ nothing_kept signing held v after plan work none h pen =
 
 -- ---- the slot of a reply
 
-pub reply_foreign : (me : ClientSelf) (v : ClientValue) (m : ReadReplyValue) → (m.client == me.number) ≡ false → on_read_reply me v m ≡ Err NotMine
+pub reply_foreign : (me : ClientSelf) (v : ClientValue) (m : ReadReplyValue) →
+    (m.client == me.number) ≡ false → on_read_reply me v m ≡ Err NotMine
 reply_foreign me v m e = ap (λ b. cond b (reply_to_time me v m (slot_of_time v m.time)) (Err NotMine)) e
 
 pub reply_unknown : (me : ClientSelf) (v : ClientValue) (m : ReadReplyValue) → (m.client == me.number) ≡ true → slot_of_time v m.time ≡ None

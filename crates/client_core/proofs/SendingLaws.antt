@@ -30,7 +30,8 @@ unstarted u p b h =
 before_settling : (c : Setting) (u : Pursuit) (p : PursuitValue) → StandsFor u (settle c p).pursuit → StandsFor u p
 before_settling c u p h = by (is_some (outcome c p) || p.second) (settled c p.transaction p.taken) h
   where
-    by : (b : Bool) (o : Option LogsValue) → StandsFor u (cond b (still p) (option_map_or (start_second c p) o (still p))).pursuit → StandsFor u p
+    by : (b : Bool) (o : Option LogsValue) →
+        StandsFor u (cond b (still p) (option_map_or (start_second c p) o (still p))).pursuit → StandsFor u p
     by true o g = g
     by false None g = g
     by false (Some l) g = unstarted u p true g
@@ -45,17 +46,20 @@ before_going_on c u p h = by (all_voted c p.transaction p.taken) h
 abbrev pub then_told : Setting → PursuitValue → Option DecidedValue → PursuitDone
 then_told c p o = option_map_or (tell c p) o (go_on c p)
 
-before_telling : (c : Setting) (u : Pursuit) (p : PursuitValue) (o : Option DecidedValue) → StandsFor u (then_told c p o).pursuit → StandsFor u p
+before_telling : (c : Setting) (u : Pursuit) (p : PursuitValue) (o : Option DecidedValue) →
+    StandsFor u (then_told c p o).pursuit → StandsFor u p
 before_telling c u p None h = before_going_on c u p h
 before_telling c u p (Some d) h = h
 
-pub take_open : (c : Setting) (p : PursuitValue) (x : TakenValue) → is_some (outcome c p) ≡ false → take_frame c p x ≡ then_told c (took p x) (outcome c (took p x))
+pub take_open : (c : Setting) (p : PursuitValue) (x : TakenValue) →
+    is_some (outcome c p) ≡ false → take_frame c p x ≡ then_told c (took p x) (outcome c (took p x))
 take_open c p x e = ap (λ b. cond b (still p) (then_told c (took p x) (outcome c (took p x)))) e
 
 pub take_ended : (c : Setting) (p : PursuitValue) (x : TakenValue) → is_some (outcome c p) ≡ true → take_frame c p x ≡ still p
 take_ended c p x e = ap (λ b. cond b (still p) (then_told c (took p x) (outcome c (took p x)))) e
 
-pub stands_took : (c : Setting) (u : Pursuit) (p : PursuitValue) (x : TakenValue) → is_some (outcome c p) ≡ false → StandsFor u (take_frame c p x).pursuit
+pub stands_took : (c : Setting) (u : Pursuit) (p : PursuitValue) (x : TakenValue) →
+    is_some (outcome c p) ≡ false → StandsFor u (take_frame c p x).pursuit
     → StandsFor u (took p x)
 stands_took c u p x open_yet h =
     before_telling c u (took p x) (outcome c (took p x)) (subst (λ (d : PursuitDone). StandsFor u d.pursuit) (take_open c p x open_yet) h)
@@ -100,7 +104,8 @@ sends_second c u p m out h is messages signed =
       signed,
     )
 
-pub nothing_sent : (s : Sending) (second : Bool) (d : PursuitDone) (p : PursuitValue) → d ≡ still p → s.out.messages.items ≡ [] → s.out.signed.items ≡ []
+pub nothing_sent : (s : Sending) (second : Bool) (d : PursuitDone) (p : PursuitValue) →
+    d ≡ still p → s.out.messages.items ≡ [] → s.out.signed.items ≡ []
     → s.starts ≡ false → second ≡ p.second → IsSending s second d
 nothing_sent s second d p is messages signed starts same =
     record {
@@ -109,7 +114,8 @@ nothing_sent s second d p is messages signed starts same =
       starts = ap (λ b. b || second) starts ∙ same ∙ sym (ap (λ (e : PursuitDone). e.pursuit.second) is);
     }
 
-pub told : (s : Sending) (c : Setting) (p : PursuitValue) (t : TransactionValue) (k : CertificateValue) (d : DecidedValue) → t ≡ p.transaction
+pub told : (s : Sending) (c : Setting) (p : PursuitValue)
+    (t : TransactionValue) (k : CertificateValue) (d : DecidedValue) → t ≡ p.transaction
     → k ≡ d.certificate → s.out.messages.items ≡ map framed (to_involved c t (Writeback (record { transaction = t; certificate = k })))
     → s.out.signed.items ≡ [] → s.starts ≡ false → (second : Bool) → second ≡ p.second → IsSending s second (tell c p d)
 told s c p t k d same is messages signed starts second as_was =
@@ -117,7 +123,8 @@ told s c p t k d same is messages signed starts second as_was =
       messages =
           messages
           ∙ ap (λ (u : TransactionValue). map framed (to_involved c u (Writeback (record { transaction = u; certificate = k })))) same
-          ∙ ap (λ (l : CertificateValue). map framed (to_involved c p.transaction (Writeback (record { transaction = p.transaction; certificate = l })))) is;
+          ∙ ap (λ (l : CertificateValue).
+          map framed (to_involved c p.transaction (Writeback (record { transaction = p.transaction; certificate = l })))) is;
       signed = signed;
       starts = ap (λ b. b || second) starts ∙ as_was;
     }
@@ -128,7 +135,8 @@ module _ (c : Setting) (p : PursuitValue) (none : outcome c p ≡ None) where
 
   going : (b : Bool) → p.second ≡ b → go_on c p ≡ settles (all_voted c p.transaction p.taken) b (settled c p.transaction p.taken)
   going b e =
-      ap (λ (o : Option DecidedValue). settles (all_voted c p.transaction p.taken) (is_some o || p.second) (settled c p.transaction p.taken)) none
+      ap (λ (o : Option DecidedValue).
+      settles (all_voted c p.transaction p.taken) (is_some o || p.second) (settled c p.transaction p.taken)) none
       ∙ ap (λ d. settles (all_voted c p.transaction p.taken) d (settled c p.transaction p.taken)) e
 
   pub started_before : p.second ≡ true → go_on c p ≡ still p
@@ -141,7 +149,8 @@ module _ (c : Setting) (p : PursuitValue) (none : outcome c p ≡ None) where
   pub votes_missing : all_voted c p.transaction p.taken ≡ false → go_on c p ≡ still p
   votes_missing e = going p.second refl ∙ ap (λ b. settles b p.second (settled c p.transaction p.taken)) e
 
-  pub nothing_settled : p.second ≡ false → all_voted c p.transaction p.taken ≡ true → settled c p.transaction p.taken ≡ None → go_on c p ≡ still p
+  pub nothing_settled : p.second ≡ false →
+      all_voted c p.transaction p.taken ≡ true → settled c p.transaction p.taken ≡ None → go_on c p ≡ still p
   nothing_settled e all is =
       going false e ∙ ap (λ b. settles b false (settled c p.transaction p.taken)) all ∙ ap (settles true false) is
 
@@ -150,7 +159,8 @@ module _ (c : Setting) (p : PursuitValue) (none : outcome c p ≡ None) where
   starts_now e all l is =
       going false e ∙ ap (λ b. settles b false (settled c p.transaction p.taken)) all ∙ ap (settles true false) is
 
-  pub second_starts : (s : Sending) (out : Outbox) → p.second ≡ false → all_voted c p.transaction p.taken ≡ true → SendsSecond c p (Some out)
+  pub second_starts : (s : Sending) (out : Outbox) →
+      p.second ≡ false → all_voted c p.transaction p.taken ≡ true → SendsSecond c p (Some out)
       → s.out ≡ out → s.starts ≡ true → IsSending s p.second (go_on c p)
   second_starts s out e all (l, is, messages, signed) same starts =
       let goes = starts_now e all l is in

@@ -98,7 +98,8 @@ pub slots_then : (a b c : Held) → KeepsSlots a b → KeepsSlots b c → KeepsS
 slots_then a b c first second = omega (arith, first, second)
 
 -- a slot that is set, and one more
-count_set : (before after : ClientValue) (slot : ℕ) (s : SlotValue) → after ≡ with_slot before slot s → length before.slots ≤ length after.slots
+count_set : (before after : ClientValue) (slot : ℕ) (s : SlotValue) →
+    after ≡ with_slot before slot s → length before.slots ≤ length after.slots
 count_set before after slot s is =
     let same = ap (λ (v : ClientValue). length v.slots) is ∙ length-set before.slots slot s in omega (arith, same)
 
@@ -113,7 +114,8 @@ leaves_count signing held before Nothing after h l =
     let b = slots_count held.slots.items after.slots (l.0).slots in
     omega (arith, a, b)
 leaves_count signing held before (Ask slot asked) after h l = count_set before after slot _ l.1.2
-leaves_count signing held before (Pursue slot formed pending) after h l = count_set (record before { pen = after_one before.pen }) after slot _ l.1.2
+leaves_count signing held before (Pursue slot formed pending) after h l =
+    count_set (record before { pen = after_one before.pen }) after slot _ l.1.2
 leaves_count signing held before (Start slot) after h l = count_set before after slot _ l.1.2
 leaves_count signing held before (Hold recovered) after h l = count_new before after l.1.0 l.1.2
 leaves_count signing held before (Reply slot read reply) after h l = count_set before after slot _ l.1.3

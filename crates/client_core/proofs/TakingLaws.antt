@@ -42,7 +42,8 @@ use Rattle.client_core.proofs.ReadingLaws.{shown_at}
 
 -- ---- the slot of an id
 
-is_the_named : (named : List ℕ) (i : ℕ) (s : SlotValue) (h : HeldValue) → is_named named s ≡ true → (o : Option PursuitValue) → s.pursuit ≡ o
+is_the_named : (named : List ℕ) (i : ℕ) (s : SlotValue) (h : HeldValue) →
+    is_named named s ≡ true → (o : Option PursuitValue) → s.pursuit ≡ o
     → option_map (λ (p : PursuitValue). let x : HeldValue = record { place = i; slot = s; pursuit = p } in x) o ≡ Some h
     → bytes_eq named (id h.pursuit.transaction) ≡ true
 is_the_named named i s h passes None is e = absurd cc
@@ -52,26 +53,31 @@ is_the_named named i s h passes (Some p) is e =
     ∙ sym (ap (λ o. option_map_or (λ (q : PursuitValue). bytes_eq named (id q.transaction)) o false) is)
     ∙ passes
 
-named_at : (v : ClientValue) (named : List ℕ) (i : ℕ) (h : HeldValue) → slot_of_id v named ≡ Some i → (o : Option SlotValue) → slice_get v.slots i ≡ o
+named_at : (v : ClientValue) (named : List ℕ) (i : ℕ) (h : HeldValue) →
+    slot_of_id v named ≡ Some i → (o : Option SlotValue) → slice_get v.slots i ≡ o
     → option_and_then (held_at_slot i) o ≡ Some h → bytes_eq named (id h.pursuit.transaction) ≡ true
 named_at v named i h found None at e = absurd cc
 named_at v named i h found (Some s) at e =
     is_the_named named i s h (position_passes (is_named named) v.slots i s found at) s.pursuit refl e
 
-named_in : (v : ClientValue) (named : List ℕ) (h : HeldValue) (o : Option ℕ) → slot_of_id v named ≡ o → option_and_then (held_at v) o ≡ Some h
+named_in : (v : ClientValue) (named : List ℕ) (h : HeldValue) (o : Option ℕ) →
+    slot_of_id v named ≡ o → option_and_then (held_at v) o ≡ Some h
     → bytes_eq named (id h.pursuit.transaction) ≡ true
 named_in v named h None found e = absurd cc
 named_in v named h (Some i) found e = named_at v named i h found (slice_get v.slots i) refl e
 
-pub held_named : (v : ClientValue) (named : List ℕ) (h : HeldValue) → held_with v named ≡ Some h → bytes_eq named (id h.pursuit.transaction) ≡ true
+pub held_named : (v : ClientValue) (named : List ℕ) (h : HeldValue) →
+    held_with v named ≡ Some h → bytes_eq named (id h.pursuit.transaction) ≡ true
 held_named v named h e = named_in v named h (slot_of_id v named) refl e
 
-pub named_found : (me : ClientSelf) (v : ClientValue) (named : List ℕ) (m : MessageValue) (i : ℕ) (s : SlotValue) → slot_of_id v named ≡ Some i
+pub named_found : (me : ClientSelf) (v : ClientValue) (named : List ℕ) (m : MessageValue) (i : ℕ) (s : SlotValue) →
+    slot_of_id v named ≡ Some i
     → slice_get v.slots i ≡ Some s → on_named me v named m ≡ on_pursuit me v m (held_at_slot i s)
 named_found me v named m i s found at =
     ap (λ o. on_pursuit me v m (option_and_then (held_at v) o)) found ∙ ap (λ o. on_pursuit me v m (option_and_then (held_at_slot i) o)) at
 
-pub named_missing : (me : ClientSelf) (v : ClientValue) (named : List ℕ) (m : MessageValue) → slot_of_id v named ≡ None → on_named me v named m ≡ Err NotMine
+pub named_missing : (me : ClientSelf) (v : ClientValue) (named : List ℕ) (m : MessageValue) →
+    slot_of_id v named ≡ None → on_named me v named m ≡ Err NotMine
 named_missing me v named m found = ap (λ o. on_pursuit me v m (option_and_then (held_at v) o)) found
 
 -- ---- the kinds
@@ -102,7 +108,8 @@ module _ (me : ClientSelf) (v : ClientValue) where
 
   pub writeback_law : (w : WritebackValue) → on_named me v (id w.transaction) (Writeback w) ≡ on_writeback me v w
   writeback_law w =
-      kind_law (λ t. writeback_fault me.accepts me.cluster t w) (TakenCertificate w.certificate) (Writeback w) (id w.transaction) (λ t. refl)
+      kind_law (λ t. writeback_fault me.accepts me.cluster t w)
+      (TakenCertificate w.certificate) (Writeback w) (id w.transaction) (λ t. refl)
 
 -- ---- a pursuit
 
@@ -117,12 +124,14 @@ pub pursuit_in : (f : Formed) (o : Option PursuitValue) → ShowsFormed (Some f)
 pursuit_in f None h = absurd h
 pursuit_in f (Some p) h = (p, refl, h)
 
-pub formed_shows : (f g : Formed) → ((p : PursuitValue) → ShowsPursuit f p → ShowsPursuit g p) → (o : Option PursuitValue) → ShowsFormed (Some f) o
+pub formed_shows : (f g : Formed) → ((p : PursuitValue) → ShowsPursuit f p → ShowsPursuit g p) →
+    (o : Option PursuitValue) → ShowsFormed (Some f) o
     → ShowsFormed (Some g) o
 formed_shows f g each None h = absurd h
 formed_shows f g each (Some p) h = each p h
 
-pub slot_formed : (slot new : Slot) (s : SlotValue) → ShowsSlot slot s → new ≡ record slot { formed = new.formed } → ShowsFormed new.formed s.pursuit
+pub slot_formed : (slot new : Slot) (s : SlotValue) →
+    ShowsSlot slot s → new ≡ record slot { formed = new.formed } → ShowsFormed new.formed s.pursuit
     → ShowsSlot new s
 slot_formed slot new s h same formed =
     record {
@@ -138,12 +147,14 @@ got_set [] i x y e = absurd cc
 got_set (z ∷ zs) zero x y e = refl
 got_set (z ∷ zs) (suc i) x y e = got_set zs i x y e
 
-pub holds_taken : (A : Accepted) (c before now : Setting) (p : PursuitValue) (m : MessageValue) (x : TakenValue) (f : Formed) (plan : ClientPlan)
+pub holds_taken : (A : Accepted) (c before now : Setting)
+    (p : PursuitValue) (m : MessageValue) (x : TakenValue) (f : Formed) (plan : ClientPlan)
     (slot : ℕ) (s : Sending) → before ≡ c → now ≡ before → taken_of A before p.transaction m ≡ Ok x
     → StandsFor f.pursuit (take_frame before p x).pursuit → IsSending s f.second (take_frame now p x) → plan.work ≡ Take slot s.starts
     → plan.out ≡ s.out → (taken_of A c p.transaction m ≡ Ok x) × HoldsBack f plan slot (take_frame c p x)
 holds_taken A c before now p m x f plan slot s is same took stands sends work out =
-    let sent : IsSending s f.second (take_frame c p x) = subst (λ (k : Setting). IsSending s f.second (take_frame k p x)) (same ∙ is) sends in (
+    let sent : IsSending s f.second (take_frame c p x) =
+    subst (λ (k : Setting). IsSending s f.second (take_frame k p x)) (same ∙ is) sends in (
       ap (λ (k : Setting). taken_of A k p.transaction m) (sym is) ∙ took,
       record {
         starts = s.starts;
@@ -170,7 +181,8 @@ pub sent_ready : (size left slot : ℕ) (held : Held) (s : Sending) (r : Result 
 sent_ready size left slot held s (Ok plan) ok within none = ready_at 0 (Take slot s.starts) s.out plan ok size left held refl within none
 sent_ready size left slot held s (Err e) ok within none = ok
 
-pub take_done : (signing : Signing) (held : Held) (me : ClientSelf) (v : ClientValue) (i : ℕ) (s : SlotValue) (p : PursuitValue) (f : Formed) (x : Slot)
+pub take_done : (signing : Signing) (held : Held)
+    (me : ClientSelf) (v : ClientValue) (i : ℕ) (s : SlotValue) (p : PursuitValue) (f : Formed) (x : Slot)
     (plan : ClientPlan) (d : PursuitDone)
     → ShowsHeld held v → slice_get v.slots i ≡ Some s → slice_get held.slots.items i ≡ Some x → x.formed ≡ Some f → HoldsBack f plan i d
     → WillDo signing held v plan (pursuit_done v i s d)
@@ -188,9 +200,11 @@ take_done signing held me v i s p f x plan d h at there is holds =
           ∙ append-nil plan.out.messages.items ∙ holds.messages;
     }
 
-pub takes_planned : (signing : Signing) (held : Held) (me : ClientSelf) (v : ClientValue) (i : ℕ) (s : SlotValue) (p : PursuitValue) (f : Formed) (x : Slot)
+pub takes_planned : (signing : Signing) (held : Held)
+    (me : ClientSelf) (v : ClientValue) (i : ℕ) (s : SlotValue) (p : PursuitValue) (f : Formed) (x : Slot)
     (result : Result ClientPlan FrameFault) (taken : Result TakenValue FrameFault)
-    → ShowsHeld held v → slice_get v.slots i ≡ Some s → slice_get held.slots.items i ≡ Some x → x.formed ≡ Some f → IsTake me.cluster f p i result taken
+    → ShowsHeld held v → slice_get v.slots i ≡ Some s →
+    slice_get held.slots.items i ≡ Some x → x.formed ≡ Some f → IsTake me.cluster f p i result taken
     → IsPlannedFrame signing held v result (by_taken me v (record { place = i; slot = s; pursuit = p }) taken)
 takes_planned signing held me v i s p f x (Ok plan) taken h at there is (y, took, holds) =
     let k : HeldValue = record { place = i; slot = s; pursuit = p } in (
@@ -204,7 +218,8 @@ takes_planned signing held me v i s p f x (Err e) taken h at there is refused =
 -- ---- the pursuit in a slot
 
 module _ (old new : Held) (i : ℕ) (x changed : Slot) (f g : Formed) (at : slice_get old.slots.items i ≡ Some x) (is : x.formed ≡ Some f)
-    (last : new.last ≡ old.last) (set : new.slots.items ≡ slice_set old.slots.items i changed) (same : changed ≡ record x { formed = Some g })
+    (last : new.last ≡ old.last) (set : new.slots.items ≡ slice_set old.slots.items i changed)
+    (same : changed ≡ record x { formed = Some g })
     (each : (p : PursuitValue) → ShowsPursuit f p → ShowsPursuit g p) where
   formed_now : (s : SlotValue) → ShowsSlot x s → ShowsFormed (Some f) s.pursuit
   formed_now s h = subst (λ (o : Option Formed). ShowsFormed o s.pursuit) is h.formed
@@ -220,17 +235,20 @@ module _ (old new : Held) (i : ℕ) (x changed : Slot) (f g : Formed) (at : slic
   pub taken_shows : (v : ClientValue) → ShowsHeld old v → ShowsHeld new v
   taken_shows v h = held_same old new i x changed at last set changed_shows v h
 
-  pub taken_planned : (signing : Signing) (me : ClientSelf) (v : ClientValue) (s : SlotValue) (m : MessageValue) (result : Result ClientPlan FrameFault)
+  pub taken_planned : (signing : Signing)
+      (me : ClientSelf) (v : ClientValue) (s : SlotValue) (m : MessageValue) (result : Result ClientPlan FrameFault)
       → ((p : PursuitValue) → ShowsPursuit f p → IsTake me.cluster g p i result (taken_of me.accepts me.cluster p.transaction m))
       → ShowsHeld old v → slice_get v.slots i ≡ Some s → IsPlannedFrame signing new v result (on_pursuit me v m (held_at_slot i s))
   taken_planned signing me v s m result take h at_s =
       let found = pursuit_in f s.pursuit (formed_now s (shown_at old v i x s h at at_s)) in
       let p = found.0 in
-      let there : slice_get new.slots.items i ≡ Some changed = ap (λ (l : List Slot). slice_get l i) set ∙ got_set old.slots.items i x changed at in
+      let there : slice_get new.slots.items i ≡ Some changed =
+      ap (λ (l : List Slot). slice_get l i) set ∙ got_set old.slots.items i x changed at in
       subst (λ (o : Option PursuitValue). IsPlannedFrame signing new v result
       (on_pursuit me v m (option_map (λ (q : PursuitValue). let k : HeldValue = record { place = i; slot = s; pursuit = q } in k) o)))
       (sym found.1)
-      (takes_planned signing new me v i s p g changed result (taken_of me.accepts me.cluster p.transaction m) (taken_shows v h) at_s there changed_formed
+      (takes_planned signing new me v i s p g changed result
+      (taken_of me.accepts me.cluster p.transaction m) (taken_shows v h) at_s there changed_formed
       (take p found.2))
 
 pub not_formed : (me : ClientSelf) (v : ClientValue) (m : MessageValue) (i : ℕ) (x : Slot) (s : SlotValue) → ShowsSlot x s → x.formed ≡ None
@@ -238,6 +256,7 @@ pub not_formed : (me : ClientSelf) (v : ClientValue) (m : MessageValue) (i : ℕ
 not_formed me v m i x s h is = by s.pursuit (subst (λ (o : Option Formed). ShowsFormed o s.pursuit) is h.formed)
   where
     by : (o : Option PursuitValue) → ShowsFormed None o
-        → on_pursuit me v m (option_map (λ (q : PursuitValue). let k : HeldValue = record { place = i; slot = s; pursuit = q } in k) o) ≡ Err NotMine
+        → on_pursuit me v m
+        (option_map (λ (q : PursuitValue). let k : HeldValue = record { place = i; slot = s; pursuit = q } in k) o) ≡ Err NotMine
     by None none = refl
     by (Some p) none = absurd none

@@ -5,7 +5,8 @@ use Rattle.certificates.specs.declared.fault.FrameFault.TheVariants.{BadFrame, N
 use Rattle.frame_views.specs.declared.fault.BadFrame as faults
 use Rattle.frame_views.specs.Fitting.{bounds_of}
 use Rattle.frame_views.specs.Frames.{frame_in}
-use Rattle.frame_views.specs.Values.{MessageValue, Read, ReadReply, St1, Vote, St2, LogReply, Writeback, Recover, Invoke, Elect, Decide}
+use Rattle.frame_views.specs.Values.{MessageValue, Read, ReadReply, St1, Vote, St2}
+use Rattle.frame_views.specs.Values.{LogReply, Writeback, Recover, Invoke, Elect, Decide}
 use Rattle.client_core.specs.Clients.{ClientSelf, ClientValue, ClientDone}
 use Rattle.client_core.specs.Frames.{on_vote, on_log_reply, on_writeback, on_read_reply}
 

@@ -66,7 +66,8 @@ slot_of client (Invoke slot) = None
 slot_of client (Frame frame) = None
 
 -- the plan does what the answer says, and a refusal is the answer's, unless memory is wanting
-abbrev pub IsPlannedAsk : Signing → Held → ClientValue → Result ClientPlan AskFault → Result ClientDone AskFault → Type 0
+abbrev pub IsPlannedAsk :
+    Signing → Held → ClientValue → Result ClientPlan AskFault → Result ClientDone AskFault → Type 0
 IsPlannedAsk signing held before (Ok plan) answer =
     (d : ClientDone) × (answer ≡ Ok d) × WillDo signing held before plan d
 IsPlannedAsk signing held before (Err e) answer =

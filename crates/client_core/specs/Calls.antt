@@ -1,5 +1,7 @@
 -- A client's calls (Basil, execution phase, recovery).
-use Rattle.std.specs.Prelude.{ℕ, ◌++◌, List, [], ◌∷◌, Bool, true, false, not, ◌&&◌, ◌||◌, ◌==◌, Option, Some, None, option_map, option_and_then, Result, Ok, Err, find, slice_get, is_some, map, nat_lt, nat_le, length, if◌then◌else◌}
+use Rattle.std.specs.Prelude.{ℕ, ◌++◌, List, [], ◌∷◌, Bool, true, false, not, ◌&&◌, ◌||◌, ◌==◌}
+use Rattle.std.specs.Prelude.{Option, Some, None, option_map, option_and_then, Result, Ok, Err}
+use Rattle.std.specs.Prelude.{find, slice_get, is_some, map, nat_lt, nat_le, length, if◌then◌else◌}
 use Rattle.std.specs.List.{list_any}
 use Rattle.std.specs.Option.{option_map_or}
 use Rattle.std.specs.Str.{bytes_eq}
@@ -9,7 +11,8 @@ use Rattle.basil_types.specs.Setting.{Setting}
 use Rattle.basil_types.specs.Transaction.{TransactionValue, id}
 use Rattle.basil_types.specs.Words.{TransactionWords, words_of}
 use Rattle.client_recover.specs.Counting.{replies_of}
-use Rattle.client_recover.specs.Pursuits.{PursuitDone, to_shard, to_involved, to_log_shard, signed_part, invoke_message, settle, outcome}
+use Rattle.client_recover.specs.Pursuits.{PursuitDone, to_shard, to_involved, to_log_shard}
+use Rattle.client_recover.specs.Pursuits.{signed_part, invoke_message, settle, outcome}
 use Rattle.client_recover.specs.Taken.{PursuitValue}
 use Rattle.frame_views.specs.Values.{Read, St1, Recover}
 use Rattle.node_steps.specs.Pens.{after_one}
@@ -17,8 +20,10 @@ use Rattle.node_steps.specs.Refusing.{when, unless}
 use Rattle.txn_meta.specs.Form.{form_fault}
 use Rattle.txn_meta.specs.Places.{shard_of}
 use Rattle.client_core.specs.declared.fault.CallFault.{CallFault}
-use Rattle.client_core.specs.declared.fault.CallFault.TheVariants.{TimeNotAbove, NotOpen, TooMany, SizeOut, ReadPending, Empty}
-use Rattle.client_core.specs.declared.fault.CallFault.TheVariants.{Exhausted, NotPrepared, NothingLogged, BadTransaction}
+use Rattle.client_core.specs.declared.fault.CallFault.TheVariants.{TimeNotAbove, NotOpen, TooMany}
+use Rattle.client_core.specs.declared.fault.CallFault.TheVariants.{SizeOut, ReadPending, Empty}
+use Rattle.client_core.specs.declared.fault.CallFault.TheVariants.{Exhausted, NotPrepared}
+use Rattle.client_core.specs.declared.fault.CallFault.TheVariants.{NothingLogged, BadTransaction}
 use Rattle.client_core.specs.Clients.{ClientSelf, AskedRead, SlotValue, ClientValue, ClientDone, quiet}
 use Rattle.client_core.specs.Slots.{asked, put_read, put_write, is_chosen, as_read, slot_of_id, with_slot, with_pursuit}
 

@@ -1,5 +1,6 @@
 -- Which frames a client takes (Basil, stages 1 and 2, reads).
-use Rattle.std.specs.Prelude.{ℕ, ◌++◌, List, [], ◌∷◌, ◌==◌, Option, Some, None, option_map, option_and_then, Result, Err, slice_get, if◌then◌else◌}
+use Rattle.std.specs.Prelude.{ℕ, ◌++◌, List, [], ◌∷◌, ◌==◌, Option, Some, None, option_map}
+use Rattle.std.specs.Prelude.{option_and_then, Result, Err, slice_get, if◌then◌else◌}
 use Rattle.std.specs.List.{list_any}
 use Rattle.basil_types.specs.Transaction.{TransactionValue, id}
 use Rattle.certificates.specs.declared.fault.FrameFault.{FrameFault}

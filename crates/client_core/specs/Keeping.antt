@@ -1,5 +1,6 @@
 -- What a read tells, by what is kept of it.
-use Rattle.std.specs.Prelude.{◌≤◌, ◌<◌, ◌++◌, ◌∷◌, [], not, Option, option_and_then, find, nat_le, length, Bool, if◌then◌else◌}
+use Rattle.std.specs.Prelude.{◌≤◌, ◌<◌, ◌++◌, ◌∷◌, [], not, Option, option_and_then}
+use Rattle.std.specs.Prelude.{find, nat_le, length, Bool, if◌then◌else◌}
 use Rattle.basil_types.specs.declared.transaction.parts.ReadPart.{ReadPart}
 use Rattle.basil_types.specs.declared.transaction.parts.WritePart.{WritePart}
 use Rattle.basil_types.specs.declared.version.Version.{Version}

@@ -1,5 +1,6 @@
 -- What a client holds, by slot, by time and by id, and what a read gave.
-use Rattle.std.specs.Prelude.{ℕ, List, [], ◌∷◌, Bool, false, not, ◌==◌, ◌&&◌, Option, Some, None, option_map, option_and_then, position, find, slice_set, map, nat_le, length, if◌then◌else◌}
+use Rattle.std.specs.Prelude.{ℕ, List, [], ◌∷◌, Bool, false, not, ◌==◌, ◌&&◌, Option, Some, None, option_map}
+use Rattle.std.specs.Prelude.{option_and_then, position, find, slice_set, map, nat_le, length, if◌then◌else◌}
 use Rattle.std.specs.Option.{option_map_or}
 use Rattle.std.specs.Str.{bytes_eq}
 use Rattle.basil_types.specs.Built.{or_else}

@@ -10,7 +10,8 @@ use Rattle.client_recover.specs.Frames.{vote_taken, log_taken, certificate_taken
 use Rattle.client_recover.specs.Pursuits.{take_frame}
 use Rattle.client_recover.specs.Standing.{StandsFor}
 use Rattle.client_recover.specs.Taken.{PursuitValue, TakenValue}
-use Rattle.frame_views.specs.Values.{MessageValue, Read, ReadReply, St1, Vote, St2, LogReply, Writeback, Recover, Invoke}
+use Rattle.frame_views.specs.Values.{MessageValue, Read, ReadReply, St1, Vote}
+use Rattle.frame_views.specs.Values.{St2, LogReply, Writeback, Recover, Invoke}
 use Rattle.frame_views.specs.Values.{Elect, Decide}
 use Rattle.client_core.specs.declared.held.Formed.{Formed}
 use Rattle.client_core.specs.declared.held.Held.{Held}

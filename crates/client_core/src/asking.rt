@@ -1,6 +1,7 @@
 //! A read that a client asked for, and its choice.
 
-ghost use Rattle.std.specs.Prelude.{◌≡◌, ◌≤◌, ◌<◌, ◌++◌, ◌∷◌, [], ◌==◌, ℕ, IfOk, Option, OnOk, option_map, length, nat_le};
+ghost use Rattle.std.specs.Prelude.{◌≡◌, ◌≤◌, ◌<◌, ◌++◌, ◌∷◌, [], ◌==◌, ℕ, IfOk};
+ghost use Rattle.std.specs.Prelude.{Option, OnOk, option_map, length, nat_le};
 ghost use Rattle.std.specs.List.{list_any};
 ghost use Rattle.client_core.specs.Clients.{AskedRead};
 ghost use Rattle.client_core.specs.Kept.{carried_of_two, kept_read, shown_read, KeptRead};

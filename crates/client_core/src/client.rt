@@ -1,6 +1,7 @@
 //! A client: its calls, and its answers to frames.
 
-ghost use Rattle.std.specs.Prelude.{◌≡◌, ◌≤◌, ◌<◌, [], true, false, Some, OnErr, OnOk, IfOk, IfSome, option_map, length, slice_get};
+ghost use Rattle.std.specs.Prelude.{◌≡◌, ◌≤◌, ◌<◌, [], true, false, Some, OnErr};
+ghost use Rattle.std.specs.Prelude.{OnOk, IfOk, IfSome, option_map, length, slice_get};
 ghost use Rattle.basil_types.specs.declared.party.Party.TheVariants as parties;
 ghost use Rattle.certificates.specs.Deciding.{HasGoodForm};
 ghost use Rattle.client_core.specs.Answers.{on_frame};
@@ -35,8 +36,8 @@ use keyring::verifier::Verifier;
 use node_steps::pending::make_room;
 use std::alloc::Global;
 
-/// A client with the keyring by which it tests signatures and the pen by which it signs. Some value is always shown: what it
-/// holds, with the replies and the frames that it took.
+/// A client with the keyring by which it tests signatures and the pen by which it signs. Some value is always shown:
+/// what it holds, with the replies and the frames that it took.
 #[derive(Drop)]
 pub struct Client<V: Verifier, S: Signer> {
     pub(crate) seat: Seat,
@@ -248,7 +249,8 @@ impl<V: Verifier, S: Signer> Client<V, S> {
     pub fn slots(&self) -> u32
         ensures held { result ≡ length self.now.held.slots.items }
         ensures shown { (v : ClientValue) →
-            Shows self.now.held (pen_value (S.spent self.now.pen) (S.left_of self.now.pen)) v → result ≡ length v.slots }
+            Shows self.now.held (pen_value (S.spent self.now.pen) (S.left_of self.now.pen)) v →
+            result ≡ length v.slots }
     {
         self.held.count()
     }

@@ -1,6 +1,7 @@
 //! Frames for a formed transaction: each is taken and held back, and then let go or kept.
 
-ghost use Rattle.std.specs.Prelude.{◌≡◌, ◌≢◌, ◌<◌, false, is_some, length, option_map, slice_get, Some, Ok, Err, OnOk, OnErr, IfErr};
+ghost use Rattle.std.specs.Prelude.{◌≡◌, ◌≢◌, ◌<◌, false, is_some, length, option_map};
+ghost use Rattle.std.specs.Prelude.{slice_get, Some, Ok, Err, OnOk, OnErr, IfErr};
 ghost use Rattle.std.specs.Option.{ForSome};
 ghost use Rattle.basil_types.specs.Setting.{Setting};
 ghost use Rattle.certificates.specs.declared.fault.FrameFault.TheVariants as faults;
@@ -27,8 +28,8 @@ use frame_values::owned::Certificate;
 use frame_views::frames::MessageView;
 use keyring::verifier::Verifier;
 
-/// A pursuit takes a vote, a log reply or a certificate, or answers the first fault of the frame. A refusal leaves all as
-/// before.
+/// A pursuit takes a vote, a log reply or a certificate, or answers the first fault of the frame. A refusal leaves all
+/// as before.
 fn add_frame<V: Verifier>(
     pursuit: &mut Pursuit,
     keys: &V,

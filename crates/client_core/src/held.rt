@@ -37,7 +37,8 @@ pub struct Slot {
     pub formed: Option<Formed>,
 }
 
-/// What a client holds: the last time that it began, its transactions by slot, and the cluster in which it pursues them.
+/// What a client holds: the last time that it began, its transactions by slot, and the cluster in which it pursues
+/// them.
 #[derive(Drop)]
 pub struct Held {
     pub cluster: Cluster,

@@ -1,7 +1,8 @@
 //! A client's calls in two halves: planned, and then done or given up.
 
 ghost use Rattle.std.specs.Prelude.{◌≡◌, IfErr, IfOk, length};
-ghost use Rattle.client_core.specs.Asks.{CanBeAsked, IsPlannedAsk, answer_to, by_call, by_frame, is_call, is_call_fault, slot_of};
+ghost use Rattle.client_core.specs.Asks.{CanBeAsked, IsPlannedAsk, answer_to, by_call};
+ghost use Rattle.client_core.specs.Asks.{by_frame, is_call, is_call_fault, slot_of};
 ghost use Rattle.client_core.specs.Clients.{ClientDone, ClientValue};
 ghost use Rattle.client_core.specs.Done.{CanCommit, IsSent, KeepsSlots, Shows};
 ghost use Rattle.client_core.specs.Letting.{IsLetGo};
@@ -47,8 +48,8 @@ fn frame_planned(planned: Result<ClientPlan, FrameFault>) -> Result<ClientPlan, 
 }
 
 impl<V: Verifier, S: Signer> Client<V, S> {
-    /// Plans what is asked, or refuses what the call or the frame refuses. It takes all the memory for it, and leaves what
-    /// the client shows. The plan is for `commit` or `give_up`, with no other call of this client between.
+    /// Plans what is asked, or refuses what the call or the frame refuses. It takes all the memory for it, and leaves
+    /// what the client shows. The plan is for `commit` or `give_up`, with no other call of this client between.
     pub fn plan(&mut self, ask: Ask<'_>) -> Result<ClientPlan, AskFault>
         requires { CanBeAsked self.old.held ask }
         ensures answer { (v : ClientValue) →

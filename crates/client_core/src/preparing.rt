@@ -1,6 +1,7 @@
 //! Planning that a transaction is formed, signed and pursued.
 
-ghost use Rattle.std.specs.Prelude.{◌≡◌, ◌<◌, ◌≤◌, ℕ, All, List, [], None, Some, Option, IfOk, OnOk, length, map, slice_get, ◌==◌, ◌&&◌};
+ghost use Rattle.std.specs.Prelude.{◌≡◌, ◌<◌, ◌≤◌, ℕ, All, List, [], None, Some, Option};
+ghost use Rattle.std.specs.Prelude.{IfOk, OnOk, length, map, slice_get, ◌==◌, ◌&&◌};
 ghost use Rattle.basil_types.specs.Built.{built};
 ghost use Rattle.basil_types.specs.Limits.{signature_limit};
 ghost use Rattle.basil_types.specs.Transaction as transactions;

@@ -6,7 +6,8 @@ ghost use Rattle.std.specs.Str.{bytes_eq};
 ghost use Rattle.client_core.specs.Clients.{AskedRead, ClientValue, SlotValue};
 ghost use Rattle.client_core.specs.Frames.{with_reply};
 ghost use Rattle.client_core.specs.Kept.{kept_read, shown_read};
-ghost use Rattle.client_core.specs.Replying.{asked_fault, HasReplyRoomAt, IsPlaceOf, Replies, TakesReply, TakesReplyAt, TellsAt};
+ghost use Rattle.client_core.specs.Replying.{asked_fault, HasReplyRoomAt, IsPlaceOf};
+ghost use Rattle.client_core.specs.Replying.{Replies, TakesReply, TakesReplyAt, TellsAt};
 ghost use Rattle.client_core.specs.Showing.{KeepsReads, ShowsHeld, ShowsSlot};
 ghost use Rattle.client_core.specs.Slots.{put_read};
 ghost use Rattle.client_reads.specs.Faults.{Refuses};
@@ -93,8 +94,8 @@ impl Slot {
         }
     }
 
-    /// What is kept of a reply to the read at a place, which is nothing where its replica replied before. Where the read
-    /// doesn't stand in its order, the answer is want of memory.
+    /// What is kept of a reply to the read at a place, which is nothing where its replica replied before. Where the
+    /// read doesn't stand in its order, the answer is want of memory.
     pub(crate) fn take_reply<V: Verifier>(
         &self,
         keys: &V,

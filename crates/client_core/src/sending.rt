@@ -137,8 +137,8 @@ pub(crate) fn tell_frames(
     sent_to(alloc, parties.as_slice(), frame.as_slice())
 }
 
-/// What is sent once a frame was taken that decides nothing: the second stage starts by itself where all have voted and it
-/// hasn't started.
+/// What is sent once a frame was taken that decides nothing: the second stage starts by itself where all have voted and
+/// it hasn't started.
 fn go_on(alloc: Global, pursuit: &Pursuit, second: bool) -> Result<Sending, NoMemory>
     ensures sends { (p : PursuitValue) → StandsFor pursuit.now p → second ≡ p.second →
         outcome pursuit.now.cluster p ≡ None →

@@ -1,6 +1,7 @@
 //! What a read or a write does to an open transaction, or why it is refused.
 
-ghost use Rattle.std.specs.Prelude.{◌≡◌, ◌≤◌, ◌||◌, ◌&&◌, true, ℕ, Bool, Option, List, Some, None, is_some, length, nat_le, not, find, option_map, []};
+ghost use Rattle.std.specs.Prelude.{◌≡◌, ◌≤◌, ◌||◌, ◌&&◌, true, ℕ, Bool, Option, List, Some};
+ghost use Rattle.std.specs.Prelude.{None, is_some, length, nat_le, not, find, option_map, []};
 ghost use Rattle.std.specs.List.{list_any};
 ghost use Rattle.std.specs.Str.{bytes_eq};
 ghost use Rattle.basil_types.specs.Built as built_of;

@@ -78,7 +78,8 @@ module _ (me : ClientSelf) (client : ClientValue) (slot : ℕ) (p : PursuitValue
       ap (λ (n : List ℕ). held_with client n) same ∙ ap (option_and_then (held_at client)) found
       ∙ ap (option_and_then (held_at_slot slot)) at
       ∙ ap
-      (λ (o : Option PursuitValue). option_map (λ (q : PursuitValue). let h : HeldValue = record { place = slot; slot = x; pursuit = q } in h) o)
+      (λ (o : Option PursuitValue). option_map
+      (λ (q : PursuitValue). let h : HeldValue = record { place = slot; slot = x; pursuit = q } in h) o)
       formed
 
   took_it : (named : List ℕ) (fault : TransactionValue → Option FrameFault) (y z : TakenValue) →

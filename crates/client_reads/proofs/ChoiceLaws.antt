@@ -45,7 +45,8 @@ or_left a b e = ap (λ t. t || b) e
 told_test : (replies : List ReplyVersions) (v : Version) → Any (λ r. r.committed ≡ v) replies
     → list_any (λ (r : ReplyVersions). same_version r.committed v) replies ≡ true
 told_test replies v any =
-    list_any-from_Any (λ (r : ReplyVersions). same_version r.committed v) replies (any.0, any.1, any.2, any.3, (same_exactly (any.1).committed v).1 any.4)
+    list_any-from_Any (λ (r : ReplyVersions). same_version r.committed v) replies
+    (any.0, any.1, any.2, any.3, (same_exactly (any.1).committed v).1 any.4)
 
 committed_counts : (c : Setting) (replies : List ReplyVersions) (v : Version) → is_committed replies v ≡ true → counts c replies v ≡ true
 committed_counts c replies v h = or_left (is_committed replies v) (is_prepared c replies v) h
@@ -56,7 +57,8 @@ prepared_counts c replies v h =
 
 genesis_counts : (c : Setting) (replies : List ReplyVersions) → counts c replies genesis ≡ true
 genesis_counts c replies =
-    committed_counts c replies genesis (or_left (same_version genesis genesis) (list_any (λ (r : ReplyVersions). same_version r.committed genesis) replies) ((same_exactly genesis genesis).1 refl))
+    committed_counts c replies genesis (or_left (same_version genesis genesis)
+    (list_any (λ (r : ReplyVersions). same_version r.committed genesis) replies) ((same_exactly genesis genesis).1 refl))
 
 -- ---- what counts is carried
 
@@ -79,15 +81,18 @@ one_at_least test xs h = some_kept test xs (omega (arith, h, length-filter test 
 told_carried : (replies : List ReplyVersions) (v : Version) → list_any (λ (r : ReplyVersions). same_version r.committed v) replies ≡ true
     → list_any (λ w. same_version w v) (carried replies) ≡ true
 told_carried replies v h =
-    list_any-append (λ w. same_version w v) (map (λ (r : ReplyVersions). r.committed) replies) (map (λ (r : ReplyVersions). r.prepared) replies)
+    list_any-append (λ w. same_version w v)
+    (map (λ (r : ReplyVersions). r.committed) replies) (map (λ (r : ReplyVersions). r.prepared) replies)
     ∙ or_left _ _ (any_of_map (λ w. same_version w v) (λ (r : ReplyVersions). r.committed) replies ∙ h)
 
 prepared_carried : (c : Setting) (replies : List ReplyVersions) (v : Version) → IsPrepared c replies v
     → list_any (λ w. same_version w v) (carried replies) ≡ true
 prepared_carried c replies v h =
     let some = one_at_least (λ (r : ReplyVersions). same_version r.prepared v) replies (omega (arith, h)) in
-    list_any-append (λ w. same_version w v) (map (λ (r : ReplyVersions). r.committed) replies) (map (λ (r : ReplyVersions). r.prepared) replies)
-    ∙ ap (λ t. list_any (λ w. same_version w v) (map (λ (r : ReplyVersions). r.committed) replies) || t) (any_of_map (λ w. same_version w v) (λ (r : ReplyVersions). r.prepared) replies ∙ some)
+    list_any-append (λ w. same_version w v)
+    (map (λ (r : ReplyVersions). r.committed) replies) (map (λ (r : ReplyVersions). r.prepared) replies)
+    ∙ ap (λ t. list_any (λ w. same_version w v) (map (λ (r : ReplyVersions). r.committed) replies) || t)
+    (any_of_map (λ w. same_version w v) (λ (r : ReplyVersions). r.prepared) replies ∙ some)
     ∙ or_right _
 
 -- ---- the choice
@@ -97,7 +102,8 @@ pub choice_rests : (c : Setting) (replies : List ReplyVersions) (v : Version) (s
 choice_rests c replies v settled e f = by settled f
   where
     counted : counts c replies v ≡ true
-    counted = ap (counts c replies) e ∙ greatest_passes version_total (counts c replies) (carried replies) genesis (genesis_counts c replies)
+    counted =
+        ap (counts c replies) e ∙ greatest_passes version_total (counts c replies) (carried replies) genesis (genesis_counts c replies)
 
     by : (t : Bool) → t ≡ is_committed replies v → MatchBool (not t) (IsPrepared c replies v) (IsCommitted replies v)
     by true q = committed_fact replies v (sym q)
@@ -107,16 +113,20 @@ counted_below : (c : Setting) (replies : List ReplyVersions) (w : Version) → c
     → list_any (λ v. same_version v w) (carried replies) ≡ true → below (chosen c replies) w ≡ false
 counted_below c replies w h k =
     sym (not_less version_total w (chosen c replies))
-    ∙ each_within version_total (λ v. same_version v w) w (λ v e. (same_exactly v w).0 e) (filter (counts c replies) (carried replies)) genesis
-    (any-filter_same (λ v. same_version v w) (counts c replies) true (λ v e. ap (counts c replies) ((same_exactly v w).0 e) ∙ h) (carried replies) ∙ k)
+    ∙ each_within version_total (λ v. same_version v w) w
+    (λ v e. (same_exactly v w).0 e) (filter (counts c replies) (carried replies)) genesis
+    (any-filter_same (λ v. same_version v w)
+    (counts c replies) true (λ v e. ap (counts c replies) ((same_exactly v w).0 e) ∙ h) (carried replies) ∙ k)
 
 pub none_above : (c : Setting) (replies : List ReplyVersions) → NoneAbove c replies (chosen c replies)
 none_above c replies w (inl (inl e)) =
     subst (λ v. below (chosen c replies) v ≡ false) (sym e)
-    (sym (not_less version_total genesis (chosen c replies)) ∙ start_within version_total (filter (counts c replies) (carried replies)) genesis)
+    (sym (not_less version_total genesis (chosen c replies))
+    ∙ start_within version_total (filter (counts c replies) (carried replies)) genesis)
 none_above c replies w (inl (inr any)) =
     let told = told_test replies w any in
-    counted_below c replies w (committed_counts c replies w (ap (λ t. same_version w genesis || t) told ∙ or_right (same_version w genesis))) (told_carried replies w told)
+    counted_below c replies w (committed_counts c replies w
+    (ap (λ t. same_version w genesis || t) told ∙ or_right (same_version w genesis))) (told_carried replies w told)
 none_above c replies w (inr many) = counted_below c replies w (prepared_counts c replies w many) (prepared_carried c replies w many)
 
 pub choices_carried : ChoicesCarried
@@ -127,10 +137,13 @@ choices_carried c replies = choice_rests c replies (chosen c replies) (is_commit
 carried_below : (limit : Version) (replies : List ReplyVersions) → All (StandBelow limit) replies
     → list_all (λ v. below v limit) (carried replies) ≡ true
 carried_below limit replies all =
-    list_all-append (λ v. below v limit) (map (λ (r : ReplyVersions). r.committed) replies) (map (λ (r : ReplyVersions). r.prepared) replies)
+    list_all-append (λ v. below v limit)
+    (map (λ (r : ReplyVersions). r.committed) replies) (map (λ (r : ReplyVersions). r.prepared) replies)
     ∙ and_from _ _
-    (list_all-map (λ v. below v limit) (λ (r : ReplyVersions). r.committed) replies ∙ list_all-from_AllPass (λ (r : ReplyVersions). below r.committed limit) replies (λ k d h. (all k d h).committed))
-    (list_all-map (λ v. below v limit) (λ (r : ReplyVersions). r.prepared) replies ∙ list_all-from_AllPass (λ (r : ReplyVersions). below r.prepared limit) replies (λ k d h. (all k d h).prepared))
+    (list_all-map (λ v. below v limit) (λ (r : ReplyVersions). r.committed) replies
+    ∙ list_all-from_AllPass (λ (r : ReplyVersions). below r.committed limit) replies (λ k d h. (all k d h).committed))
+    (list_all-map (λ v. below v limit) (λ (r : ReplyVersions). r.prepared) replies
+    ∙ list_all-from_AllPass (λ (r : ReplyVersions). below r.prepared limit) replies (λ k d h. (all k d h).prepared))
 
 pub choices_stand_below : ChoicesStandBelow
 choices_stand_below c replies limit h all =

@@ -51,7 +51,8 @@ committed_fact exactly A c read (Some part) i fits h k =
     let seen = seen_fact read part.transaction h in
     record {
       seen = seen;
-      commits = (exactly A c part.transaction Commit part.certificate i fits.1.certificate seen.form).0 (no_refusal (refusal A c part.transaction Commit part.certificate) k);
+      commits = (exactly A c part.transaction Commit part.certificate i fits.1.certificate seen.form).0
+          (no_refusal (refusal A c part.transaction Commit part.certificate) k);
     }
 
 committed_seen : (A : Accepted) (c : Setting) (read : ReadValue) (o : Option CommittedValue) → IfSome o (IsSeenCommitted A c read)
@@ -73,10 +74,12 @@ valid_from exactly A c read reply i fits h =
     let mine = tested (answers c read reply) NotMine _ h in
     let signed = tested (accepts A (reply_signed reply)) BadSignature _ mine.1 in
     let sees = tested (sees_all read reply) BadVersion _ signed.1 in
-    let client = and_parts ((reply.shard == shard_of c read.key) && bytes_eq reply.key read.key && (reply.time == read.time)) (reply.client == read.client) mine.0 in
+    let client = and_parts ((reply.shard == shard_of c read.key) && bytes_eq reply.key read.key && (reply.time == read.time))
+    (reply.client == read.client) mine.0 in
     let time = and_parts ((reply.shard == shard_of c read.key) && bytes_eq reply.key read.key) (reply.time == read.time) client.0 in
     let key = and_parts (reply.shard == shard_of c read.key) (bytes_eq reply.key read.key) time.0 in
-    let both = and_parts (is_missing_or_seen read (option_map (λ (part : CommittedValue). part.transaction) reply.committed)) (is_missing_or_seen read reply.prepared) sees.0 in
+    let both = and_parts (is_missing_or_seen read (option_map (λ (part : CommittedValue). part.transaction) reply.committed))
+    (is_missing_or_seen read reply.prepared) sees.0 in
     record {
       shard = eqb-true reply.shard (shard_of c read.key) key.0;
       key = (bytes_eq-Decides reply.key read.key).0 key.1;
@@ -91,9 +94,11 @@ valid_to : CertificatesExactly → (A : Accepted) (c : Setting) (read : ReadValu
     → FitsReadReply (bounds_of c) reply → IsValidReply A c read reply → reply_fault A c read reply ≡ None
 valid_to exactly A c read reply i fits k =
     let mine : answers c read reply ≡ true =
-    and_from _ _ (and_from _ _ (and_from _ _ (eq-eqb reply.shard (shard_of c read.key) k.shard) ((bytes_eq-Decides reply.key read.key).1 k.key))
+    and_from _ _
+    (and_from _ _ (and_from _ _ (eq-eqb reply.shard (shard_of c read.key) k.shard) ((bytes_eq-Decides reply.key read.key).1 k.key))
     (eq-eqb reply.time read.time k.time)) (eq-eqb reply.client read.client k.client) in
-    let sees : sees_all read reply ≡ true = and_from _ _ (committed_seen A c read reply.committed k.committed) (prepared_test read reply.prepared k.prepared) in
+    let sees : sees_all read reply ≡ true =
+    and_from _ _ (committed_seen A c read reply.committed k.committed) (prepared_test read reply.prepared k.prepared) in
     passed (answers c read reply) NotMine _ mine
     (passed (accepts A (reply_signed reply)) BadSignature _ k.signed
     (passed (sees_all read reply) BadVersion _ sees (committed_proved exactly A c read reply.committed i fits.committed k.committed)))
@@ -169,7 +174,8 @@ only_contents A c read reply r h = told r (reply_fault A c read reply) h (of_con
 
 -- the signatures of the certificate inside, and the reply's own
 own_in : (reply : ReadReplyValue) → Contains (signed_in (ReadReply reply)) (reply_signed reply)
-own_in reply = Contains-append_right (committed_signed reply.committed) (reply_signed reply ∷ []) (reply_signed reply) (in_head (reply_signed reply) [])
+own_in reply = Contains-append_right (committed_signed reply.committed)
+    (reply_signed reply ∷ []) (reply_signed reply) (in_head (reply_signed reply) [])
 
 certificate_in : (reply : ReadReplyValue) (s : SignedBy) → Contains (committed_signed reply.committed) s
     → Contains (signed_in (ReadReply reply)) s
@@ -182,7 +188,8 @@ same_proof alike A B c (Some part) h = ap (option_map BadCertificate) (alike A B
 
 pub replies_alike : CertificatesAlike → RepliesAlike
 replies_alike alike A B c read reply h =
-    ap (λ (t : Bool). or_else (not_mine c read reply) (or_else (cond t None (Some BadSignature)) (or_else (bad_version read reply) (bad_certificate A c reply)))) (h (reply_signed reply) (own_in reply))
+    ap (λ (t : Bool). or_else (not_mine c read reply) (or_else (cond t None (Some BadSignature))
+    (or_else (bad_version read reply) (bad_certificate A c reply)))) (h (reply_signed reply) (own_in reply))
     ∙ ap (λ (o : Option FrameFault). or_else (not_mine c read reply) (or_else (bad_signature B reply) (or_else (bad_version read reply) o)))
     (same_proof alike A B c reply.committed (λ s i. h s (certificate_in reply s i)))
 
@@ -190,7 +197,8 @@ proof_carries : CertificatesCarry → (A B : Accepted) (c : Setting) (o : Option
     → option_and_then (bad_proof A c) o ≡ None → option_and_then (bad_proof B c) o ≡ None
 proof_carries carry A B c None m h = refl
 proof_carries carry A B c (Some part) m h =
-    ap (option_map BadCertificate) (carry A B c part.transaction Commit part.certificate m (no_refusal (refusal A c part.transaction Commit part.certificate) h))
+    ap (option_map BadCertificate)
+    (carry A B c part.transaction Commit part.certificate m (no_refusal (refusal A c part.transaction Commit part.certificate) h))
 
 pub replies_carry : CertificatesCarry → RepliesCarry
 replies_carry carry A B c read reply m h =

@@ -42,7 +42,8 @@ module _ {K : Type 0} {R : K → K → Ordering} (o : IsTotalOrder R) where
   -- nothing is above the greatest of it and more
   pub start_within : (xs : List K) (a : K) → is_gt (R a (fold (ord_max R) a xs)) ≡ false
   start_within [] a = itself_within a
-  start_within (x ∷ xs) a = upto o a (ord_max R a x) (fold (ord_max R) (ord_max R a x) xs) (first_within a x) (start_within xs (ord_max R a x))
+  start_within (x ∷ xs) a =
+      upto o a (ord_max R a x) (fold (ord_max R) (ord_max R a x) xs) (first_within a x) (start_within xs (ord_max R a x))
 
   pub each_within : (test : K → Bool) (x : K) → ((y : K) → test y ≡ true → y ≡ x) → (xs : List K) (a : K) → list_any test xs ≡ true
       → is_gt (R x (fold (ord_max R) a xs)) ≡ false

@@ -1,6 +1,8 @@
 -- No call and no frame takes a slot away.
-use Rattle.std.proofs.Common.{◌≡◌, ◌∙◌, ℕ, zero, suc, ◌+◌, ◌≤◌, ◌<◌, Bool, true, false, cond, List, [], ◌∷◌, ◌++◌, length, refl, sym, ap, subst, arith}
-use Rattle.std.specs.Prelude.{◌||◌, Option, Some, None, Result, Ok, Err, OnErr, option_and_then, option_map, slice_get, slice_set, position, is_some, if◌then◌else◌, ◌==◌, not, nat_lt, nat_le, ◌&&◌}
+use Rattle.std.proofs.Common.{◌≡◌, ◌∙◌, ℕ, zero, suc, ◌+◌, ◌≤◌, ◌<◌, Bool, true, false}
+use Rattle.std.proofs.Common.{cond, List, [], ◌∷◌, ◌++◌, length, refl, sym, ap, subst, arith}
+use Rattle.std.specs.Prelude.{◌||◌, Option, Some, None, Result, Ok, Err, OnErr, option_and_then, option_map}
+use Rattle.std.specs.Prelude.{slice_get, slice_set, position, is_some, if◌then◌else◌, ◌==◌, not, nat_lt, nat_le, ◌&&◌}
 use Rattle.std.proofs.lemmas.Bool.{leb-true, ltb-true}
 use Rattle.std.proofs.lemmas.Option.{same_Some}
 use Rattle.std.specs.Option.{option_map_or}
@@ -30,7 +32,8 @@ use Rattle.client_recover.specs.Taken.{PursuitValue, TakenValue, TakenVote, Take
 use Rattle.frame_views.specs.declared.fault.BadFrame.{BadFrame}
 use Rattle.frame_views.specs.Fitting.{bounds_of, IsSignature}
 use Rattle.frame_views.specs.Frames.{frame_in}
-use Rattle.frame_views.specs.Values.{MessageValue, Read, ReadReply, St1, Vote, St2, LogReply, Writeback, Recover, Invoke, Elect, Decide, ReadReplyValue}
+use Rattle.frame_views.specs.Values.{MessageValue, Read, ReadReply, St1, Vote, St2, LogReply}
+use Rattle.frame_views.specs.Values.{Writeback, Recover, Invoke, Elect, Decide, ReadReplyValue}
 use Rattle.node_steps.specs.Pens.{PenValue, after_one}
 use Rattle.node_steps.specs.Refusing.{unless, when}
 use Rattle.txn_meta.specs.Form.{form_fault}
@@ -199,7 +202,8 @@ recover_holds me v t signature d e =
 
     done : (o : Option ℕ) → slot_of_id v (id t) ≡ o
         → IsHeld (option_map_or (λ (place : ℕ). place) o (length v.slots)) (calls.recover_by me v t signature o)
-    done None at = (push_keeps v (calls.recovered_slot t signature), least (length v.slots) _ (push_count v.slots (calls.recovered_slot t signature)))
+    done None at =
+        (push_keeps v (calls.recovered_slot t signature), least (length v.slots) _ (push_count v.slots (calls.recovered_slot t signature)))
     done (Some place) at =
         let p = option_and_then (λ (s : SlotValue). s.pursuit) (slice_get v.slots place) in
         subst (λ (w : ClientValue). Keeps v w × (place < length w.slots)) (sym (same p))

@@ -1,11 +1,13 @@
 -- A client of a run that is asked.
-use Rattle.std.proofs.Common.{◌≡◌, ◌<◌, ◌≤◌, ℕ, zero, suc, Bool, true, false, List, [], ◌∷◌, Ok, Err, length, map, refl, sym, ap, subst, ◌∙◌, arith}
+use Rattle.std.proofs.Common.{◌≡◌, ◌<◌, ◌≤◌, ℕ, zero, suc, Bool, true, false, List, []}
+use Rattle.std.proofs.Common.{◌∷◌, Ok, Err, length, map, refl, sym, ap, subst, ◌∙◌, arith}
 use Rattle.std.proofs.lemmas.Bool.{leb-false, leb-true}
 use Rattle.std.proofs.lemmas.Option.{same_Some}
 use Rattle.std.specs.Prelude.{◌≢◌, Result, IfOk, Option, Some, None, nat_le, slice_get, ◌&&◌}
 use Rattle.basil_types.specs.declared.transaction.parts.WritePart.{WritePart}
 use Rattle.node_steps.specs.Refusing.{unless}
-use Rattle.client_core.specs.Calls.{by_slot, call_write, invoke_by, prepare_done, prepare_fault, read_at, settle_by, write_done, write_fault}
+use Rattle.client_core.specs.Calls.{by_slot, call_write, invoke_by, prepare_done}
+use Rattle.client_core.specs.Calls.{prepare_fault, read_at, settle_by, write_done, write_fault}
 use Rattle.client_core.specs.declared.ask.Ask.TheVariants as asks
 use Rattle.basil_types.specs.declared.memory.NoMemory.{NoMemory}
 use Rattle.basil_types.specs.declared.outbox.Outbox.{Outbox}

@@ -124,7 +124,10 @@ module _ {V S : Type 0} (v : verifiers.Ghosts V) (g : signers.Ghosts S) (s : Set
         d.done,
         d.is,
         fits_as_told room d.done.sent t.sent messages bytes (ap (λ (t : Told). t.sent) d.tells) counts ∙ has,
-        record { messages = p.messages ∙ sym (ap (λ (t : Told). t.sent) d.tells); signed = p.signed ∙ sym (ap (λ (t : Told). t.signed) d.tells) },
+        record {
+          messages = p.messages ∙ sym (ap (λ (t : Told). t.sent) d.tells);
+          signed = p.signed ∙ sym (ap (λ (t : Told). t.signed) d.tells);
+        },
         record {
           own = own_kept old new k st;
           moment = k.moment ∙ st.moment;

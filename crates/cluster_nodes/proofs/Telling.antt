@@ -1,5 +1,6 @@
 -- What a plan of a replica sends, counted.
-use Rattle.std.proofs.Common.{◌≡◌, ◌+◌, ◌<◌, ◌≤◌, ℕ, List, [], suc, ◌∷◌, ◌++◌, Option, Some, None, length, map, refl, sym, ap, ◌∙◌, subst, arith}
+use Rattle.std.proofs.Common.{◌≡◌, ◌+◌, ◌<◌, ◌≤◌, ℕ, List, [], suc, ◌∷◌, ◌++◌, Option}
+use Rattle.std.proofs.Common.{Some, None, length, map, refl, sym, ap, ◌∙◌, subst, arith}
 use Rattle.std.specs.Prelude.{◌-◌}
 use Rattle.basil_types.specs.declared.outbox.Envelope.{Envelope}
 use Rattle.basil_types.specs.Transaction.{long_text}
@@ -111,7 +112,8 @@ released_counts signing [] t m b gives left counts =
 released_counts signing (r ∷ rs) t m b gives left counts =
     let here : 0 < t.book.pen.left = omega (arith, left) in
     let frames = r.pending.frames.items in
-    same_counts _ ((m + length frames) + knowing.frames_in rs) _ ((b + bytes_in signing.size frames) + knowing.release_bytes signing.size rs) _
+    same_counts _ ((m + length frames) + knowing.frames_in rs) _
+    ((b + bytes_in signing.size frames) + knowing.release_bytes signing.size rs) _
     (omega arith) (omega arith)
     (released_counts signing rs (knowing.released_told signing t r) (m + length frames) (b + bytes_in signing.size frames)
     (gives_next signing t.book.pen gives here) (omega (arith, left)) (signed_counts signing t m b gives counts r.pending here))

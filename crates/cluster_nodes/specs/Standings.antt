@@ -19,7 +19,8 @@ use Rattle.cluster_nodes.specs.declared.standing.StandingReplica.{StandingReplic
 use Rattle.cluster_nodes.specs.Sizes.{GivesItsSize}
 
 -- a keyring that accepts this, and a pen at this place that signs so, are those of a kit for a party, of one size
-pub record IsOf (k : KitValue) (party : Party) (accepts : Accepted) (signing : Signing) (place : PenValue) : Type 0 where
+pub record IsOf (k : KitValue) (party : Party)
+    (accepts : Accepted) (signing : Signing) (place : PenValue) : Type 0 where
   pub accepted : accepts ≡ k.accepts
   pub signed : signing ≡ k.signing party
   pub begins : place ≡ k.pen party

@@ -1,6 +1,7 @@
 //! A client of a run.
 
-ghost use Rattle.std.specs.Prelude.{◌≡◌, ◌≤◌, ◌<◌, ℕ, [], true, false, IfOk, IfSome, Ok, length, option_map, option_and_then, slice_get};
+ghost use Rattle.std.specs.Prelude.{◌≡◌, ◌≤◌, ◌<◌, ℕ, [], true, false, IfOk, IfSome};
+ghost use Rattle.std.specs.Prelude.{Ok, length, option_map, option_and_then, slice_get};
 ghost use Rattle.basil_types.specs.declared.party.Party.TheVariants as parties;
 ghost use Rattle.certificates.specs.Deciding.{HasGoodForm};
 ghost use Rattle.client_core.specs.Asks.{CanBeAsked, answer_to};
@@ -152,9 +153,9 @@ impl<V: Verifier, S: Signer> StandingClient<V, S> {
         self.client.value(slot, key)
     }
 
-    /// Asks the client for a call that may send, or hands it a frame. It answers as the rules say, where what it sends has
-    /// room; else, and where it refuses or memory is wanting, it holds what it held. Of a slot that isn't held nothing
-    /// happens.
+    /// Asks the client for a call that may send, or hands it a frame. It answers as the rules say, where what it sends
+    /// has room; else, and where it refuses or memory is wanting, it holds what it held. Of a slot that isn't held
+    /// nothing happens.
     pub fn take(&mut self, room: Room, ask: Ask<'_>) -> Result<Handled<AskFault>, NoMemory>
         requires { HasSignature ask }
         ensures kind { IfOk result (IsOfKind ask.entry) }

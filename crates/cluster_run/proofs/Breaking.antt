@@ -414,7 +414,8 @@ module _ (s : Setup) where
       of_tx P tx (writes_at s tx w) (λ b. slot_words b (λ slot. client_words b.client (λ c. call_write c slot w) st)) st same bad
       (λ b bad. maybe P b.slot (λ slot. by_client s b.client (λ c. call_write c slot w) st)
       (λ slot. client_words b.client (λ c. call_write c slot w) st) _ st bad
-      (λ slot bad. by_clients P b.client (λ c. call_write c slot w) st same bad) (λ bad. unformed P b (write_fits w) _ (stay P st (set_begun tx (record b { writes = put_write w b.writes }) st) bad same refl)))
+      (λ slot bad. by_clients P b.client (λ c. call_write c slot w) st same bad)
+      (λ bad. unformed P b (write_fits w) _ (stay P st (set_begun tx (record b { writes = put_write w b.writes }) st) bad same refl)))
   events (event.Claim tx key None) st same P sight bad =
       plain P (slice_get st.begun tx) (λ b. claims_at tx key (Some genesis) b st) st same bad
       (λ b. claims P tx key (Some genesis) b st same bad)

@@ -30,7 +30,8 @@ use Rattle.client_core.specs.Frames.{reply_taken, held_at_slot, read_asked}
 use Rattle.client_recover.specs.Pursuits.{PursuitDone, start_second, still, settle, tell, go_on, took, take_frame, outcome}
 use Rattle.basil_types.specs.Built.{key_fits, value_fits, write_fits}
 use Rattle.basil_types.specs.Texts.{IsBytes, IsKey}
-use Rattle.client_core.specs.Slots.{key_asked, is_of, asked, put_read, put_write, is_chosen, slot_of_id, slot_of_time, with_slot, with_pursuit}
+use Rattle.client_core.specs.Slots.{key_asked, is_of, asked, put_read, put_write, is_chosen}
+use Rattle.client_core.specs.Slots.{slot_of_id, slot_of_time, with_slot, with_pursuit}
 use Rattle.certificates.specs.declared.fault.FrameFault.{FrameFault}
 use Rattle.certificates.specs.declared.fault.FrameFault.TheVariants.{NotMine}
 use Rattle.client_reads.specs.Replies.{reply_fault}

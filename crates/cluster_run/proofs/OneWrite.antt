@@ -18,7 +18,8 @@ use Rattle.frame_views.specs.Values.{MessageValue, VotedValue, CertificateValue,
 use Rattle.replica_core.specs.Answers.{answer_read_frame}
 use Rattle.replica_core.specs.Replicas.{BookValue}
 use Rattle.txn_table.specs.Entries.{Voted}
-use Rattle.cluster_run.specs.Parts.{read_frame, see_message, enter_all, saw, noted, posted, are_bytes, handle, replica_did, replica_self, client_did, client_self}
+use Rattle.cluster_run.specs.Parts.{read_frame, see_message, enter_all, saw, noted, posted, are_bytes}
+use Rattle.cluster_run.specs.Parts.{handle, replica_did, replica_self, client_did, client_self}
 use Rattle.cluster_run.specs.Events as event
 use Rattle.cluster_run.specs.Events.{EventValue, happens, kept, run, begun_by}
 use Rattle.cluster_run.specs.declared.fault.WorldFault.{WorldFault}

@@ -23,7 +23,8 @@ use Rattle.replica_core.specs.Reads.{answer_read, read_done, from_future}
 use Rattle.replica_core.specs.FirstStage.{first_stage}
 use Rattle.replica_core.specs.SecondStage.{logs_here, log_or_reply, recover_by}
 use Rattle.replica_core.specs.Invokes.{invoke_logged}
-use Rattle.replica_core.specs.Elections.{word_of, kept_after, propose_done, collect_by, collect, answer_elect, not_leader, not_adopted, bad_election, adopt_done, adopt_by}
+use Rattle.replica_core.specs.Elections.{word_of, kept_after, propose_done, collect_by, collect, answer_elect}
+use Rattle.replica_core.specs.Elections.{not_leader, not_adopted, bad_election, adopt_done, adopt_by}
 use Rattle.replica_core.specs.Refusals.{refused}
 use Rattle.replica_core.specs.Answers.{answer_kind, answer_message}
 use Rattle.agreement_laws.specs.Words as laws

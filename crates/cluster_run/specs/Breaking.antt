@@ -1,5 +1,6 @@
 -- When a breach that ends a run is real.
-use Rattle.std.specs.Prelude.{◌≡◌, ◌⊎◌, ℕ, List, [], ◌∷◌, ◌++◌, not, ◌||◌, false, true, Option, Some, None, option_and_then, Result, Ok, Err, Contains, map, slice_get, if◌then◌else◌}
+use Rattle.std.specs.Prelude.{◌≡◌, ◌⊎◌, ℕ, List, [], ◌∷◌, ◌++◌, not, ◌||◌, false, true, Option, Some, None}
+use Rattle.std.specs.Prelude.{option_and_then, Result, Ok, Err, Contains, map, slice_get, if◌then◌else◌}
 use Rattle.std.specs.Option.{option_map_or}
 use Rattle.basil_types.specs.Id.{id_of}
 use Rattle.basil_types.specs.declared.party.Party.{Party}
@@ -7,7 +8,8 @@ use Rattle.basil_types.specs.declared.party.Party.TheVariants.{Replica, Client}
 use Rattle.basil_types.specs.Transaction.{id}
 use Rattle.basil_types.specs.Words.{SignedWords, words_of}
 use Rattle.client_core.specs.Answers.{on_frame}
-use Rattle.client_core.specs.Calls.{call_begin, call_read, call_write, call_prepare, call_settle, call_recover, call_invoke}
+use Rattle.client_core.specs.Calls.{call_begin, call_read, call_write, call_prepare}
+use Rattle.client_core.specs.Calls.{call_settle, call_recover, call_invoke}
 use Rattle.client_core.specs.Clients.{ClientValue, ClientDone}
 use Rattle.client_core.specs.Slots.{slot_of_id}
 use Rattle.frame_views.specs.Values.{MessageValue}
@@ -25,7 +27,8 @@ use Rattle.cluster_run.specs.Events.{EventValue, held_call, happens, kept, run}
 use Rattle.cluster_run.specs.Headline.{IsSafe}
 use Rattle.cluster_run.specs.Parts.{are_bytes, read_frame, replica_self, client_self}
 use Rattle.cluster_run.specs.Safety.{AreEvents, AreSigned}
-use Rattle.cluster_run.specs.States.{posted_at, Setup, IsSetup, is_faulty, Posted, BegunValue, FormedValue, Standing, standing, client_at, State, start}
+use Rattle.cluster_run.specs.States.{posted_at, Setup, IsSetup, is_faulty, Posted, BegunValue}
+use Rattle.cluster_run.specs.States.{FormedValue, Standing, standing, client_at, State, start}
 
 -- ---- a breach, against what had been signed
 

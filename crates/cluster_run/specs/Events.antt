@@ -1,5 +1,7 @@
 -- Events, what each does, and the fold over a list of them.
-use Rattle.std.specs.Prelude.{ℕ, ◌-◌, List, [], ◌∷◌, ◌++◌, Bool, false, ◌&&◌, ◌==◌, Option, Some, None, option_map, option_and_then, Result, Ok, Err, slice_get, slice_set, length, is_some, nat_lt, if◌then◌else◌}
+use Rattle.std.specs.Prelude.{ℕ, ◌-◌, List, [], ◌∷◌, ◌++◌, Bool, false, ◌&&◌, ◌==◌, Option}
+use Rattle.std.specs.Prelude.{Some, None, option_map, option_and_then, Result, Ok, Err}
+use Rattle.std.specs.Prelude.{slice_get, slice_set, length, is_some, nat_lt, if◌then◌else◌}
 use Rattle.std.specs.Option.{option_map_or}
 use Rattle.node_steps.specs.Lists.{by_key, put}
 use Rattle.node_steps.specs.Refusing.{unless_refused}
@@ -16,7 +18,8 @@ use Rattle.basil_types.specs.Transaction.{id, version_of, key_of_read}
 use Rattle.basil_types.specs.Words.{TransactionWords}
 use Rattle.client_core.specs.declared.fault.CallFault.{CallFault}
 use Rattle.client_core.specs.declared.fault.CallFault.TheVariants.{NotOpen, TooMany, SizeOut, Empty, NotPrepared}
-use Rattle.client_core.specs.Calls.{most_keys, call_begin, call_read, call_write, call_prepare, call_settle, call_recover, call_invoke}
+use Rattle.client_core.specs.Calls.{most_keys, call_begin, call_read, call_write}
+use Rattle.client_core.specs.Calls.{call_prepare, call_settle, call_recover, call_invoke}
 use Rattle.client_core.specs.Clients.{ClientValue, ClientDone, SlotValue}
 use Rattle.client_recover.specs.Taken.{PursuitValue}
 use Rattle.client_recover.specs.Pursuits.{to_involved}
@@ -27,9 +30,11 @@ pub use Rattle.message_pool.specs.Posts.{lost}
 use Rattle.premise_watch.specs.declared.broken.Broken.{Broken}
 use Rattle.cluster_run.specs.declared.fault.WorldFault.{WorldFault}
 use Rattle.cluster_run.specs.declared.fault.WorldFault.TheVariants as fault
-use Rattle.cluster_run.specs.States.{Setup, is_faulty, Posted, Delivered, BegunValue, FormedValue, Standing, put_standing, standing, client_at, posted_at, State}
+use Rattle.cluster_run.specs.States.{Setup, is_faulty, Posted, Delivered, BegunValue, FormedValue}
+use Rattle.cluster_run.specs.States.{Standing, put_standing, standing, client_at, posted_at, State}
 use Rattle.cluster_run.specs.Parts.{see, enter, send, hand, client_self}
-use Rattle.cluster_run.specs.Faulty.{faulty_signature, after_lie, has_left, lies, faulty_vote, faulty_reply, faulty_word, faulty_proposal, faulty_second}
+use Rattle.cluster_run.specs.Faulty.{faulty_signature, after_lie, has_left, lies, faulty_vote}
+use Rattle.cluster_run.specs.Faulty.{faulty_reply, faulty_word, faulty_proposal, faulty_second}
 
 -- What a schedule's lines do. Transactions are numbered from 0 as they begin, messages from 1 as they enter the pool.
 pub data EventValue : Type 0 where

@@ -1,5 +1,6 @@
 -- What faulty parties sign and send, as a schedule says it.
-use Rattle.std.specs.Prelude.{ℕ, ◌+◌, List, [], ◌∷◌, ◌++◌, Bool, not, ◌&&◌, ◌==◌, Option, Some, None, Result, Ok, Err, filter, filter_map, find, map, length, take, slice_get, nat_lt, nat_le, if◌then◌else◌}
+use Rattle.std.specs.Prelude.{ℕ, ◌+◌, List, [], ◌∷◌, ◌++◌, Bool, not, ◌&&◌, ◌==◌, Option, Some, None, Result, Ok, Err}
+use Rattle.std.specs.Prelude.{filter, filter_map, find, map, length, take, slice_get, nat_lt, nat_le, if◌then◌else◌}
 use Rattle.std.specs.List.{count_by}
 use Rattle.std.specs.Option.{option_map_or}
 use Rattle.std.specs.Str.{bytes_eq}
@@ -17,7 +18,8 @@ use Rattle.frame_views.specs.declared.fault.BadFrame.{BadFrame}
 use Rattle.frame_views.specs.Fitting.{bounds_of}
 use Rattle.frame_views.specs.Frames.{frame_in}
 use Rattle.frame_views.specs.Signed.{vote_signed, word_signed}
-use Rattle.frame_views.specs.Values.{MessageValue, VotedValue, TallyValue, ElectValue, WordValue, LogReplyValue, DecideValue, St2Value}
+use Rattle.frame_views.specs.Values.{MessageValue, VotedValue, TallyValue, ElectValue}
+use Rattle.frame_views.specs.Values.{WordValue, LogReplyValue, DecideValue, St2Value}
 use Rattle.frame_views.specs.Values.{Vote, St2, LogReply, Elect, Decide}
 use Rattle.node_steps.specs.Envelopes.{EnvelopeValue}
 use Rattle.node_steps.specs.Lists.{firsts, by_number}

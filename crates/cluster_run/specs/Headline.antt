@@ -1,5 +1,6 @@
 -- When a run is safe.
-use Rattle.std.specs.Prelude.{◌≡◌, ℕ, List, Bool, false, true, Option, Some, None, option_map, option_and_then, Ok, Contains, filter, map, slice_get}
+use Rattle.std.specs.Prelude.{◌≡◌, ℕ, List, Bool, false, true, Option, Some, None, option_map}
+use Rattle.std.specs.Prelude.{option_and_then, Ok, Contains, filter, map, slice_get}
 use Rattle.basil_types.specs.declared.party.Party.TheVariants.{Client}
 use Rattle.basil_types.specs.declared.party.Decision.{Decision}
 use Rattle.basil_types.specs.declared.party.Decision.TheVariants.{Commit, Abort}

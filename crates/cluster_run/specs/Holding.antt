@@ -1,6 +1,7 @@
 -- What a client holds of its slots, and what it keeps and signs at a call or a frame.
 use Rattle.basil_types.specs.Texts.{IsBytes, IsKey, IsValue}
-use Rattle.std.specs.Prelude.{◌≡◌, ℕ, ◌+◌, ◌<◌, ◌^◌, length, ◌≤◌, List, [], ◌∷◌, true, false, Option, Some, None, Contains, Ok, is_some, Bool, slice_get}
+use Rattle.std.specs.Prelude.{◌≡◌, ℕ, ◌+◌, ◌<◌, ◌^◌, length, ◌≤◌, List, [], ◌∷◌, true, false}
+use Rattle.std.specs.Prelude.{Option, Some, None, Contains, Ok, is_some, Bool, slice_get}
 use Rattle.std.specs.declared.cmp.Ordering.TheVariants.{Less}
 use Rattle.std.specs.Ordering.{nat_cmp}
 use Rattle.std.specs.Cmp.Lexicographic.{slice_cmp}
@@ -10,7 +11,8 @@ use Rattle.basil_types.specs.Words.{SignedWords, TransactionWords}
 use Rattle.client_reads.specs.Replies.{reply_fault}
 use Rattle.frame_views.specs.Values.{MessageValue, ReadValue, ReadReplyValue, ReadReply}
 use Rattle.client_core.specs.Answers.{on_message}
-use Rattle.client_core.specs.Calls.{formed, call_begin, call_read, call_write, call_prepare, call_settle, call_recover, call_invoke}
+use Rattle.client_core.specs.Calls.{formed, call_begin, call_read, call_write}
+use Rattle.client_core.specs.Calls.{call_prepare, call_settle, call_recover, call_invoke}
 use Rattle.client_core.specs.Clients.{ClientSelf, AskedRead, SlotValue, ClientValue, ClientDone}
 use Rattle.client_recover.specs.Taken.{PursuitValue}
 use Rattle.client_core.specs.Slots.{key_asked, is_chosen}

@@ -7,7 +7,8 @@ use Rattle.frame_views.specs.Values.{MessageValue}
 use Rattle.basil_types.specs.declared.transaction.parts.WritePart.{WritePart}
 use Rattle.basil_types.specs.Setting.{Setting, IsSetting}
 use Rattle.client_core.specs.Answers.{on_frame}
-use Rattle.client_core.specs.Calls.{call_begin, call_read, call_write, call_prepare, call_settle, call_recover, call_invoke}
+use Rattle.client_core.specs.Calls.{call_begin, call_read, call_write, call_prepare}
+use Rattle.client_core.specs.Calls.{call_settle, call_recover, call_invoke}
 use Rattle.frame_views.specs.Fitting.{FitsMessage, bounds_of}
 use Rattle.frame_views.specs.Frames.{frame_in}
 use Rattle.cluster_run.specs.Answering.{AllWords}

@@ -1,5 +1,6 @@
 -- The parts of events: frames are seen, nodes answer, messages enter the pool.
-use Rattle.std.specs.Prelude.{ℕ, ◌+◌, ◌-◌, List, [], ◌∷◌, ◌++◌, Bool, not, ◌&&◌, ◌||◌, Option, Some, None, Result, Ok, Err, filter, map, length, slice_set, sum, nat_lt, nat_le, is_none, if◌then◌else◌}
+use Rattle.std.specs.Prelude.{ℕ, ◌+◌, ◌-◌, List, [], ◌∷◌, ◌++◌, Bool, not, ◌&&◌, ◌||◌, Option, Some, None, Result}
+use Rattle.std.specs.Prelude.{Ok, Err, filter, map, length, slice_set, sum, nat_lt, nat_le, is_none, if◌then◌else◌}
 use Rattle.std.specs.List.{list_all}
 use Rattle.basil_types.specs.Steps.{◌>>=◌}
 use Rattle.basil_types.specs.declared.party.Party.{Party}
@@ -26,7 +27,8 @@ use Rattle.node_steps.specs.Envelopes.{EnvelopeValue}
 use Rattle.txn_meta.specs.Form.{form_fault}
 use Rattle.cluster_run.specs.declared.fault.WorldFault.{WorldFault}
 use Rattle.cluster_run.specs.declared.fault.WorldFault.TheVariants as fault
-use Rattle.cluster_run.specs.States.{Setup, is_faulty, Posted, Waiting, Standing, put_standing, standing, client_at, State}
+use Rattle.cluster_run.specs.States.{Setup, is_faulty, Posted, Waiting, Standing}
+use Rattle.cluster_run.specs.States.{put_standing, standing, client_at, State}
 use Rattle.frame_views.specs.Carried.{pairs_in}
 
 -- ---- seeing

@@ -2,7 +2,8 @@
 use Rattle.std.specs.Prelude.{◌≡◌, ℕ, List, Bool, false, Option, Some, None, filter_map}
 use Rattle.basil_types.specs.Setting.{Setting}
 use Rattle.basil_types.specs.Transaction.{TransactionValue, id}
-use Rattle.basil_types.specs.Words.{SignedWords, TransactionWords, VoteWords, ReadReplyWords, LogReplyWords, ElectionWords, ProposalWords}
+use Rattle.basil_types.specs.Words.{SignedWords, TransactionWords, VoteWords, ReadReplyWords}
+use Rattle.basil_types.specs.Words.{LogReplyWords, ElectionWords, ProposalWords}
 use Rattle.txn_table.specs.declared.released.Home.{Home}
 use Rattle.agreement_laws.specs.Words as laws
 use Rattle.agreement_laws.specs.Settings as settings

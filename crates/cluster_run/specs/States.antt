@@ -1,5 +1,6 @@
 -- The state of a run.
-use Rattle.std.specs.Prelude.{ℕ, ◌-◌, ◌≤◌, ◌==◌, ◌&&◌, find, nat_le, slice_get, if◌then◌else◌, List, [], ◌∷◌, Bool, Option, None, map}
+use Rattle.std.specs.Prelude.{ℕ, ◌-◌, ◌≤◌, ◌==◌, ◌&&◌, find, nat_le, slice_get}
+use Rattle.std.specs.Prelude.{if◌then◌else◌, List, [], ◌∷◌, Bool, Option, None, map}
 use Rattle.std.specs.List.{flat_map, list_any, range_with_len}
 use Rattle.basil_types.specs.declared.party.Party.{Party}
 use Rattle.basil_types.specs.declared.party.Party.TheVariants.{Replica, Client}

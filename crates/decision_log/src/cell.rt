@@ -53,7 +53,8 @@ pub fn enter(cell: LogCell, view: u64) -> LogCell
 }
 
 /// The cell that the decision of a view's leader leaves, made anew if there was none; or why the decision isn't adopted
-/// (Basil, fallback): the view is above the one in which the logged decision was decided, and not below the current one.
+/// (Basil, fallback): the view is above the one in which the logged decision was decided, and not below the current
+/// one.
 pub fn adopt(cell: Option<LogCell>, decision: Decision, view: u64) -> Result<LogCell, LogFault>
     ensures value { IfOk result (λ new. new ≡ cell_of decision view) }
     ensures lawful { OnOk result (adopt_fault cell view ≡ None) }

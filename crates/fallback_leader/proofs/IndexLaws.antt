@@ -1,5 +1,6 @@
 -- The index of the words that are kept, and its changes.
-use Rattle.std.proofs.Common.{◌≡◌, ℕ, subst, ◌-◌, Bool, true, false, cond, List, [], ◌∷◌, ◌++◌, length, take, Option, Some, None, Vec, Global, refl, sym, ap, ◌∙◌, append-nil, length-append, arith}
+use Rattle.std.proofs.Common.{◌≡◌, ℕ, subst, ◌-◌, Bool, true, false, cond, List, [], ◌∷◌, ◌++◌, length, take}
+use Rattle.std.proofs.Common.{Option, Some, None, Vec, Global, refl, sym, ap, ◌∙◌, append-nil, length-append, arith}
 use Rattle.std.specs.Prelude.{◌==◌}
 use Rattle.std.specs.Option.{option_map_or}
 use Rattle.std.specs.Str.{bytes_eq}
@@ -8,7 +9,8 @@ use Rattle.std.proofs.lemmas.Bool.{and_parts, eqb-true}
 use Rattle.fallback_leader.specs.declared.words.KeptWord.{KeptWord}
 use Rattle.fallback_leader.specs.declared.index.Index.{Index}
 use Rattle.fallback_leader.specs.Elections.{is_of, words_of, has_word, is_heard}
-use Rattle.fallback_leader.specs.Index.{places_of, words_at, same_key, group_at, places_at, IsIndexOf, IsSame, Adds, TakesBack, without_last}
+use Rattle.fallback_leader.specs.Index.{places_of, words_at, same_key, group_at, places_at}
+use Rattle.fallback_leader.specs.Index.{IsIndexOf, IsSame, Adds, TakesBack, without_last}
 use Rattle.fallback_leader.specs.Collectors.{IsKept}
 use Rattle.fallback_leader.proofs.WordLaws.{is_heard-words_of}
 use Rattle.fallback_leader.proofs.PlaceLaws.{words_at-places_of, length-places_of, places_of-push}
@@ -37,21 +39,25 @@ Puts old new id view w = (i : List ℕ) (v : ℕ) → group_at new i v ≡ cond 
 listed : Option (Vec ℕ Global) → List ℕ
 listed group = option_map_or (λ places. places.items) group []
 
-same_group : (index : Index) (id : List ℕ) (view : ℕ) (i : List ℕ) (v : ℕ) → same_key id view i v ≡ true → group_at index i v ≡ group_at index id view
+same_group : (index : Index) (id : List ℕ) (view : ℕ) (i : List ℕ) (v : ℕ) →
+    same_key id view i v ≡ true → group_at index i v ≡ group_at index id view
 same_group index id view i v e =
     let parts = and_parts (bytes_eq id i) (view == v) e in
     sym (ap (λ i. group_at index i view) (same_text id i (sym parts.0)) ∙ ap (λ v. group_at index i v) (eqb-true view v parts.1))
 
-pub adds : (old new : Index) (id : List ℕ) (view place : ℕ) (u w : Vec ℕ Global) → group_at old id view ≡ Some u → w.items ≡ u.items ++ place ∷ [] →
+pub adds : (old new : Index) (id : List ℕ) (view place : ℕ) (u w : Vec ℕ Global) →
+    group_at old id view ≡ Some u → w.items ≡ u.items ++ place ∷ [] →
     Puts old new id view w → Adds old new id view place
 unfolding listed
 adds old new id view place u w there more puts i v = ap listed (puts i v) ∙ by (same_key id view i v) refl
   where
-    by : (b : Bool) → same_key id view i v ≡ b → listed (cond b (Some w) (group_at old i v)) ≡ listed (group_at old i v) ++ cond b (place ∷ []) []
+    by : (b : Bool) → same_key id view i v ≡ b →
+        listed (cond b (Some w) (group_at old i v)) ≡ listed (group_at old i v) ++ cond b (place ∷ []) []
     by true e = more ∙ ap (λ g. listed g ++ place ∷ []) (sym (same_group old id view i v e ∙ there))
     by false e = sym (append-nil (listed (group_at old i v)))
 
-pub takes_back : (old new : Index) (id : List ℕ) (view : ℕ) (u w : Vec ℕ Global) → group_at old id view ≡ Some u → w.items ≡ without_last u.items →
+pub takes_back : (old new : Index) (id : List ℕ) (view : ℕ) (u w : Vec ℕ Global) →
+    group_at old id view ≡ Some u → w.items ≡ without_last u.items →
     Puts old new id view w → TakesBack old new id view
 unfolding listed
 takes_back old new id view u w there fewer puts i v = ap listed (puts i v) ∙ by (same_key id view i v) refl

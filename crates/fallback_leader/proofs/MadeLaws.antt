@@ -1,5 +1,6 @@
 -- What a proposal is made of, on the definitions alone.
-use Rattle.std.proofs.Common.{◌≡◌, ℕ, zero, suc, ◌+◌, ◌<◌, ◌≤◌, Bool, true, false, cond, not, ◌&&◌, List, [], ◌∷◌, ◌++◌, length, map, Some, None, refl, sym, ap, subst, ◌∙◌, inl, inr, arith}
+use Rattle.std.proofs.Common.{◌≡◌, ℕ, zero, suc, ◌+◌, ◌<◌, ◌≤◌, Bool, true, false, cond, not, ◌&&◌, List, []}
+use Rattle.std.proofs.Common.{◌∷◌, ◌++◌, length, map, Some, None, refl, sym, ap, subst, ◌∙◌, inl, inr, arith}
 use Rattle.std.specs.Prelude.{fold, ◌==◌, nat_lt, slice_index}
 use Rattle.std.specs.List.Sorted.{IsPermutation, IsStrictlyIncreasing}
 use Rattle.std.specs.BTreeMap.{insert_entry}
@@ -12,7 +13,8 @@ use Rattle.std.proofs.lemmas.Bool.{cases_lt, cases_eq, and_parts, eqb-true, not-
 use Rattle.quorum_laws.specs.Numbers.{log_quorum}
 use Rattle.frame_values.specs.declared.owned.parts.ElectPart.{ElectPart}
 use Rattle.fallback_leader.specs.declared.words.KeptWord.{KeptWord}
-use Rattle.fallback_leader.specs.Elections.{words_of, has_word, counts, collected, AreApart, by_replica, ascending, elected, proposed, ProposalValue, proposal_of, Elects}
+use Rattle.fallback_leader.specs.Elections.{words_of, has_word, counts, collected, AreApart, by_replica}
+use Rattle.fallback_leader.specs.Elections.{ascending, elected, proposed, ProposalValue, proposal_of, Elects}
 use Rattle.fallback_leader.proofs.OrderLaws.{replicas_are, fold-keyed, proposed-permutation, proposed-elects}
 use Rattle.fallback_leader.proofs.WordLaws.{apart_push}
 

@@ -1,5 +1,6 @@
 -- Words by their replicas: the same words, ascending.
-use Rattle.std.proofs.Common.{◌≡◌, ℕ, ◌+◌, ◌<◌, ◌≤◌, Bool, false, cond, List, [], ◌∷◌, ◌++◌, length, get_or, take, map, slice_get, Some, None, refl, sym, ap, subst, ◌∙◌, append-nil, length-append, arith}
+use Rattle.std.proofs.Common.{◌≡◌, ℕ, ◌+◌, ◌<◌, ◌≤◌, Bool, false, cond, List, [], ◌∷◌, ◌++◌, length, get_or, take}
+use Rattle.std.proofs.Common.{map, slice_get, Some, None, refl, sym, ap, subst, ◌∙◌, append-nil, length-append, arith}
 use Rattle.std.specs.Prelude.{fold, nat_le, ◌==◌, option_map, option_to_list}
 use Rattle.std.specs.List.{IsDistinct, AllByRecursion}
 use Rattle.std.specs.List.Sorted.{IsPermutation, IsStrictlySortedBy, IsStrictlyIncreasing}
@@ -12,7 +13,8 @@ use Rattle.std.specs.FinMap.{nat_cmp-IsAntisymmetric}
 use Rattle.std.specs.Cmp.{nat_eq_equiv}
 use Rattle.std.proofs.lemmas.Bool.{cond_both, eqb-false, leb-true, leb-false}
 use Rattle.std.proofs.lemmas.List.Sums.{fold_push, sum_by-cons}
-use Rattle.std.proofs.lemmas.List.Sorted.{IsPermutation-refl, IsPermutation-cons, IsPermutation-middle, IsPermutation-map, IsPermutation-trans, IsPermutation-append_left, length_permutation}
+use Rattle.std.proofs.lemmas.List.Sorted.{IsPermutation-refl, IsPermutation-cons, IsPermutation-middle, IsPermutation-map}
+use Rattle.std.proofs.lemmas.List.Sorted.{IsPermutation-trans, IsPermutation-append_left, length_permutation}
 use Rattle.std.proofs.lemmas.Map.Keys.{IsDistinct-IsPermutation, IsStrictlyIncreasing-from_sorted}
 use Rattle.basil_types.specs.declared.party.Decision.{Decision}
 use Rattle.basil_types.specs.declared.party.Decision.TheVariants.{Commit, Abort}
@@ -56,7 +58,8 @@ replicas_are (e ∷ es) h = ap (λ r. r ∷ keys_of es) h.0 ∙ ap (λ rs. e.1.r
 pub replicas_ascend : (es : List (ℕ × ElectPart)) (words : List ElectPart) → es ≡ by_replica words →
     IsStrictlySortedBy nat_cmp (keys_of es) → IsStrictlyIncreasing (map (λ w. w.replica) (values_of es))
 replicas_ascend es words is h =
-    subst IsStrictlyIncreasing (replicas_are es (subst AreKeyed (sym is) (fold-keyed [] words tt))) (IsStrictlyIncreasing-from_sorted (keys_of es) h)
+    subst IsStrictlyIncreasing (replicas_are es (subst AreKeyed (sym is) (fold-keyed [] words tt)))
+    (IsStrictlyIncreasing-from_sorted (keys_of es) h)
 
 pub by_replica_push : (words : List ElectPart) (w : ElectPart) →
     by_replica (words ++ w ∷ []) ≡ insert_entry nat_cmp (by_replica words) w.replica w
@@ -72,12 +75,15 @@ insert-permutation : (w : ElectPart) (es : List (ℕ × ElectPart)) → IsFree w
 insert-permutation w [] h = IsPermutation-refl _
 insert-permutation w (e ∷ es) h = by (nat_cmp w.replica e.0) refl (insert-permutation w es h.1)
   where
-    by : (o : Ordering) → nat_cmp w.replica e.0 ≡ o → IsPermutation ((w.replica, w) ∷ es) (insert_entry nat_cmp es w.replica w) → IsPermutation ((w.replica, w) ∷ e ∷ es) (match_ordering o ((w.replica, w) ∷ e ∷ es) ((e.0, w) ∷ es) (e ∷ insert_entry nat_cmp es w.replica w))
+    by : (o : Ordering) → nat_cmp w.replica e.0 ≡ o →
+        IsPermutation ((w.replica, w) ∷ es) (insert_entry nat_cmp es w.replica w) → IsPermutation
+        ((w.replica, w) ∷ e ∷ es) (match_ordering o ((w.replica, w) ∷ e ∷ es) ((e.0, w) ∷ es) (e ∷ insert_entry nat_cmp es w.replica w))
     by Less q rest = IsPermutation-refl _
     by Equal q rest = absurd (h.0 (sym (nat_cmp-IsAntisymmetric w.replica e.0 q)))
     by Greater q rest =
         IsPermutation-trans ((w.replica, w) ∷ e ∷ es) (e ∷ (w.replica, w) ∷ es) (e ∷ insert_entry nat_cmp es w.replica w)
-        (IsPermutation-middle ((w.replica, w) ∷ []) e es) (IsPermutation-cons e ((w.replica, w) ∷ es) (insert_entry nat_cmp es w.replica w) rest)
+        (IsPermutation-middle ((w.replica, w) ∷ []) e es)
+        (IsPermutation-cons e ((w.replica, w) ∷ es) (insert_entry nat_cmp es w.replica w) rest)
 
 apart_before : (xs : List ElectPart) (w : ElectPart) (ys : List ElectPart) → IsDistinct same_replica (xs ++ w ∷ ys) →
     AllByRecursion (λ v. same_replica v w ≡ false) xs
@@ -99,11 +105,13 @@ moved : (w : ElectPart) (es : List (ℕ × ElectPart)) (words : List ElectPart) 
 moved w es words h =
     IsPermutation-trans (values_of es ++ w ∷ words) (w ∷ (values_of es ++ words)) (values_of (insert_entry nat_cmp es w.replica w) ++ words)
     (IsPermutation-middle (values_of es) w words)
-    (IsPermutation-append_left words (w ∷ values_of es) (values_of (insert_entry nat_cmp es w.replica w)) (IsPermutation-map (λ (e : ℕ × ElectPart). e.1) ((w.replica, w) ∷ es) (insert_entry nat_cmp es w.replica w) (insert-permutation w es h)))
+    (IsPermutation-append_left words (w ∷ values_of es) (values_of (insert_entry nat_cmp es w.replica w)) (IsPermutation-map
+    (λ (e : ℕ × ElectPart). e.1) ((w.replica, w) ∷ es) (insert_entry nat_cmp es w.replica w) (insert-permutation w es h)))
 
 fold-permutation : (es : List (ℕ × ElectPart)) (words : List ElectPart) → AreKeyed es → IsDistinct same_replica (values_of es ++ words) →
     IsPermutation (values_of es ++ words) (values_of (fold (λ known w. insert_entry nat_cmp known w.replica w) es words))
-fold-permutation es [] keyed h = subst (λ ws. IsPermutation ws (values_of es)) (sym (append-nil (values_of es))) (IsPermutation-refl (values_of es))
+fold-permutation es [] keyed h =
+    subst (λ ws. IsPermutation ws (values_of es)) (sym (append-nil (values_of es))) (IsPermutation-refl (values_of es))
 fold-permutation es (w ∷ words) keyed h =
     let more = insert_entry nat_cmp es w.replica w in
     let step = moved w es words (free w es keyed (apart_before (values_of es) w words h)) in
@@ -125,7 +133,12 @@ each_names_one : (words : List ElectPart) → naming Commit words + naming Abort
 each_names_one [] = refl
 each_names_one (w ∷ words) =
     let more = one_of_two w.decision (naming Commit words) (naming Abort words) (length words) (each_names_one words) in
-    omega (arith, more, sum_by-cons (λ (w : ElectPart). cond (same_decision w.decision Commit) 1 0) w words, sum_by-cons (λ (w : ElectPart). cond (same_decision w.decision Abort) 1 0) w words)
+    omega (
+      arith,
+      more,
+      sum_by-cons (λ (w : ElectPart). cond (same_decision w.decision Commit) 1 0) w words,
+      sum_by-cons (λ (w : ElectPart). cond (same_decision w.decision Abort) 1 0) w words,
+    )
 
 pub elected-majority : (f : ℕ) (words : List ElectPart) → length words ≡ log_quorum f → majority f ≤ naming (elected f words) words
 elected-majority f words e =
@@ -167,7 +180,8 @@ proposed-permutation kept new k words apart unheard pushed made =
     let old = words_of kept k.id k.view in
     let all : words_of new k.id k.view ≡ old ++ k.word ∷ [] = ap (λ kept. words_of kept k.id k.view) pushed ∙ words_of-push kept k in
     subst (λ (ws : List ElectPart). IsPermutation ws words) (sym all)
-    (subst (λ (ws : List ElectPart). IsPermutation (old ++ k.word ∷ []) ws) (sym made) (ascending-permutation (old ++ k.word ∷ []) (distinct_push old k.word (apart k.id k.view) (is_heard-words_of kept k.id k.view k.word.replica ∙ unheard))))
+    (subst (λ (ws : List ElectPart). IsPermutation (old ++ k.word ∷ []) ws) (sym made) (ascending-permutation (old ++ k.word ∷ [])
+    (distinct_push old k.word (apart k.id k.view) (is_heard-words_of kept k.id k.view k.word.replica ∙ unheard))))
 
 -- they elect its decision
 pub proposed-elects : (f : ℕ) (kept : List KeptWord) (k : KeptWord) (words : List ElectPart) (decision : Decision) → AreApart kept →
@@ -176,8 +190,10 @@ pub proposed-elects : (f : ℕ) (kept : List KeptWord) (k : KeptWord) (words : L
     Elects f words decision
 proposed-elects f kept k words decision apart unheard made full up is =
     let old = words_of kept k.id k.view in
-    let same = ascending-permutation (old ++ k.word ∷ []) (distinct_push old k.word (apart k.id k.view) (is_heard-words_of kept k.id k.view k.word.replica ∙ unheard)) in
-    let exact : length words ≡ log_quorum f = omega (arith, ap (λ (ws : List ElectPart). length ws) made, length_permutation _ _ same, length-append old (k.word ∷ []), full) in
+    let same = ascending-permutation (old ++ k.word ∷ [])
+    (distinct_push old k.word (apart k.id k.view) (is_heard-words_of kept k.id k.view k.word.replica ∙ unheard)) in
+    let exact : length words ≡ log_quorum f =
+    omega (arith, ap (λ (ws : List ElectPart). length ws) made, length_permutation _ _ same, length-append old (k.word ∷ []), full) in
     record {
       exact = exact;
       ascending = up;

@@ -1,5 +1,6 @@
 -- The places of the words for one view of one transaction, among all that are kept.
-use Rattle.std.proofs.Common.{◌≡◌, ℕ, suc, ◌+◌, ◌<◌, Bool, true, false, cond, List, [], ◌∷◌, ◌++◌, length, get_or, take, map, Option, Some, None, slice_get, Bor, ◌≤◌, inl, inr, refl, sym, ap, subst, ◌∙◌, append-nil, append_assoc, filter, arith}
+use Rattle.std.proofs.Common.{◌≡◌, ℕ, suc, ◌+◌, ◌<◌, Bool, true, false, cond, List, [], ◌∷◌, ◌++◌, length, get_or, take, map, Option, Some}
+use Rattle.std.proofs.Common.{None, slice_get, Bor, ◌≤◌, inl, inr, refl, sym, ap, subst, ◌∙◌, append-nil, append_assoc, filter, arith}
 use Rattle.std.specs.Prelude.{◌||◌, ◌==◌}
 use Rattle.std.specs.List.{list_any}
 use Rattle.std.specs.Option.{IfSome, MatchOption}
@@ -19,7 +20,8 @@ words_at-later k kept (p ∷ places) = ap (λ ws. word_at kept p ++ ws) (words_a
 
 pub words_at-places_of : (kept : List KeptWord) (id : List ℕ) (view : ℕ) → words_at kept (places_of kept id view) ≡ words_of kept id view
 words_at-places_of [] id view = refl
-words_at-places_of (k ∷ kept) id view = by (is_of id view k) (words_at-later k kept (places_of kept id view) ∙ words_at-places_of kept id view)
+words_at-places_of (k ∷ kept) id view =
+    by (is_of id view k) (words_at-later k kept (places_of kept id view) ∙ words_at-places_of kept id view)
   where
     by : (b : Bool) → words_at (k ∷ kept) (map suc (places_of kept id view)) ≡ words_of kept id view →
         words_at (k ∷ kept) (cond b (0 ∷ map suc (places_of kept id view)) (map suc (places_of kept id view))) ≡
@@ -62,12 +64,15 @@ places_of-push (n ∷ kept) k id view = by (is_of id view n) (is_of id view k) (
 
 -- ---- walks over places
 
-pub words_at-append : (kept : List KeptWord) (places more : List ℕ) → words_at kept (places ++ more) ≡ words_at kept places ++ words_at kept more
+pub words_at-append : (kept : List KeptWord) (places more : List ℕ) →
+    words_at kept (places ++ more) ≡ words_at kept places ++ words_at kept more
 words_at-append kept [] more = refl
 words_at-append kept (p ∷ places) more =
-    ap (λ ws. word_at kept p ++ ws) (words_at-append kept places more) ∙ sym (append_assoc (word_at kept p) (words_at kept places) (words_at kept more))
+    ap (λ ws. word_at kept p ++ ws) (words_at-append kept places more)
+    ∙ sym (append_assoc (word_at kept p) (words_at kept places) (words_at kept more))
 
-is_heard-append : (words more : List ElectPart) (replica : ℕ) → is_heard (words ++ more) replica ≡ (is_heard words replica || is_heard more replica)
+is_heard-append : (words more : List ElectPart) (replica : ℕ) →
+    is_heard (words ++ more) replica ≡ (is_heard words replica || is_heard more replica)
 is_heard-append [] more replica = refl
 is_heard-append (w ∷ words) more replica = by (w.replica == replica) (is_heard-append words more replica)
   where
@@ -80,7 +85,8 @@ pub is_heard-words_at : (kept : List KeptWord) (places : List ℕ) (replica : �
     is_heard (words_at kept places) replica ≡ list_any (λ p. is_heard (word_at kept p) replica) places
 is_heard-words_at kept [] replica = refl
 is_heard-words_at kept (p ∷ places) replica =
-    is_heard-append (word_at kept p) (words_at kept places) replica ∙ ap (λ b. is_heard (word_at kept p) replica || b) (is_heard-words_at kept places replica)
+    is_heard-append (word_at kept p) (words_at kept places) replica
+    ∙ ap (λ b. is_heard (word_at kept p) replica || b) (is_heard-words_at kept places replica)
 
 -- the first places of a list, and the next one
 pub words_at-more : (kept : List KeptWord) (places : List ℕ) (i p : ℕ) → i < length places → p ≡ get_or places i p →
@@ -91,10 +97,12 @@ words_at-more kept places i p h is =
 
 -- what `get` lends is what stands at the place
 pub found_some : (kept : List KeptWord) (p : ℕ) (r : Option (Bor KeptWord)) (b : Bor KeptWord) (Q : Bor KeptWord → Type 0) → r ≡ Some b →
-    IfSome r (λ x. x.now ≡ get_or kept p x.now) → MatchOption r (length kept ≤ p) (λ x. (p < length kept) × Q x) → slice_get kept p ≡ Some b.now
+    IfSome r (λ x. x.now ≡ get_or kept p x.now) →
+    MatchOption r (length kept ≤ p) (λ x. (p < length kept) × Q x) → slice_get kept p ≡ Some b.now
 found_some kept p r b Q is here within =
     let at : b.now ≡ get_or kept p b.now = subst (λ (o : Option (Bor KeptWord)). IfSome o (λ x. x.now ≡ get_or kept p x.now)) is here in
-    let both : (p < length kept) × Q b = subst (λ (o : Option (Bor KeptWord)). MatchOption o (length kept ≤ p) (λ x. (p < length kept) × Q x)) is within in
+    let both : (p < length kept) × Q b =
+    subst (λ (o : Option (Bor KeptWord)). MatchOption o (length kept ≤ p) (λ x. (p < length kept) × Q x)) is within in
     slice_get_read kept (length kept) p b.now refl both.0 at
 
 pub found_none : (kept : List KeptWord) (p : ℕ) (r : Option (Bor KeptWord)) (Q : Bor KeptWord → Type 0) → r ≡ None →

@@ -1,5 +1,6 @@
 -- The words for one view of one transaction, among all that are kept.
-use Rattle.std.proofs.Common.{◌≡◌, ℕ, ◌⊎◌, inl, inr, Bool, true, false, cond, List, [], ◌∷◌, ◌++◌, map, refl, sym, ap, subst, ◌∙◌, append-nil}
+use Rattle.std.proofs.Common.{◌≡◌, ℕ, ◌⊎◌, inl, inr, Bool, true, false, cond, List, []}
+use Rattle.std.proofs.Common.{◌∷◌, ◌++◌, map, refl, sym, ap, subst, ◌∙◌, append-nil}
 use Rattle.std.specs.Prelude.{filter, ◌&&◌, ◌||◌, ◌==◌}
 use Rattle.std.specs.List.{list_any, IsDistinct, AllByRecursion}
 use Rattle.std.specs.Cmp.{on_equiv, nat_eq_equiv}
@@ -20,7 +21,9 @@ pub is_heard-words_of : (kept : List KeptWord) (id : List ℕ) (view replica : �
 is_heard-words_of [] id view replica = refl
 is_heard-words_of (k ∷ kept) id view replica = by (is_of id view k) (is_heard-words_of kept id view replica)
   where
-    by : (b : Bool) → is_heard (words_of kept id view) replica ≡ has_word kept id view replica → is_heard (map (λ k. k.word) (cond b (k ∷ filter (is_of id view) kept) (filter (is_of id view) kept))) replica ≡ ((b && (k.word.replica == replica)) || has_word kept id view replica)
+    by : (b : Bool) → is_heard (words_of kept id view) replica ≡ has_word kept id view replica →
+        is_heard (map (λ k. k.word) (cond b (k ∷ filter (is_of id view) kept) (filter (is_of id view) kept))) replica
+        ≡ ((b && (k.word.replica == replica)) || has_word kept id view replica)
     by true rest = ap (λ b. (k.word.replica == replica) || b) rest
     by false rest = rest
 
@@ -29,7 +32,8 @@ is_heard-words_of (k ∷ kept) id view replica = by (is_of id view k) (is_heard-
 pub words_of-append : (kept more : List KeptWord) (id : List ℕ) (view : ℕ) →
     words_of (kept ++ more) id view ≡ words_of kept id view ++ words_of more id view
 words_of-append kept more id view =
-    ap (map (λ k. k.word)) (filter-append (is_of id view) kept more) ∙ map-append (λ k. k.word) (filter (is_of id view) kept) (filter (is_of id view) more)
+    ap (map (λ k. k.word)) (filter-append (is_of id view) kept more)
+    ∙ map-append (λ k. k.word) (filter (is_of id view) kept) (filter (is_of id view) more)
 
 pub words_of-one : (k : KeptWord) (id : List ℕ) (view : ℕ) → is_of id view k ≡ true → words_of (k ∷ []) id view ≡ k.word ∷ []
 words_of-one k id view e = ap (λ b. map (λ k. k.word) (cond b (k ∷ []) [])) e
@@ -84,6 +88,9 @@ apart_push kept k h free id view = subst (IsDistinct same) (sym (words_of-append
         let parts = and_parts (bytes_eq k.id id) (k.view == view) e in
         let ids : k.id ≡ id = same_text k.id id (sym parts.0) in
         let views : k.view ≡ view = eqb-true k.view view parts.1 in
-        let here : is_heard (words_of kept id view) k.word.replica ≡ false = is_heard-words_of kept id view k.word.replica ∙ sym (ap (λ i. has_word kept i k.view k.word.replica) ids ∙ ap (λ v. has_word kept id v k.word.replica) views) ∙ free in
-        subst (λ more. IsDistinct same (words_of kept id view ++ more)) (sym (words_of-one k id view e)) (distinct_push (words_of kept id view) k.word (h id view) here)
-    by (inr e) = subst (λ more. IsDistinct same (words_of kept id view ++ more)) (sym (words_of-none k id view e)) (subst (IsDistinct same) (sym (append-nil (words_of kept id view))) (h id view))
+        let here : is_heard (words_of kept id view) k.word.replica ≡ false = is_heard-words_of kept id view k.word.replica
+        ∙ sym (ap (λ i. has_word kept i k.view k.word.replica) ids ∙ ap (λ v. has_word kept id v k.word.replica) views) ∙ free in
+        subst (λ more. IsDistinct same (words_of kept id view ++ more))
+        (sym (words_of-one k id view e)) (distinct_push (words_of kept id view) k.word (h id view) here)
+    by (inr e) = subst (λ more. IsDistinct same (words_of kept id view ++ more))
+        (sym (words_of-none k id view e)) (subst (IsDistinct same) (sym (append-nil (words_of kept id view))) (h id view))

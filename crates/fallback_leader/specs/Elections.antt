@@ -1,5 +1,6 @@
 -- Election words, and what they elect.
-use Rattle.std.specs.Prelude.{◌≡◌, ℕ, ◌+◌, ◌≤◌, Bool, List, [], ◌∷◌, ◌++◌, Option, Some, None, ◌&&◌, ◌==◌, not, nat_le, nat_lt, length, map, filter, fold, count_by, if◌then◌else◌}
+use Rattle.std.specs.Prelude.{◌≡◌, ℕ, ◌+◌, ◌≤◌, Bool, List, [], ◌∷◌, ◌++◌, Option, Some, None, ◌&&◌, ◌==◌}
+use Rattle.std.specs.Prelude.{not, nat_le, nat_lt, length, map, filter, fold, count_by, if◌then◌else◌}
 use Rattle.std.specs.List.{list_any, IsDistinct}
 use Rattle.std.specs.List.Sorted.{IsStrictlyIncreasing}
 use Rattle.std.specs.Map.{values_of}

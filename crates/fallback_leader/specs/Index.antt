@@ -1,5 +1,6 @@
 -- Where the words for a view of a transaction are kept.
-use Rattle.std.specs.Prelude.{◌≡◌, ℕ, suc, ◌-◌, Bool, List, [], ◌∷◌, ◌++◌, Option, ◌&&◌, ◌==◌, length, map, take, slice_get, option_map, option_to_list, IsSome, Vec, if◌then◌else◌}
+use Rattle.std.specs.Prelude.{◌≡◌, ℕ, suc, ◌-◌, Bool, List, [], ◌∷◌, ◌++◌, Option, ◌&&◌, ◌==◌, length}
+use Rattle.std.specs.Prelude.{map, take, slice_get, option_map, option_to_list, IsSome, Vec, if◌then◌else◌}
 use Rattle.std.specs.Global.{Global}
 use Rattle.std.specs.List.{list_any}
 use Rattle.std.specs.Option.{option_map_or}

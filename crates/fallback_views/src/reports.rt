@@ -6,14 +6,15 @@ ghost use Rattle.fallback_views.specs.Views.{count, reached_by, greatest, raised
 
 use basil_types::cluster::Cluster;
 
-/// The view of a replica after the views that the replicas of the log shard report, which are their current views in the
-/// log replies of an invoke, one of each replica (Basil, fallback: vote subsumption).
+/// The view of a replica after the views that the replicas of the log shard report, which are their current views in
+/// the log replies of an invoke, one of each replica (Basil, fallback: vote subsumption).
 ///
 /// A report counts for each view up to the reported one. The greatest reported view for which 3f+1 reports count is
 /// over: the replica moves to the view after it, and stays in a later one. Where there is no such view, it moves to the
 /// greatest reported view above its own for which f+1 reports count. Else it stays. The greatest u64 has none after it.
 ///
-/// There may be any number of reports, of any views. The time is quadratic in their number; a shard has at most 31 replicas.
+/// There may be any number of reports, of any views. The time is quadratic in their number; a shard has at most 31
+/// replicas.
 pub fn raise(cluster: &Cluster, views: &[u64], current: u64) -> u64
     ensures value { result ≡ raised cluster.now.f views.now current }
     ensures never_falls { current ≤ result }

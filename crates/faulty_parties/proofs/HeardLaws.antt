@@ -1,5 +1,6 @@
 -- What is heard in the pool of a run is what its rules take from it.
-use Rattle.std.proofs.Common.{◌≡◌, ◌∙◌, ℕ, Bool, true, false, cond, List, [], ◌∷◌, ◌++◌, Option, Some, None, length, map, take, refl, sym, ap, append_assoc}
+use Rattle.std.proofs.Common.{◌≡◌, ◌∙◌, ℕ, Bool, true, false, cond, List, [], ◌∷◌, ◌++◌, Option}
+use Rattle.std.proofs.Common.{Some, None, length, map, take, refl, sym, ap, append_assoc}
 use Rattle.std.specs.Prelude.{◌||◌, ◌&&◌, filter, filter_map, find, nat_le, not, option_and_then, slice_get}
 use Rattle.std.specs.List.{cons_option, list_any}
 use Rattle.std.specs.Option.{option_map_or}
@@ -16,7 +17,8 @@ use Rattle.node_steps.specs.Lists.{by_number, firsts, firsts_after}
 use Rattle.quorum_laws.specs.Numbers.{abort_tally, commit_tally, log_quorum}
 use Rattle.txn_meta.specs.Places.{involved}
 use Rattle.cluster_run.specs.Faulty as faulty
-use Rattle.cluster_run.specs.Faulty.{as_listed, is_vote, is_word, message_of, names, pool_votes, pool_words, read_or_none, same_elector, same_voter, tallies_from, tally_from, vote_in, word_in, words_from}
+use Rattle.cluster_run.specs.Faulty.{as_listed, is_vote, is_word, message_of, names, pool_votes, pool_words, read_or_none}
+use Rattle.cluster_run.specs.Faulty.{same_elector, same_voter, tallies_from, tally_from, vote_in, word_in, words_from}
 use Rattle.cluster_run.specs.States.{Posted, Setup, State}
 use Rattle.faulty_parties.specs.declared.question.Question.TheVariants.{Votes, Words}
 use Rattle.faulty_parties.specs.Hearing.{as_said, heard, heard_of, joined, joined_all, same_bool, same_replica, vote_heard, word_heard}

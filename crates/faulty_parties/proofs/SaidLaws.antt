@@ -16,7 +16,8 @@ use Rattle.node_steps.specs.Pendings.{Front, front_of, sealed_all}
 use Rattle.faulty_parties.specs.declared.lie.Lie.{Lie}
 use Rattle.faulty_parties.specs.Fronts.{fronts_in}
 use Rattle.faulty_parties.specs.Lies.{Says, Waits}
-use Rattle.faulty_parties.specs.Unsaid.{Unsaid, elected, leads, proposed, replied, unsaid_first, unsaid_proposal, unsaid_reply, unsaid_vote, unsaid_word, voted}
+use Rattle.faulty_parties.specs.Unsaid.{Unsaid, elected, leads, proposed, replied, unsaid_first}
+use Rattle.faulty_parties.specs.Unsaid.{unsaid_proposal, unsaid_reply, unsaid_vote, unsaid_word, voted}
 use Rattle.faulty_parties.proofs.SentLaws.{sent_involved, sent_one}
 
 -- a lie says what waits in it

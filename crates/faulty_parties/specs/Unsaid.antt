@@ -5,7 +5,8 @@ use Rattle.basil_types.specs.declared.party.Party.{Party}
 use Rattle.basil_types.specs.declared.party.Party.TheVariants.{Replica, Client}
 use Rattle.basil_types.specs.Setting.{Setting}
 use Rattle.basil_types.specs.Transaction.{TransactionValue, id}
-use Rattle.basil_types.specs.Words.{SignedWords, TransactionWords, VoteWords, LogReplyWords, ElectionWords, ProposalWords}
+use Rattle.basil_types.specs.Words.{SignedWords, TransactionWords, VoteWords}
+use Rattle.basil_types.specs.Words.{LogReplyWords, ElectionWords, ProposalWords}
 use Rattle.client_recover.specs.Pursuits.{to_involved}
 use Rattle.frame_views.specs.Values.{VotedValue, LogReplyValue, ElectValue, DecideValue, WordValue}
 use Rattle.frame_views.specs.Values.{Vote, LogReply, Elect, Decide, St1}

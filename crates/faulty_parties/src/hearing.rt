@@ -8,7 +8,8 @@ ghost use Rattle.frame_views.specs.Fitting.{IsSignature};
 ghost use Rattle.frame_views.specs.Shown.{elect_message_of, message_of, voted_of};
 ghost use Rattle.faulty_parties.specs.Heard.{AreSigned, said_of};
 ghost use Rattle.faulty_parties.specs.Hearing as hearing;
-ghost use Rattle.faulty_parties.specs.Hearing.{heard_in, heard_of, is_vote_so, is_word_so, joined, joined_all, joined_some, same_bool, vote_heard, word_heard};
+ghost use Rattle.faulty_parties.specs.Hearing.{heard_in, heard_of, is_vote_so, is_word_so, joined};
+ghost use Rattle.faulty_parties.specs.Hearing.{joined_all, joined_some, same_bool, vote_heard, word_heard};
 
 use crate::question::Question;
 use basil_types::bytes::{Bytes, id_of};
@@ -235,7 +236,8 @@ fn is_of(words: &[ElectPart], replica: u8) -> bool
 
 /// Appends what was heard of a replica, unless something was heard of it before; or memory is wanting.
 fn join(alloc: Global, words: &mut Vec<ElectPart>, heard: Heard<'_>) -> Result<(), NoMemory>
-    ensures { OnOk result (map word_value words.new.items ≡ joined (said_of heard.entry) (map word_value words.old.items)) }
+    ensures { OnOk result
+        (map word_value words.new.items ≡ joined (said_of heard.entry) (map word_value words.old.items)) }
 {
     if is_of(words.as_slice(), heard.replica) {
         return Ok(());

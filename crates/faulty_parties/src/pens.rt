@@ -1,6 +1,7 @@
 //! The pens of the faulty parties.
 
-ghost use Rattle.std.specs.Prelude.{◌≡◌, ◌+◌, ◌≤◌, ◌<◌, ◌++◌, ◌∷◌, [], List, None, OnErr, OnOk, Some, length, nat_lt, option_map, position, slice_get, true};
+ghost use Rattle.std.specs.Prelude.{◌≡◌, ◌+◌, ◌≤◌, ◌<◌, ◌++◌, ◌∷◌, [], List, None, OnErr, OnOk};
+ghost use Rattle.std.specs.Prelude.{Some, length, nat_lt, option_map, position, slice_get, true};
 ghost use Rattle.basil_types.specs.Limits.{signature_limit};
 ghost use Rattle.basil_types.specs.Words.{SignedWords, words_of};
 ghost use Rattle.basil_types.specs.declared.party.Party.{Party};
@@ -62,8 +63,8 @@ impl<S: Signer> Pens<S> {
         }
     }
 
-    /// One more party with its pen, or memory is wanting and the pens are as before. A party that is there already keeps
-    /// the pen that it has.
+    /// One more party with its pen, or memory is wanting and the pens are as before. A party that is there already
+    /// keeps the pen that it has.
     pub fn add(&mut self, party: Party, pen: S) -> Result<(), NoMemory>
     where
         S: Drop,
@@ -167,8 +168,8 @@ impl<S: Signer> Pens<S> {
         }
     }
 
-    /// A party signs a lie that is ready for its pen's size, and sends it. The messages have the number and the bytes that
-    /// the lie tells. Takes no memory.
+    /// A party signs a lie that is ready for its pen's size, and sends it. The messages have the number and the bytes
+    /// that the lie tells. Takes no memory.
     pub fn sign(&mut self, party: Party, lie: Lie) -> Outbox
         requires left { 0 < left_in S.Signer self.old party }
         requires ready { CanBeSaid (size_in S.Signer self.old party) lie }

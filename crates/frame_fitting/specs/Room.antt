@@ -90,7 +90,8 @@ logs_room b decided = counted_room (log_room b decided) after_log
 
 unfoldable pub reply_room : Bounds → ℕ → ReplyValue → ℕ → Option ℕ
 reply_room b floor r =
-    number_room b.replicas floor r.replica ⨾ spent 1 ⨾ long_room 0 r.decided ⨾ long_room r.decided r.current ⨾ signature_room r.signature
+    number_room b.replicas floor r.replica ⨾ spent 1
+    ⨾ long_room 0 r.decided ⨾ long_room r.decided r.current ⨾ signature_room r.signature
 
 unfoldable pub replies_room : Bounds → List ReplyValue → ℕ → Option ℕ
 replies_room b = counted_room (reply_room b) after_reply

@@ -45,7 +45,8 @@ fn logged_room(
 /// A certificate of a kind that may commit: kind, id and body.
 #[tactic(auto, unfolding(crate::specs::Room::commit_room, crate::specs::Room::id_room))]
 fn commit_room(cluster: &Cluster, certificate: &Certificate, room: usize) -> Option<usize>
-    ensures { result ≡ rooms.commit_room (bounds_of cluster.now) (commit_value certificate.now.id certificate.now.body) room }
+    ensures { result
+        ≡ rooms.commit_room (bounds_of cluster.now) (commit_value certificate.now.id certificate.now.body) room }
 {
     match &certificate.body {
         CertificateBody::FastCommit { tallies } => {
@@ -73,7 +74,8 @@ fn proof_room(
     certificate: &Certificate,
     room: usize,
 ) -> Option<usize>
-    ensures value { result ≡ (rooms.transaction_room transaction.now ⨾ rooms.commit_room (bounds_of cluster.now) (commit_value certificate.now.id certificate.now.body)) room }
+    ensures value { result ≡ (rooms.transaction_room transaction.now
+        ⨾ rooms.commit_room (bounds_of cluster.now) (commit_value certificate.now.id certificate.now.body)) room }
     ensures known { IsTransaction transaction.now }
 {
     let room = transaction_room(&transaction.view(), room)?;
@@ -168,7 +170,8 @@ fn may_commit(body: &CertificateBody) -> bool
 #[tactic(auto, unfolding(crate::specs::Room::committed_room))]
 fn pair_room(cluster: &Cluster, part: &CommittedPart, room: usize) -> Option<usize>
     ensures value { result ≡ rooms.committed_room (bounds_of cluster.now) (committed_value part.now) room }
-    ensures known { OnSome result (IsTransaction part.now.transaction × KnownBody (certificate_value part.now.certificate).body) }
+    ensures known { OnSome result
+        (IsTransaction part.now.transaction × KnownBody (certificate_value part.now.certificate).body) }
 {
     if may_commit(&part.certificate.body) {
         let room = transaction_room(&part.transaction.view(), room)?;
@@ -185,7 +188,8 @@ pub(super) fn committed_room(
     part: &Option<CommittedPart>,
     room: usize,
 ) -> Option<usize>
-    ensures value { result ≡ part_room allowed (rooms.committed_room (bounds_of cluster.now)) (option_map committed_value part.now) room }
+    ensures value { result
+        ≡ part_room allowed (rooms.committed_room (bounds_of cluster.now)) (option_map committed_value part.now) room }
     ensures known { OnSome result (KnownCommitted (option_map committed_value part.now)) }
 {
     match part {

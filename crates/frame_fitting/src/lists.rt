@@ -19,7 +19,8 @@ fn vote_room(cluster: &Cluster, floor: u16, vote: &VotePart, room: usize) -> Opt
 }
 
 fn each_vote_room(cluster: &Cluster, votes: &[VotePart], room: usize) -> Option<usize>
-    ensures { result ≡ items_room (rooms.vote_room (bounds_of cluster.now)) after_vote 0 (map vote_value votes.now) room }
+    ensures { result ≡ items_room (rooms.vote_room (bounds_of cluster.now)) after_vote 0
+        (map vote_value votes.now) room }
 {
     let mut left = room;
     let mut floor = 0u16;
@@ -54,7 +55,8 @@ fn tally_room(cluster: &Cluster, floor: u16, tally: &ShardVotes, room: usize) ->
 }
 
 fn each_tally_room(cluster: &Cluster, tallies: &[ShardVotes], room: usize) -> Option<usize>
-    ensures { result ≡ items_room (rooms.tally_room (bounds_of cluster.now)) after_tally 0 (map tally_value tallies.now) room }
+    ensures { result ≡ items_room (rooms.tally_room (bounds_of cluster.now)) after_tally 0
+        (map tally_value tallies.now) room }
 {
     let mut left = room;
     let mut floor = 0u16;
@@ -96,7 +98,8 @@ fn log_room(
 }
 
 fn each_log_room(cluster: &Cluster, decided: u64, logs: &[LogPart], room: usize) -> Option<usize>
-    ensures { result ≡ items_room (rooms.log_room (bounds_of cluster.now) decided) after_log 0 (map log_value logs.now) room }
+    ensures { result ≡ items_room (rooms.log_room (bounds_of cluster.now) decided) after_log 0
+        (map log_value logs.now) room }
 {
     let mut left = room;
     let mut floor = 0u16;
@@ -139,7 +142,8 @@ fn reply_room(cluster: &Cluster, floor: u16, reply: &InvokePart, room: usize) ->
 }
 
 fn each_reply_room(cluster: &Cluster, replies: &[InvokePart], room: usize) -> Option<usize>
-    ensures { result ≡ items_room (rooms.reply_room (bounds_of cluster.now)) after_reply 0 (map reply_value replies.now) room }
+    ensures { result ≡ items_room (rooms.reply_room (bounds_of cluster.now)) after_reply 0
+        (map reply_value replies.now) room }
 {
     let mut left = room;
     let mut floor = 0u16;
@@ -175,7 +179,8 @@ fn word_room(cluster: &Cluster, floor: u16, word: &ElectPart, room: usize) -> Op
 }
 
 fn each_word_room(cluster: &Cluster, words: &[ElectPart], room: usize) -> Option<usize>
-    ensures { result ≡ items_room (rooms.word_room (bounds_of cluster.now)) after_word 0 (map word_value words.now) room }
+    ensures { result ≡ items_room (rooms.word_room (bounds_of cluster.now)) after_word 0
+        (map word_value words.now) room }
 {
     let mut left = room;
     let mut floor = 0u16;

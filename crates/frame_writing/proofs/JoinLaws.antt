@@ -46,7 +46,8 @@ commit-spelled c fits = by c.id c.body fits
 
 -- the same, of pieces that are equal to those that were appended
 pub conflict-joined-of : (before id signature transaction proof signature' transaction' proof' now later : List ℕ) (shard replica : ℕ)
-    → now ≡ before ++ 4 ∷ (id ++ shard ∷ replica ∷ signature) → later ≡ now ++ (transaction ++ proof) → signature ≡ signature' → transaction ≡ transaction' → proof ≡ proof'
+    → now ≡ before ++ 4 ∷ (id ++ shard ∷ replica ∷ signature) →
+    later ≡ now ++ (transaction ++ proof) → signature ≡ signature' → transaction ≡ transaction' → proof ≡ proof'
     → later ≡ before ++ 4 ∷ (id ++ shard ∷ replica ∷ (signature' ++ (transaction' ++ proof')))
 conflict-joined-of before id signature transaction proof signature' transaction' proof' now later shard replica e next s t p =
     conflict-joined before id signature transaction proof now later shard replica e next

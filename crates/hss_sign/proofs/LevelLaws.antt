@@ -1,5 +1,7 @@
 -- What no test of a level refuses is what its keys sign.
-use Rattle.std.proofs.Common.{◌≡◌, ℕ, zero, suc, ◌+◌, ◌-◌, ◌^◌, ◌<◌, ◌≤◌, ◌==◌, nat_le, Bool, true, false, ◌&&◌, List, [], ◌∷◌, ◌++◌, take, drop, length, get_or, Option, Some, None, is_some, option_map, unwrap_or, IsOk, ◌↔◌, refl, sym, ap, ◌∙◌, eq-eqb, arith}
+use Rattle.std.proofs.Common.{◌≡◌, ℕ, zero, suc, ◌+◌, ◌-◌, ◌^◌, ◌<◌, ◌≤◌, ◌==◌, nat_le, Bool, true, false}
+use Rattle.std.proofs.Common.{◌&&◌, List, [], ◌∷◌, ◌++◌, take, drop, length, get_or, Option, Some, None}
+use Rattle.std.proofs.Common.{is_some, option_map, unwrap_or, IsOk, ◌↔◌, refl, sym, ap, ◌∙◌, eq-eqb, arith}
 use Rattle.std.specs.Int.{w32, to_be_bytes}
 use Rattle.std.proofs.lemmas.List.{take_at, drop_at, take_all, take-append-drop, drop-drop, length-append, length-drop, length-take-le}
 use Rattle.std.proofs.lemmas.Nat.{from_be_bytes-to_be_bytes_4, be_bytes_4}
@@ -11,7 +13,8 @@ use Rattle.lms_sign.specs.Sets.{size_of}
 use Rattle.lms_sign.specs.Verifying.{Valid, number_at, set_in, first_refusal as lms_refusal}
 use Rattle.hss_sign.specs.declared.verifying.HssRefusal.{HssRefusal}
 use Rattle.hss_sign.specs.declared.verifying.HssRefusal.TheVariants.{Lms}
-use Rattle.hss_sign.specs.Verifying.{Level, spelled, Signs, HssValid, unless, size_under, signature_in, next_key_in, rest_after, refusal_at, refusal_above, refusal_last, refusal_from, first_refusal, answer_of}
+use Rattle.hss_sign.specs.Verifying.{Level, spelled, Signs, HssValid, unless, size_under, signature_in, next_key_in, rest_after}
+use Rattle.hss_sign.specs.Verifying.{refusal_at, refusal_above, refusal_last, refusal_from, first_refusal, answer_of}
 use Rattle.lms_sign.proofs.ValidLaws.{valid-unrefused, unrefused-valid}
 
 -- a test that refuses nothing was passed, and so were the later ones
@@ -50,9 +53,11 @@ record Signed (below : ℕ) (key message rest : List ℕ) : Type 0 where
 parted : (n m : ℕ) (rest : List ℕ) → rest ≡ take n rest ++ (take m (drop n rest) ++ drop (n + m) rest)
 parted n m rest =
     sym (take-append-drop n rest)
-    ∙ ap (λ (t : List ℕ). take n rest ++ t) (sym (take-append-drop m (drop n rest)) ∙ ap (λ (t : List ℕ). take m (drop n rest) ++ t) (drop-drop m n rest))
+    ∙ ap (λ (t : List ℕ). take n rest ++ t)
+    (sym (take-append-drop m (drop n rest)) ∙ ap (λ (t : List ℕ). take m (drop n rest) ++ t) (drop-drop m n rest))
 
-unrefused-signed : (below level : ℕ) (key message rest : List ℕ) → refusal_from below level key message rest ≡ None → Signed below key message rest
+unrefused-signed : (below level : ℕ) (key message rest : List ℕ) →
+    refusal_from below level key message rest ≡ None → Signed below key message rest
 unrefused-signed zero level key message rest none =
     let tests = passed _ _ _ none in
     record { levels = []; last = rest; count = refl; spells = refl; signs = at-valid level key message rest tests.1 }
@@ -90,7 +95,8 @@ signed-unrefused level key message (one ∷ levels) last signs =
     let tail = spelled levels last in
     let rest = one.signature ++ (one.next_key ++ tail) in
     let mine : signature_in key rest ≡ one.signature = take_at one.signature (one.next_key ++ tail) (size_under key) (sym size) in
-    let behind : drop (size_under key) rest ≡ one.next_key ++ tail = drop_at one.signature (one.next_key ++ tail) (size_under key) (sym size) in
+    let behind : drop (size_under key) rest ≡ one.next_key ++ tail =
+    drop_at one.signature (one.next_key ++ tail) (size_under key) (sym size) in
     let key_is : next_key_in key rest ≡ one.next_key = ap (take 56) behind ∙ take_at one.next_key tail 56 next in
     let tail_is : rest_after key rest ≡ tail =
     sym (drop-drop 56 (size_under key) rest) ∙ ap (drop 56) behind ∙ drop_at one.next_key tail 56 next in
@@ -111,9 +117,11 @@ refuses_here below level key message rest refusal lt refused =
     rw (e, refused) refl
 
 -- and where it does not
-pub goes_on : (below level : ℕ) (key message rest : List ℕ) (size : ℕ) → level < below → refusal_above level key rest ≡ None → size ≡ size_under key
+pub goes_on : (below level : ℕ) (key message rest : List ℕ) (size : ℕ) →
+    level < below → refusal_above level key rest ≡ None → size ≡ size_under key
     → refusal_from (below - level) level key message rest
-    ≡ refusal_from (below - (level + 1)) (level + 1) (take 56 (drop size rest)) message (take (length rest - (size + 56)) (drop (size + 56) rest))
+    ≡ refusal_from (below - (level + 1))
+    (level + 1) (take 56 (drop size rest)) message (take (length rest - (size + 56)) (drop (size + 56) rest))
 goes_on below level key message rest size lt none is =
     let e : below - level ≡ suc (below - (level + 1)) = omega arith in
     let all : take (length rest - (size + 56)) (drop (size + 56) rest) ≡ drop (size + 56) rest =
@@ -179,13 +187,15 @@ spelled-unrefused key message levels last few signs =
     let below : number_at public 0 - 1 ≡ n = omega arith in
     let signed = signed-unrefused 0 key message levels last signs in
     let from : refusal_from (number_at public 0 - 1) 0 (take 56 key) message tail ≡ None =
-    ap (λ (k : ℕ). refusal_from k 0 (take 56 key) message tail) below ∙ ap (λ (k : List ℕ). refusal_from n 0 k message tail) (take_all 56 key (omega arith)) ∙ signed in
+    ap (λ (k : ℕ). refusal_from k 0 (take 56 key) message tail) below
+    ∙ ap (λ (k : List ℕ). refusal_from n 0 k message tail) (take_all 56 key (omega arith)) ∙ signed in
     all-passed public message signature (eq-eqb _ _ long)
     (both_true _ _ (le-leb 1 (number_at public 0) (omega arith)) (le-leb (number_at public 0) 8 (omega arith)))
     (both_true _ _ (le-leb 4 (length signature) enough) (eq-eqb _ _ counts))
     from
 
-valid-unrefused_all : (public message signature : List ℕ) → HssValid public message signature → first_refusal public message signature ≡ None
+valid-unrefused_all : (public message signature : List ℕ) →
+    HssValid public message signature → first_refusal public message signature ≡ None
 valid-unrefused_all public message signature v =
     ap (λ (p : List ℕ). first_refusal p message signature) v.public_is
     ∙ ap (first_refusal (to_be_bytes w32 (length v.levels + 1) ++ v.key) message) v.signature_is
@@ -201,7 +211,8 @@ bytes-take (suc n) (b ∷ bytes) below (suc i) = bytes-take n bytes (λ k. below
 spells-number : (n : ℕ) (bytes : List ℕ) → ((i : ℕ) → get_or bytes i 0 < 256) → 4 ≤ length bytes → number_at bytes 0 ≡ n
     → bytes ≡ to_be_bytes w32 n ++ drop 4 bytes
 spells-number n bytes below long is =
-    let front : to_be_bytes w32 n ≡ take 4 bytes = be_bytes_4 (take 4 bytes) n (length-take-le 4 bytes long) (bytes-take 4 bytes below) (sym is) in
+    let front : to_be_bytes w32 n ≡ take 4 bytes =
+    be_bytes_4 (take 4 bytes) n (length-take-le 4 bytes long) (bytes-take 4 bytes below) (sym is) in
     sym (take-append-drop 4 bytes) ∙ ap (λ (t : List ℕ). t ++ drop 4 bytes) (sym front)
 
 unrefused-valid_all : (public message signature : List ℕ) → ((i : ℕ) → get_or public i 0 < 256) → ((i : ℕ) → get_or signature i 0 < 256)

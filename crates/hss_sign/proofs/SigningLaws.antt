@@ -7,7 +7,8 @@ use Rattle.lms_sign.specs.Signing.{Key, signature_of}
 use Rattle.lms_sign.specs.Verifying.{Valid}
 use Rattle.hss_sign.specs.declared.material.Material.{Material}
 use Rattle.hss_sign.specs.declared.levels.Levels.{Levels}
-use Rattle.hss_sign.specs.Keys.{HssState, state_of, after_signing, top_leaf_of, bottom_leaf_of, top_tree, bottom_tree, bottom_key, top_signature, heading_of, hss_signature_of, hss_public_of}
+use Rattle.hss_sign.specs.Keys.{HssState, state_of, after_signing, top_leaf_of, bottom_leaf_of, top_tree}
+use Rattle.hss_sign.specs.Keys.{bottom_tree, bottom_key, top_signature, heading_of, hss_signature_of, hss_public_of}
 use Rattle.hss_sign.specs.Kept.{IsKept, number_of}
 use Rattle.hss_sign.specs.Verifying.{HssValid}
 use Rattle.hss_sign.proofs.NumberLaws.{top-of_number, bottom-of_number}
@@ -57,7 +58,8 @@ made-valid levels message kept valid =
     let made = signature_of levels.bottom.key.tree levels.bottom.key.next message in
     let count = to_be_bytes w32 1 in
     let headed = ap (λ (h : List ℕ). h ++ made) kept.bottom.heading in
-    let regrouped = append_assoc (count ++ top_signature m q) (bottom_key m q) made ∙ append_assoc count (top_signature m q) (bottom_key m q ++ made) in
+    let regrouped =
+    append_assoc (count ++ top_signature m q) (bottom_key m q) made ∙ append_assoc count (top_signature m q) (bottom_key m q ++ made) in
     record {
       key = public_of (top_tree m);
       levels = record { signature = top_signature m q; next_key = bottom_key m q } ∷ [];

@@ -1,5 +1,6 @@
 -- A key uses each number once, and each top leaf for one bottom key.
-use Rattle.std.proofs.Common.{◌≡◌, ℕ, zero, suc, ◌+◌, ◌<◌, nat_lt, Bool, true, false, List, [], ◌∷◌, ◌++◌, length, get_or, take, drop, if◌then◌else◌, refl, sym, ap, ◌∙◌, append_assoc, arith}
+use Rattle.std.proofs.Common.{◌≡◌, ℕ, zero, suc, ◌+◌, ◌<◌, nat_lt, Bool, true, false, List, [], ◌∷◌, ◌++◌}
+use Rattle.std.proofs.Common.{length, get_or, take, drop, if◌then◌else◌, refl, sym, ap, ◌∙◌, append_assoc, arith}
 use Rattle.std.specs.Int.{w32, to_be_bytes}
 use Rattle.std.proofs.lemmas.Bool.{ltb-true}
 use Rattle.std.proofs.lemmas.List.{take_at, drop_at, drop-drop, length-append}
@@ -8,8 +9,10 @@ use Rattle.lms_sign.specs.Sets.{leaves_of, size_of}
 use Rattle.lms_sign.specs.Signing.{signature_of}
 use Rattle.lms_sign.specs.Verifying.{number_at}
 use Rattle.hss_sign.specs.declared.material.Material.{Material}
-use Rattle.hss_sign.specs.Keys.{HssState, numbers_of, after_signing, top_leaf_of, bottom_leaf_of, bottom_tree, bottom_key, top_signature, heading_of, hss_signature_of}
-use Rattle.hss_sign.specs.Laws.{signatures_of, signature_at, top_leaf_in, bottom_key_in, bottom_leaf_in, SignsOncePerNumber, OneKeyPerTopLeaf}
+use Rattle.hss_sign.specs.Keys.{HssState, numbers_of, after_signing, top_leaf_of, bottom_leaf_of}
+use Rattle.hss_sign.specs.Keys.{bottom_tree, bottom_key, top_signature, heading_of, hss_signature_of}
+use Rattle.hss_sign.specs.Laws.{signatures_of, signature_at, top_leaf_in, bottom_key_in}
+use Rattle.hss_sign.specs.Laws.{bottom_leaf_in, SignsOncePerNumber, OneKeyPerTopLeaf}
 use Rattle.lms_sign.proofs.PartLaws.{leaves-fit, leaf-in_made}
 use Rattle.hss_sign.proofs.NumberLaws.{same-number, top-below, bottom-below}
 use Rattle.hss_sign.proofs.SizeLaws.{length-top_signature, length-bottom_key}
@@ -55,14 +58,16 @@ top-leaf_headed : (m : Material) (q : ℕ) (rest : List ℕ) → q < leaves_of m
 unfolding heading_of top_signature
 top-leaf_headed m q rest lt = from_be_bytes-to_be_bytes_4 q (omega (arith, lt, leaves-fit m.top))
 
-heading-parts : (m : Material) (q : ℕ) (rest : List ℕ) → heading_of m q ++ rest ≡ (to_be_bytes w32 1 ++ top_signature m q) ++ (bottom_key m q ++ rest)
+heading-parts : (m : Material) (q : ℕ) (rest : List ℕ) →
+    heading_of m q ++ rest ≡ (to_be_bytes w32 1 ++ top_signature m q) ++ (bottom_key m q ++ rest)
 unfolding heading_of
 heading-parts m q rest = append_assoc (to_be_bytes w32 1 ++ top_signature m q) (bottom_key m q) rest
 
 past-top : (m : Material) (q : ℕ) (rest : List ℕ) → drop (4 + size_of m.top) (heading_of m q ++ rest) ≡ bottom_key m q ++ rest
 past-top m q rest =
     let front = to_be_bytes w32 1 ++ top_signature m q in
-    let long : length front ≡ 4 + size_of m.top = length-append (to_be_bytes w32 1) (top_signature m q) ∙ ap (λ (k : ℕ). 4 + k) (length-top_signature m q) in
+    let long : length front ≡ 4 + size_of m.top =
+    length-append (to_be_bytes w32 1) (top_signature m q) ∙ ap (λ (k : ℕ). 4 + k) (length-top_signature m q) in
     ap (drop (4 + size_of m.top)) (heading-parts m q rest) ∙ drop_at front (bottom_key m q ++ rest) (4 + size_of m.top) long
 
 bottom-key_headed : (m : Material) (q : ℕ) (rest : List ℕ) → bottom_key_in m (heading_of m q ++ rest) ≡ bottom_key m q
@@ -80,11 +85,13 @@ unfolding hss_signature_of
 top-leaf_made m number signature made =
     ap top_leaf_in made.is ∙ top-leaf_headed m (top_leaf_of m number) _ (top-below m.top m.bottom number made.below)
 
-bottom-key_made : (m : Material) (number : ℕ) (signature : List ℕ) → Made m number signature → bottom_key_in m signature ≡ bottom_key m (top_leaf_of m number)
+bottom-key_made : (m : Material) (number : ℕ) (signature : List ℕ) →
+    Made m number signature → bottom_key_in m signature ≡ bottom_key m (top_leaf_of m number)
 unfolding hss_signature_of
 bottom-key_made m number signature made = ap (bottom_key_in m) made.is ∙ bottom-key_headed m (top_leaf_of m number) _
 
-bottom-leaf_made : (m : Material) (number : ℕ) (signature : List ℕ) → Made m number signature → bottom_leaf_in m signature ≡ bottom_leaf_of m number
+bottom-leaf_made : (m : Material) (number : ℕ) (signature : List ℕ) →
+    Made m number signature → bottom_leaf_in m signature ≡ bottom_leaf_of m number
 unfolding hss_signature_of
 bottom-leaf_made m number signature made =
     let q = top_leaf_of m number in

@@ -70,7 +70,8 @@ heading_of m leaf = to_be_bytes w32 1 ++ top_signature m leaf ++ bottom_key m le
 -- the signature with a number
 unfoldable pub hss_signature_of : Material → ℕ → List ℕ → List ℕ
 hss_signature_of m number message =
-    heading_of m (top_leaf_of m number) ++ signature_of (bottom_tree m (top_leaf_of m number)) (bottom_leaf_of m number) message
+    heading_of m (top_leaf_of m number)
+    ++ signature_of (bottom_tree m (top_leaf_of m number)) (bottom_leaf_of m number) message
 
 -- the public key: u32 2 ‖ the top level's public key
 unfoldable pub hss_public_of : Material → List ℕ

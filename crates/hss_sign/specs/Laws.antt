@@ -1,5 +1,6 @@
 -- What holds of the signatures of each key.
-use Rattle.std.specs.Prelude.{◌≡◌, ◌≢◌, ℕ, ◌+◌, ◌<◌, nat_lt, List, [], ◌∷◌, length, slice_index_or, if◌then◌else◌, take, drop}
+use Rattle.std.specs.Prelude.{◌≡◌, ◌≢◌, ℕ, ◌+◌, ◌<◌, nat_lt, List, [], ◌∷◌}
+use Rattle.std.specs.Prelude.{length, slice_index_or, if◌then◌else◌, take, drop}
 use Rattle.lms_sign.specs.Sets.{size_of}
 use Rattle.lms_sign.specs.Verifying.{number_at}
 use Rattle.hss_sign.specs.declared.material.Material.{Material}
@@ -32,11 +33,14 @@ abbrev pub SignsOncePerNumber : Type 0
 SignsOncePerNumber =
     (key : HssState) (messages : List (List ℕ)) (i j : ℕ) → i < j → j < length (signatures_of key messages)
     → top_leaf_in (signature_at key messages i) ≡ top_leaf_in (signature_at key messages j)
-    → bottom_leaf_in key.material (signature_at key messages i) ≢ bottom_leaf_in key.material (signature_at key messages j)
+    → bottom_leaf_in key.material (signature_at key messages i)
+    ≢ bottom_leaf_in key.material (signature_at key messages j)
 
 -- each top leaf signs one bottom key
 abbrev pub OneKeyPerTopLeaf : Type 0
 OneKeyPerTopLeaf =
-    (key : HssState) (messages : List (List ℕ)) (i j : ℕ) → i < length (signatures_of key messages) → j < length (signatures_of key messages)
+    (key : HssState) (messages : List (List ℕ)) (i j : ℕ) →
+    i < length (signatures_of key messages) → j < length (signatures_of key messages)
     → top_leaf_in (signature_at key messages i) ≡ top_leaf_in (signature_at key messages j)
-    → bottom_key_in key.material (signature_at key messages i) ≡ bottom_key_in key.material (signature_at key messages j)
+    → bottom_key_in key.material (signature_at key messages i)
+    ≡ bottom_key_in key.material (signature_at key messages j)

@@ -1,5 +1,7 @@
 -- Valid signatures, and why one is refused (RFC 8554, section 6.3).
-use Rattle.std.specs.Prelude.{◌≡◌, ℕ, zero, suc, ◌+◌, ◌-◌, ◌<◌, ◌==◌, nat_le, Bool, ◌&&◌, List, [], ◌∷◌, ◌++◌, take, drop, length, Option, Some, None, is_some, option_map, unwrap_or, Ok, Err, Result, if◌then◌else◌}
+use Rattle.std.specs.Prelude.{◌≡◌, ℕ, zero, suc, ◌+◌, ◌-◌, ◌<◌, ◌==◌, nat_le, Bool, ◌&&◌}
+use Rattle.std.specs.Prelude.{List, [], ◌∷◌, ◌++◌, take, drop, length, Option, Some, None}
+use Rattle.std.specs.Prelude.{is_some, option_map, unwrap_or, Ok, Err, Result, if◌then◌else◌}
 use Rattle.std.specs.Int.{w32, to_be_bytes}
 use Rattle.basil_types.specs.Built.{or_else}
 use Rattle.lms_sign.specs.Sets.{size_of}
@@ -20,7 +22,8 @@ spelled (level ∷ levels) last = level.signature ++ (level.next_key ++ spelled 
 -- the key of each level signs the next key, and the last key signs the message
 abbrev pub Signs : List ℕ → List Level → List ℕ → List ℕ → Type 0
 Signs key [] last message = Valid key message last
-Signs key (level ∷ levels) last message = Valid key level.next_key level.signature × Signs level.next_key levels last message
+Signs key (level ∷ levels) last message =
+    Valid key level.next_key level.signature × Signs level.next_key levels last message
 
 -- a signature of a message under a public key
 pub record HssValid (public message signature : List ℕ) : Type 0 where

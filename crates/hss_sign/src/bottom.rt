@@ -48,8 +48,10 @@ impl Bottom {
     pub(crate) fn sign_into(&mut self, message: &[u8], out: &mut [u8])
         requires more { self.old.key.next < leaves_of self.old.key.tree.set }
         requires size { length out.old ≡ vec_len self.old.heading + size_of self.old.key.tree.set }
-        ensures signature { out.new ≡ self.old.heading.items ++ signature_of self.old.key.tree self.old.key.next message.now }
-        ensures valid { Valid (public_of self.old.key.tree) message.now (signature_of self.old.key.tree self.old.key.next message.now) }
+        ensures signature { out.new ≡ self.old.heading.items
+            ++ signature_of self.old.key.tree self.old.key.next message.now }
+        ensures valid { Valid (public_of self.old.key.tree) message.now
+            (signature_of self.old.key.tree self.old.key.next message.now) }
         ensures spends { self.new ≡ record self.old { key = record self.old.key { next = self.old.key.next + 1 } } }
     {
         let end = self.heading.len();
@@ -65,9 +67,11 @@ impl Bottom {
 /// that bottom key.
 fn signed_heading(alloc: Global, top: &mut LmsKey, bottom: &[u8; 56]) -> Result<Vec<u8>, NoMemory>
     requires more { top.old.next < leaves_of top.old.tree.set }
-    ensures heading { IfOk result (λ heading. heading.items ≡ to_be_bytes w32 1 ++ signature_of top.old.tree top.old.next bottom.now ++ bottom.now) }
+    ensures heading { IfOk result (λ heading. heading.items
+        ≡ to_be_bytes w32 1 ++ signature_of top.old.tree top.old.next bottom.now ++ bottom.now) }
     ensures size { IfOk result (λ heading. vec_len heading ≡ 60 + size_of top.old.tree.set) }
-    ensures valid { OnOk result (Valid (public_of top.old.tree) bottom.now (signature_of top.old.tree top.old.next bottom.now)) }
+    ensures valid { OnOk result
+        (Valid (public_of top.old.tree) bottom.now (signature_of top.old.tree top.old.next bottom.now)) }
     ensures spends { OnOk result (top.new ≡ record top.old { next = top.old.next + 1 }) }
     ensures as_before { OnErr result (top.new ≡ top.old) }
 {
@@ -80,7 +84,8 @@ fn signed_heading(alloc: Global, top: &mut LmsKey, bottom: &[u8; 56]) -> Result<
 fn write_heading(top: &mut LmsKey, bottom: &[u8; 56], heading: &mut [u8])
     requires more { top.old.next < leaves_of top.old.tree.set }
     requires size { length heading.old ≡ 60 + size_of top.old.tree.set }
-    ensures heading { heading.new ≡ to_be_bytes w32 1 ++ signature_of top.old.tree top.old.next bottom.now ++ bottom.now }
+    ensures heading { heading.new ≡ to_be_bytes w32 1
+        ++ signature_of top.old.tree top.old.next bottom.now ++ bottom.now }
     ensures valid { Valid (public_of top.old.tree) bottom.now (signature_of top.old.tree top.old.next bottom.now) }
     ensures spends { top.new ≡ record top.old { next = top.old.next + 1 } }
 {

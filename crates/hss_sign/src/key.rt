@@ -1,6 +1,7 @@
 //! Keys.
 ghost use Rattle.std.specs.Prelude.{◌≡◌, ◌≢◌, ◌≤◌, ◌-◌, ◌↔◌, length, IfOk, OnOk, OnErr, Err};
-ghost use Rattle.hss_sign.specs.Keys.{material_of, made_before, after_signing, numbers_of, top_leaf_of, hss_signature_of, hss_public_of, hss_size_of};
+ghost use Rattle.hss_sign.specs.Keys.{material_of, made_before, after_signing, numbers_of};
+ghost use Rattle.hss_sign.specs.Keys.{top_leaf_of, hss_signature_of, hss_public_of, hss_size_of};
 ghost use Rattle.hss_sign.specs.Verifying.{HssValid};
 
 use crate::levels::Levels;

@@ -54,7 +54,8 @@ impl Levels {
         ensures number { OnOk result (number_of self.new ≡ number_of self.old) }
         ensures more { OnOk result (self.new.bottom.key.next < leaves_of self.new.material.bottom) }
         ensures spent { OnErr result (self.old.bottom.key.next ≡ leaves_of self.old.material.bottom) }
-        ensures exhausted { (result ≡ Err HssFault.Exhausted) → self.old.top_leaf + 1 ≡ leaves_of self.old.material.top }
+        ensures exhausted { (result ≡ Err HssFault.Exhausted) →
+            self.old.top_leaf + 1 ≡ leaves_of self.old.material.top }
         ensures memory { (result ≡ Err HssFault.NoMemory) → self.old.top_leaf + 1 < leaves_of self.old.material.top }
         ensures as_before { OnErr result (self.new ≡ self.old) }
     {

@@ -1,7 +1,8 @@
 //! Verification.
 ghost use Rattle.std.specs.Prelude.{◌≡◌, ◌≤◌, ◌+◌, ◌-◌, ◌↔◌, length, IsOk, IfOk, OnOk, IfErr, Some, None};
 ghost use Rattle.hss_sign.specs.Numbers.{refusal_number};
-ghost use Rattle.hss_sign.specs.Verifying.{HssValid, first_refusal, answer_of, refusal_from, refusal_above, refusal_last, refusal_at, size_under};
+ghost use Rattle.hss_sign.specs.Verifying.{HssValid, first_refusal, answer_of, refusal_from};
+ghost use Rattle.hss_sign.specs.Verifying.{refusal_above, refusal_last, refusal_at, size_under};
 
 use crate::bytes::read_key;
 use lms_sign::{LmsRefusal, LmsSet, read_number, verify};

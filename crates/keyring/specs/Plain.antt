@@ -18,4 +18,5 @@ abbrev pub plain_accepts : Party → List ℕ → List ℕ → Bool
 plain_accepts party words signature = bytes_eq signature (plain_signature party words)
 
 abbrev pub plain_signing : Party → Signing
-plain_signing party = record { party = party; size = 32; gives = λ _ words. plain_signature party words; holds = plain_accepts }
+plain_signing party =
+    record { party = party; size = 32; gives = λ _ words. plain_signature party words; holds = plain_accepts }

@@ -11,8 +11,8 @@ use basil_types::party::Party;
 pub struct Exhausted;
 
 /// A signer of one party. Its meaning is a fixed part, which no call changes: whose it is, the size of a signature, the
-/// signature that it gives at each place of the list of words that it signs, and a relation that holds of what it signs;
-/// and beside it how many signatures it has given, and how many are left.
+/// signature that it gives at each place of the list of words that it signs, and a relation that holds of what it
+/// signs; and beside it how many signatures it has given, and how many are left.
 pub trait Signer {
     // The fixed part.
     ghost fixed: { Self → Signing };

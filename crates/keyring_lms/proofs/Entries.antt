@@ -1,5 +1,6 @@
 -- Which entry of a list is the first of a party.
-use Rattle.std.proofs.Common.{◌≡◌, ℕ, ◌+◌, ◌*◌, ◌==◌, ◌&&◌, ◌||◌, Bool, true, false, List, [], ◌∷◌, map, Some, None, if◌then◌else◌, refl, ap, ◌∙◌}
+use Rattle.std.proofs.Common.{◌≡◌, ℕ, ◌+◌, ◌*◌, ◌==◌, ◌&&◌, ◌||◌, Bool, true, false, List}
+use Rattle.std.proofs.Common.{[], ◌∷◌, map, Some, None, if◌then◌else◌, refl, ap, ◌∙◌}
 use Rattle.std.specs.Prelude.{nat_lt}
 use Rattle.std.proofs.Math.Path.{fun_ext}
 use Rattle.std.proofs.lemmas.Bool.{eqb-true}
@@ -11,7 +12,8 @@ use Rattle.basil_types.specs.declared.party.Party.TheVariants.{Replica, Client}
 use Rattle.lms_sign.specs.declared.sets.LmsSet.{LmsSet}
 use Rattle.lms_sign.specs.Tree.{public_of}
 use Rattle.keyring_lms.specs.Keys.{is_same, public_in, is_valid_under, lms_accepts}
-use Rattle.keyring_lms.specs.Replay.{tree_in_replay, entry_of, replicas_of, clients, parties_of, is_party_of, public_in_replay, replay_accepts}
+use Rattle.keyring_lms.specs.Replay.{tree_in_replay, entry_of, replicas_of, clients}
+use Rattle.keyring_lms.specs.Replay.{parties_of, is_party_of, public_in_replay, replay_accepts}
 use Rattle.keyring_lms.proofs.Parties.{any-map, any-flat_map, any-same, any-none, any-guarded, any-guarding, any-below, any-client}
 
 both : (a b : Bool) → (a && b) ≡ true → (a ≡ true) × (b ≡ true)
@@ -51,10 +53,12 @@ replica-in_shard n s i shard =
     ∙ any-guarded (shard == s) (λ index. index == i) (range_with_len 0 n)
     ∙ ap (λ b. shard == s && b) (any-below i n)
 
-replica-there : (n shards s i : ℕ) → list_any (λ q. is_same q (Replica s i)) (flat_map (replicas_of n) (range_with_len 0 shards)) ≡ (nat_lt s shards && nat_lt i n)
+replica-there : (n shards s i : ℕ) → list_any (λ q. is_same q (Replica s i)) (flat_map (replicas_of n) (range_with_len 0 shards))
+    ≡ (nat_lt s shards && nat_lt i n)
 replica-there n shards s i =
     any-flat_map (λ q. is_same q (Replica s i)) (replicas_of n) (range_with_len 0 shards)
-    ∙ any-same (λ shard. list_any (λ q. is_same q (Replica s i)) (replicas_of n shard)) (λ shard. shard == s && nat_lt i n) (range_with_len 0 shards) (replica-in_shard n s i)
+    ∙ any-same (λ shard. list_any (λ q. is_same q (Replica s i)) (replicas_of n shard))
+    (λ shard. shard == s && nat_lt i n) (range_with_len 0 shards) (replica-in_shard n s i)
     ∙ any-guarding (nat_lt i n) (λ shard. shard == s) (range_with_len 0 shards)
     ∙ ap (λ b. b && nat_lt i n) (any-below s shards)
 
@@ -65,7 +69,8 @@ client-no_replica_in n c shard =
 client-no_replica : (n shards c : ℕ) → list_any (λ q. is_same q (Client c)) (flat_map (replicas_of n) (range_with_len 0 shards)) ≡ false
 client-no_replica n shards c =
     any-flat_map (λ q. is_same q (Client c)) (replicas_of n) (range_with_len 0 shards)
-    ∙ any-same (λ shard. list_any (λ q. is_same q (Client c)) (replicas_of n shard)) (λ _. false) (range_with_len 0 shards) (client-no_replica_in n c)
+    ∙ any-same (λ shard. list_any (λ q. is_same q (Client c)) (replicas_of n shard))
+    (λ _. false) (range_with_len 0 shards) (client-no_replica_in n c)
     ∙ any-none (range_with_len 0 shards)
 
 or-none : (b : Bool) → (b || false) ≡ b
@@ -79,9 +84,11 @@ party-there cluster (Replica s i) =
     ∙ rw (replica-there (5 * cluster.f + 1) cluster.shards s i) (or-none (nat_lt s cluster.shards && nat_lt i (5 * cluster.f + 1)))
 party-there cluster (Client c) =
     list_any-append (λ q. is_same q (Client c)) (flat_map (replicas_of (5 * cluster.f + 1)) (range_with_len 0 cluster.shards)) clients
-    ∙ rw (client-no_replica (5 * cluster.f + 1) cluster.shards c) (any-map (λ q. is_same q (Client c)) (λ number. Client number) (range_with_len 1 16) ∙ any-client c)
+    ∙ rw (client-no_replica (5 * cluster.f + 1) cluster.shards c)
+    (any-map (λ q. is_same q (Client c)) (λ number. Client number) (range_with_len 1 16) ∙ any-client c)
 
-keys-same : (cluster : Setting) (set : LmsSet) (p : Party) → public_in (map (entry_of set) (parties_of cluster)) p ≡ public_in_replay cluster set p
+keys-same : (cluster : Setting) (set : LmsSet) (p : Party) →
+    public_in (map (entry_of set) (parties_of cluster)) p ≡ public_in_replay cluster set p
 keys-same cluster set p =
     public-in_replay set (parties_of cluster) p
     ∙ ap (λ b. if b then Some (public_of (tree_in_replay set p)) else None) (party-there cluster p)

@@ -1,5 +1,6 @@
 -- Which of the listed parties are a cluster's, and their keys.
-use Rattle.std.proofs.Common.{◌≡◌, ℕ, ◌&&◌, ◌||◌, Bool, true, false, List, [], ◌∷◌, ◌++◌, map, Some, None, option_map, if◌then◌else◌, refl, sym, ap, ◌∙◌}
+use Rattle.std.proofs.Common.{◌≡◌, ℕ, ◌&&◌, ◌||◌, Bool, true, false, List, [], ◌∷◌, ◌++◌}
+use Rattle.std.proofs.Common.{map, Some, None, option_map, if◌then◌else◌, refl, sym, ap, ◌∙◌}
 use Rattle.std.proofs.Math.Path.{fun_ext}
 use Rattle.std.proofs.lemmas.List.Folds.{list_any-append}
 use Rattle.basil_types.specs.Setting.{Setting}
@@ -8,7 +9,8 @@ use Rattle.lms_sign.specs.declared.sets.LmsSet.{LmsSet}
 use Rattle.lms_sign.specs.Tree.{public_of}
 use Rattle.lms_sign.specs.Signing.{Key, first_key}
 use Rattle.keyring_lms.specs.Keys.{is_same, is_valid_under, lms_accepts}
-use Rattle.keyring_lms.specs.Replay.{tree_in_replay, entry_of, tree_entry, public_entry, tree_found, parties_of, is_party_of, is_listed, AreListedOf, HasOneMore, replay_accepts, listed_accepts}
+use Rattle.keyring_lms.specs.Replay.{tree_in_replay, entry_of, tree_entry, public_entry, tree_found, parties_of}
+use Rattle.keyring_lms.specs.Replay.{is_party_of, is_listed, AreListedOf, HasOneMore, replay_accepts, listed_accepts}
 use Rattle.keyring_lms.proofs.Entries.{same-true, public-in_replay, party-there, accepts-same}
 
 -- the public keys of the trees of parties

@@ -1,5 +1,6 @@
 -- Lists of parties: one more at a time, and which party is in them.
-use Rattle.std.proofs.Common.{◌≡◌, ℕ, zero, suc, ◌+◌, ◌<◌, ◌≤◌, ◌==◌, ◌&&◌, ◌||◌, Bool, true, false, List, [], ◌∷◌, ◌++◌, map, refl, sym, ap, ◌∙◌, append_assoc, arith}
+use Rattle.std.proofs.Common.{◌≡◌, ℕ, zero, suc, ◌+◌, ◌<◌, ◌≤◌, ◌==◌, ◌&&◌, ◌||◌, Bool, true, false}
+use Rattle.std.proofs.Common.{List, [], ◌∷◌, ◌++◌, map, refl, sym, ap, ◌∙◌, append_assoc, arith}
 use Rattle.std.specs.Prelude.{nat_le, nat_lt}
 use Rattle.std.proofs.lemmas.Bool.{eqb-true, eqb-false, ltb-true, ltb-false, leb-true, leb-false, le-leb, lt-ltb, le-ltb}
 use Rattle.std.proofs.lemmas.List.{append-nil}
@@ -71,7 +72,8 @@ neither a i false e h = refl
 inside-range : (i a n : ℕ) → a ≤ i → i < a + n → list_any (λ k. k == i) (range_with_len a n) ≡ true
 inside-range i a zero low high = absurd (omega (arith, low, high))
 inside-range i a (suc n) low high =
-    first-or_later a i (a == i) _ refl (λ other. let apart = eqb-false a i other in inside-range i (a + 1) n (above i a low apart) (omega (arith, high)))
+    first-or_later a i (a == i) _ refl
+    (λ other. let apart = eqb-false a i other in inside-range i (a + 1) n (above i a low apart) (omega (arith, high)))
 
 before-range : (i a n : ℕ) → i < a → list_any (λ k. k == i) (range_with_len a n) ≡ false
 before-range i a zero lt = refl

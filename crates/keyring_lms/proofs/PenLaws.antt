@@ -14,7 +14,8 @@ use Rattle.lms_sign.proofs.ValidLaws.{made-valid, valid-told, unrefused-valid}
 use Rattle.keyring_lms.specs.Keys.{is_same, public_in, is_valid_under, lms_accepts}
 use Rattle.keyring_lms.specs.Pens.{tree_holds}
 use Rattle.keyring_lms.specs.Replay.{tree_in_replay}
-use Rattle.keyring_lms.specs.Laws.{AcceptedIsValid, PensAgreeWithKeys, OneKeyAgreesWithItsPen, ReplayPensAgreeWithKeys, ReplayPensAreAccepted}
+use Rattle.keyring_lms.specs.Laws.{AcceptedIsValid, PensAgreeWithKeys, OneKeyAgreesWithItsPen}
+use Rattle.keyring_lms.specs.Laws.{ReplayPensAgreeWithKeys, ReplayPensAreAccepted}
 
 same-own : (p : Party) → is_same p p ≡ true
 same-own (Replica s i) = rw (eq-eqb s s refl, eq-eqb i i refl) refl
@@ -39,7 +40,8 @@ own-holds owner public party words signature false e = rw e refl
 
 pub one_key : OneKeyAgreesWithItsPen
 one_key owner tree =
-    fun_ext (λ party. fun_ext (λ words. fun_ext (λ signature. own-holds owner (public_of tree) party words signature (is_same owner party) refl)))
+    fun_ext (λ party. fun_ext
+    (λ words. fun_ext (λ signature. own-holds owner (public_of tree) party words signature (is_same owner party) refl)))
 
 pub replay-agrees : ReplayPensAgreeWithKeys
 replay-agrees cluster set party words signature there = rw (same-own party, there) refl
@@ -48,7 +50,8 @@ replay-agrees cluster set party words signature there = rw (same-own party, ther
 accepted-valid : (o : Option (List ℕ)) (words signature : List ℕ) → is_valid_under o words signature ≡ true
     → (public : List ℕ) × (o ≡ Some public) × Valid public words signature
 accepted-valid None words signature h = absurd (cc)
-accepted-valid (Some public) words signature h = (public, refl, unrefused-valid public words signature (unrefused (first_refusal public words signature) h))
+accepted-valid (Some public) words signature h =
+    (public, refl, unrefused-valid public words signature (unrefused (first_refusal public words signature) h))
 
 pub accepts-valid : AcceptedIsValid
 accepts-valid list party words signature = (

@@ -14,7 +14,8 @@ is_same (Client number) (Client other) = number == other
 
 -- the public key of the first entry of a party, if it has one
 abbrev pub public_in : List (Party × List ℕ) → Party → Option (List ℕ)
-public_in list party = option_map (λ (entry : Party × List ℕ). entry.1) (find (λ (entry : Party × List ℕ). is_same entry.0 party) list)
+public_in list party =
+    option_map (λ (entry : Party × List ℕ). entry.1) (find (λ (entry : Party × List ℕ). is_same entry.0 party) list)
 
 -- whether a signature of these words is valid under a public key; under none it isn't
 abbrev pub is_valid_under : Option (List ℕ) → List ℕ → List ℕ → Bool

@@ -19,7 +19,8 @@ replay_signing set party = lms_signing party (tree_in_replay set party) 0
 abbrev pub AcceptedIsValid : Type 0
 AcceptedIsValid =
     (list : List (Party × List ℕ)) (party : Party) (words signature : List ℕ)
-    → (lms_accepts list party words signature ≡ true) ↔ ((public : List ℕ) × (public_in list party ≡ Some public) × Valid public words signature)
+    → (lms_accepts list party words signature ≡ true) ↔
+    ((public : List ℕ) × (public_in list party ≡ Some public) × Valid public words signature)
 
 -- a pen's relation and a keyring's are one for the pen's party, where the party's first entry is the pen's public key
 abbrev pub PensAgreeWithKeys : Type 0
@@ -30,7 +31,8 @@ PensAgreeWithKeys =
 
 -- the keyring of one entry has the whole relation of the pen of that party with that public key
 abbrev pub OneKeyAgreesWithItsPen : Type 0
-OneKeyAgreesWithItsPen = (party : Party) (tree : Tree) → tree_holds party tree ≡ lms_accepts ((party, public_of tree) ∷ [])
+OneKeyAgreesWithItsPen =
+    (party : Party) (tree : Tree) → tree_holds party tree ≡ lms_accepts ((party, public_of tree) ∷ [])
 
 -- the replay pen of a party of the cluster and the replay keyring have one relation for that party
 abbrev pub ReplayPensAgreeWithKeys : Type 0

@@ -1,5 +1,6 @@
 -- The keys of a replay.
-use Rattle.std.specs.Prelude.{◌≡◌, ℕ, ◌+◌, ◌*◌, nat_lt, nat_le, Bool, ◌&&◌, ◌||◌, List, ◌++◌, map, Option, Some, None, option_map, if◌then◌else◌}
+use Rattle.std.specs.Prelude.{◌≡◌, ℕ, ◌+◌, ◌*◌, nat_lt, nat_le, Bool, ◌&&◌, ◌||◌, List}
+use Rattle.std.specs.Prelude.{◌++◌, map, Option, Some, None, option_map, if◌then◌else◌}
 use Rattle.std.specs.List.{find, flat_map, list_any, range_with_len}
 use Rattle.basil_types.specs.Setting.{Setting}
 use Rattle.basil_types.specs.declared.party.Party.{Party}
@@ -35,7 +36,8 @@ is_party_of cluster (Client number) = nat_le 1 number && nat_le number 16
 
 -- the public key of a party in a replay, if it is one of the cluster's
 abbrev pub public_in_replay : Setting → LmsSet → Party → Option (List ℕ)
-public_in_replay cluster set party = if is_party_of cluster party then Some (public_of (tree_in_replay set party)) else None
+public_in_replay cluster set party =
+    if is_party_of cluster party then Some (public_of (tree_in_replay set party)) else None
 
 -- what is valid under the replay key of a party of the cluster
 abbrev pub replay_accepts : Setting → LmsSet → Party → List ℕ → List ℕ → Bool

@@ -1,5 +1,6 @@
 //! Laws of keyrings and pens: functions that do nothing, and whose contracts say them.
-ghost use Rattle.keyring_lms.specs.Laws.{AcceptedIsValid, PensAgreeWithKeys, OneKeyAgreesWithItsPen, ReplayPensAgreeWithKeys, ReplayPensAreAccepted};
+ghost use Rattle.keyring_lms.specs.Laws.{AcceptedIsValid, PensAgreeWithKeys, OneKeyAgreesWithItsPen};
+ghost use Rattle.keyring_lms.specs.Laws.{ReplayPensAgreeWithKeys, ReplayPensAreAccepted};
 
 /// A keyring accepts exactly what is valid (RFC 8554, section 5.4.2) under the public key of the party's first entry.
 pub fn accepted_is_valid()

@@ -12,8 +12,8 @@ use lms_sign::{LmsKey, LmsSet};
 use std::alloc::Global;
 use std::marker::Model;
 
-/// A signer of one party with the leaves of one key, each once. Its relation is validity (RFC 8554, section 5.4.2) under
-/// its key's public key, for its own party alone.
+/// A signer of one party with the leaves of one key, each once. Its relation is validity (RFC 8554, section 5.4.2)
+/// under its key's public key, for its own party alone.
 #[derive(Drop)]
 pub struct LmsPen {
     party: Party,
@@ -49,7 +49,8 @@ impl LmsPen {
 
     /// The pen of a party in a replay: its key of this set from leaf 0 on.
     pub fn replay(alloc: Global, party: Party, set: LmsSet) -> Result<LmsPen, NoMemory>
-        ensures fixed { IfOk result (λ pen. ⟦<LmsPen as Signer>⟧.fixed pen ≡ lms_signing party (tree_in_replay set party) 0) }
+        ensures fixed { IfOk result
+            (λ pen. ⟦<LmsPen as Signer>⟧.fixed pen ≡ lms_signing party (tree_in_replay set party) 0) }
         ensures spent { IfOk result (λ pen. ⟦<LmsPen as Signer>⟧.spent pen ≡ 0) }
         ensures left { IfOk result (λ pen. ⟦<LmsPen as Signer>⟧.left_of pen ≡ leaves_of set) }
     {

@@ -1,5 +1,6 @@
 -- The votes that an outcome releases.
-use Rattle.std.proofs.Common.{◌≡◌, ℕ, ◌<◌, Bool, true, false, cond, inl, List, length, get_or, Option, Some, None, refl, ap, sym, ◌∙◌, subst}
+use Rattle.std.proofs.Common.{◌≡◌, ℕ, ◌<◌, Bool, true, false, cond, inl, List, length}
+use Rattle.std.proofs.Common.{get_or, Option, Some, None, refl, ap, sym, ◌∙◌, subst}
 use Rattle.std.proofs.Common.{arith}
 use Rattle.std.specs.Prelude.{◌&&◌, ◌==◌, slice_get, is_none, option_map}
 use Rattle.std.specs.List.{Contains, enumerate_from, IsDistinct}

@@ -1,5 +1,6 @@
 -- Facts about chains and the strings that they make.
-use Rattle.std.proofs.Common.{◌≡◌, ℕ, zero, suc, ◌+◌, ◌-◌, ◌*◌, ◌≤◌, ◌<◌, List, [], ◌∷◌, ◌++◌, length, take, drop, refl, ap, subst, add-one, arith, inl, inr}
+use Rattle.std.proofs.Common.{◌≡◌, ℕ, zero, suc, ◌+◌, ◌-◌, ◌*◌, ◌≤◌, ◌<◌, List, [], ◌∷◌, ◌++◌}
+use Rattle.std.proofs.Common.{length, take, drop, refl, ap, subst, add-one, arith, inl, inr}
 use Rattle.std.proofs.lemmas.List.{length-append, drop_at, take_all, take-append-le, drop-append-le, length-drop}
 use Rattle.std.proofs.lemmas.Bool.{cases_lt}
 use Rattle.sha2.proofs.Facts256.{length-sha256}
@@ -22,7 +23,8 @@ joined-same y z (suc n) h =
     rw (first, h n (omega arith)) refl
 
 -- the same ends make the same key
-pub key-same : (set : OtsSet) (leaf : Leaf) (y z : ℕ → List ℕ) → ((i : ℕ) → i < chains_of set → y i ≡ z i) → key_of_ends set leaf y ≡ key_of_ends set leaf z
+pub key-same : (set : OtsSet) (leaf : Leaf) (y z : ℕ → List ℕ) →
+    ((i : ℕ) → i < chains_of set → y i ≡ z i) → key_of_ends set leaf y ≡ key_of_ends set leaf z
 unfolding key_of_ends
 key-same set leaf y z h = ap (λ (t : List ℕ). sha256 (head leaf ++ 0x80 ∷ 0x80 ∷ [] ++ t)) (joined-same y z (chains_of set) h)
 
@@ -41,7 +43,8 @@ joined-part y h (suc n) i lt =
       | inl below ↦
           let inside : 32 * i ≤ length (joined y n) = omega (arith, len) in
           let room : 32 ≤ length (drop (32 * i) (joined y n)) = omega (arith, len, length-drop (32 * i) (joined y n)) in
-          rw (drop-append-le (32 * i) (joined y n) (y n) inside, take-append-le 32 (drop (32 * i) (joined y n)) (y n) room) (joined-part y h n i below)
+          rw (drop-append-le (32 * i) (joined y n) (y n) inside, take-append-le 32 (drop (32 * i) (joined y n)) (y n) room)
+          (joined-part y h n i below)
       | inr above ↦
           let same : n ≡ i = omega arith in
           let P : ℕ → Type 0 = λ k. take 32 (drop (32 * k) (joined y n ++ y n)) ≡ y k in

@@ -23,7 +23,8 @@ set-keeps ends order E n v size bound right before m lt =
     let at : ℕ = (lane_of order n).chain in
     let here : ℕ = (lane_of order m).chain in
     elim (cases_eq here at) [
-      | inl same ↦ subst (λ (p : ℕ). slice_index_or (slice_set ends at v) p [] ≡ E p) (sym same) (get_or-set_same ends at v [] (omega (arith, size, bound)) ∙ right)
+      | inl same ↦ subst (λ (p : ℕ). slice_index_or (slice_set ends at v) p [] ≡ E p)
+          (sym same) (get_or-set_same ends at v [] (omega (arith, size, bound)) ∙ right)
       | inr other ↦
           let older : m < n = elim (cases_lt m n) [
             | inl below ↦ below
@@ -43,11 +44,14 @@ all-known lanes size numbered k d lt =
     let number : (slice_index_or lanes k d).chain ≡ k = ap (λ (s : Lane). s.chain) same ∙ numbered k low in
     (subst (λ (p : ℕ). p < 72) (sym number) low, ap (lane_of lanes) number ∙ sym same)
 
-pub moved-known : (lanes order : List Lane) → length lanes ≡ 72 → IsNumbered lanes → IsPermutation lanes order → (m : ℕ) → m < 72 → known lanes (lane_of order m)
+pub moved-known : (lanes order : List Lane) →
+    length lanes ≡ 72 → IsNumbered lanes → IsPermutation lanes order → (m : ℕ) → m < 72 → known lanes (lane_of order m)
 moved-known lanes order size numbered moves m lt =
-    All-permutation (known lanes) lanes order moves (all-known lanes size numbered) m idle (omega (arith, size, lt, length_permutation lanes order moves))
+    All-permutation (known lanes) lanes order moves
+    (all-known lanes size numbered) m idle (omega (arith, size, lt, length_permutation lanes order moves))
 
-pub moved-bound : (lanes order : List Lane) → length lanes ≡ 72 → IsNumbered lanes → IsPermutation lanes order → (m : ℕ) → m < 72 → (lane_of order m).chain < 72
+pub moved-bound : (lanes order : List Lane) →
+    length lanes ≡ 72 → IsNumbered lanes → IsPermutation lanes order → (m : ℕ) → m < 72 → (lane_of order m).chain < 72
 moved-bound lanes order size numbered moves m lt = (moved-known lanes order size numbered moves m lt).0
 
 pub moved-same : (lanes order : List Lane) → length lanes ≡ 72 → IsNumbered lanes → IsPermutation lanes order → (m : ℕ) → m < 72

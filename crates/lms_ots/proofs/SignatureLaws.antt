@@ -18,17 +18,20 @@ digit-last W4 string i = and_le_l 15 _
 digit-last W8 string i = and_le_l 255 _
 
 part-is : (set : OtsSet) (leaf : Leaf) (seed c string : List ℕ) → length c ≡ 32 → (i : ℕ) → i < chains_of set
-    → part_in (to_be_bytes w32 (type_of set) ++ c ++ joined (signed_part set leaf seed string) (chains_of set)) i ≡ signed_part set leaf seed string i
+    → part_in (to_be_bytes w32 (type_of set) ++ c ++ joined (signed_part set leaf seed string) (chains_of set)) i
+    ≡ signed_part set leaf seed string i
 part-is set leaf seed c string len i lt =
     let y = signed_part set leaf seed string in
     let front = to_be_bytes w32 (type_of set) ++ c in
     let long : length front ≡ 36 = omega (arith, len) in
     let past = drop-append-add front (joined y (chains_of set)) (32 * i) in
     let P : ℕ → Type 0 = λ k. take 32 (drop (k + 32 * i) (front ++ joined y (chains_of set))) ≡ y i in
-    subst P long (ap (take 32) past ∙ joined-part y (λ j. length-steps (head leaf) j 0 _ (start_of leaf seed j) (length-start leaf seed j)) (chains_of set) i lt)
+    subst P long (ap (take 32) past
+    ∙ joined-part y (λ j. length-steps (head leaf) j 0 _ (start_of leaf seed j) (length-start leaf seed j)) (chains_of set) i lt)
 
 each_end : (set : OtsSet) (leaf : Leaf) (seed c string : List ℕ) → length c ≡ 32 → (i : ℕ) → i < chains_of set
-    → end_from set leaf string (to_be_bytes w32 (type_of set) ++ c ++ joined (signed_part set leaf seed string) (chains_of set)) i ≡ end_of set leaf seed i
+    → end_from set leaf string (to_be_bytes w32 (type_of set) ++ c ++ joined (signed_part set leaf seed string) (chains_of set)) i
+    ≡ end_of set leaf seed i
 each_end set leaf seed c string len i lt =
     ap (λ (t : List ℕ). chain leaf i (digit set string i) (last_of set) t) (part-is set leaf seed c string len i lt)
     ∙ chain-then leaf i (digit set string i) (last_of set) (start_of leaf seed i) (digit-last set string i)
@@ -42,9 +45,11 @@ leads_to_the_key set leaf seed c message len =
     let y = signed_part set leaf seed string in
     let signature = signature_of set leaf seed c message in
     let c-is : take 32 (drop 4 signature) ≡ c = take_at c (joined y (chains_of set)) 32 len in
-    rw c-is (ap (λ (t : List ℕ). sha256 (head leaf ++ 0x80 ∷ 0x80 ∷ [] ++ t)) (joined-same (end_from set leaf string signature) (end_of set leaf seed) (chains_of set) (λ i lt. each_end set leaf seed c string len i lt)))
+    rw c-is (ap (λ (t : List ℕ). sha256 (head leaf ++ 0x80 ∷ 0x80 ∷ [] ++ t)) (joined-same (end_from set leaf string signature)
+    (end_of set leaf seed) (chains_of set) (λ i lt. each_end set leaf seed c string len i lt)))
 
-pub length-signature : (set : OtsSet) (leaf : Leaf) (seed c message : List ℕ) → length c ≡ 32 → length (signature_of set leaf seed c message) ≡ signature_length set
+pub length-signature : (set : OtsSet) (leaf : Leaf) (seed c message : List ℕ) →
+    length c ≡ 32 → length (signature_of set leaf seed c message) ≡ signature_length set
 length-signature set leaf seed c message len =
     let y = signed_part set leaf seed (signed_string set (message_digest leaf c message)) in
     let parts = length-joined y (λ j. length-steps (head leaf) j 0 _ (start_of leaf seed j) (length-start leaf seed j)) (chains_of set) in

@@ -19,7 +19,8 @@ IsNumbered lanes = (i : ℕ) → i < 72 → (lane_of lanes i).chain ≡ i
 
 -- the ends of the eight lanes from one on
 abbrev pub HoldsEnds : Leaf → List Lane → ℕ → List (List ℕ) → Type 0
-HoldsEnds leaf lanes first ends = (k : ℕ) → k < 8 → slice_index_or ends k [] ≡ end_of_lane leaf (lane_of lanes (first + k))
+HoldsEnds leaf lanes first ends =
+    (k : ℕ) → k < 8 → slice_index_or ends k [] ≡ end_of_lane leaf (lane_of lanes (first + k))
 
 -- the first n lanes end in y
 abbrev pub LeadTo : (ℕ → List ℕ) → Leaf → List Lane → ℕ → Type 0

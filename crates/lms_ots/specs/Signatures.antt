@@ -18,7 +18,8 @@ signed_part set leaf seed string i = chain leaf i 0 (digit set string i) (start_
 -- u32 type ‖ C ‖ y[0] ‖ .. ‖ y[p - 1]
 abbrev pub signature_of : OtsSet → Leaf → List ℕ → List ℕ → List ℕ → List ℕ
 signature_of set leaf seed c message =
-    to_be_bytes w32 (type_of set) ++ c ++ joined (signed_part set leaf seed (signed_string set (message_digest leaf c message))) (chains_of set)
+    to_be_bytes w32 (type_of set) ++ c
+    ++ joined (signed_part set leaf seed (signed_string set (message_digest leaf c message))) (chains_of set)
 
 -- the type, C and y[i] in a signature
 abbrev pub type_in : List ℕ → ℕ
@@ -37,4 +38,5 @@ end_from set leaf string signature i = chain leaf i (digit set string i) (last_o
 -- Kc, the candidate: K of these ends
 abbrev pub candidate_of : OtsSet → Leaf → List ℕ → List ℕ → List ℕ
 candidate_of set leaf message signature =
-    key_of_ends set leaf (end_from set leaf (signed_string set (message_digest leaf (c_in signature) message)) signature)
+    key_of_ends set leaf
+    (end_from set leaf (signed_string set (message_digest leaf (c_in signature) message)) signature)

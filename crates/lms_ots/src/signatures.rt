@@ -42,7 +42,8 @@ pub fn ots_sign(
 )
     requires { length out.old ≡ signature_length set }
     ensures signature { out.new ≡ signature_of set (leaf_of ident.now q) seed.now c.now message.now }
-    ensures leads_to_the_key { candidate_of set (leaf_of ident.now q) message.now out.new ≡ public_of set (leaf_of ident.now q) seed.now }
+    ensures leads_to_the_key { candidate_of set (leaf_of ident.now q) message.now out.new
+        ≡ public_of set (leaf_of ident.now q) seed.now }
 {
     let string = with_checksum(set, &digest_of(ident, q, c, message));
     let lanes = signing_lanes(set, ident, q, seed, &string);
@@ -64,7 +65,8 @@ pub fn ots_candidate(
     signature: &[u8],
 ) -> Result<[u8; 32], OtsRefusal>
     ensures candidate { IfOk result (λ key. key ≡ candidate_of set (leaf_of ident.now q) message.now signature.now) }
-    ensures answers { IsOk result ↔ (length signature.now ≡ signature_length set) × (type_in signature.now ≡ type_of set) }
+    ensures answers { IsOk result ↔ (length signature.now ≡ signature_length set) ×
+        (type_in signature.now ≡ type_of set) }
     ensures length { result ≡ Err OtsRefusal.Length ↔ (length signature.now ≢ signature_length set) }
     ensures set_type { result ≡ Err OtsRefusal.SetType
         ↔ (length signature.now ≡ signature_length set) × (type_in signature.now ≢ type_of set) }
@@ -117,7 +119,8 @@ fn key_of_parts(
     signature: &[u8],
 ) -> [u8; 32]
     requires { length signature.now ≡ signature_length set }
-    ensures { result ≡ key_of_ends set (leaf_of ident.now q) (end_from set (leaf_of ident.now q) string.now signature.now) }
+    ensures { result ≡ key_of_ends set (leaf_of ident.now q)
+        (end_from set (leaf_of ident.now q) string.now signature.now) }
 {
     let lanes = candidate_lanes(set, string, signature);
     key_of_chains(set, ident, q, &run_all(ident, q, &lanes))

@@ -15,7 +15,8 @@ use sha256_lanes::Lane;
 /// Chain `i` of a key, from its start to its last place.
 fn key_lane(set: OtsSet, ident: &[u8; 16], q: u32, seed: &[u8; 32], i: u16) -> Lane
     ensures number { result.chain ≡ i }
-    ensures end { i < chains_of set → end_of_lane (leaf_of ident.now q) result ≡ end_of set (leaf_of ident.now q) seed.now i }
+    ensures end { i < chains_of set → end_of_lane (leaf_of ident.now q) result
+        ≡ end_of set (leaf_of ident.now q) seed.now i }
 {
     if i >= set.chains() {
         return ended(i, 0);
@@ -50,7 +51,8 @@ fn signing_lane(
     i: u16,
 ) -> Lane
     ensures number { result.chain ≡ i }
-    ensures end { i < chains_of set → end_of_lane (leaf_of ident.now q) result ≡ signed_part set (leaf_of ident.now q) seed.now string.now i }
+    ensures end { i < chains_of set → end_of_lane (leaf_of ident.now q) result
+        ≡ signed_part set (leaf_of ident.now q) seed.now string.now i }
 {
     if i >= set.chains() {
         return ended(i, 0);
@@ -72,7 +74,8 @@ pub(crate) fn signing_lanes(
     string: &[u8; 34],
 ) -> [Lane; 72]
     ensures numbered { IsNumbered result }
-    ensures ends { LeadTo (signed_part set (leaf_of ident.now q) seed.now string.now) (leaf_of ident.now q) result (chains_of set) }
+    ensures ends { LeadTo (signed_part set (leaf_of ident.now q) seed.now string.now)
+        (leaf_of ident.now q) result (chains_of set) }
 {
     let mut lanes = [ended(0, 0); 72];
     'lanes: for i in 0..72 {
@@ -85,7 +88,8 @@ pub(crate) fn signing_lanes(
 fn candidate_lane(set: OtsSet, string: &[u8; 34], signature: &[u8], i: u16) -> Lane
     requires { length signature.now ≡ signature_length set }
     ensures number { result.chain ≡ i }
-    ensures end { (leaf : Leaf) → i < chains_of set → end_of_lane leaf result ≡ end_from set leaf string.now signature.now i }
+    ensures end { (leaf : Leaf) → i < chains_of set →
+        end_of_lane leaf result ≡ end_from set leaf string.now signature.now i }
 {
     if i >= set.chains() {
         return ended(i, set.last());

@@ -1,5 +1,6 @@
 -- The parts of a key's public key and of its signatures.
-use Rattle.std.proofs.Common.{◌≡◌, ℕ, zero, suc, ◌+◌, ◌*◌, ◌<◌, ◌^◌, List, ◌++◌, length, take, drop, [], ◌∷◌, Some, refl, sym, ap, ◌∙◌, subst, append_assoc, arith}
+use Rattle.std.proofs.Common.{◌≡◌, ℕ, zero, suc, ◌+◌, ◌*◌, ◌<◌, ◌^◌, List, ◌++◌, length, take}
+use Rattle.std.proofs.Common.{drop, [], ◌∷◌, Some, refl, sym, ap, ◌∙◌, subst, append_assoc, arith}
 use Rattle.std.specs.Int.{w32, to_be_bytes, from_be_bytes}
 use Rattle.std.proofs.lemmas.List.{take_at, drop_at, take_all, drop-drop, length-append, length-take-le}
 use Rattle.std.proofs.lemmas.Nat.{from_be_bytes-to_be_bytes_4}
@@ -77,7 +78,8 @@ length-public tree len = omega (arith, len, length-node tree (height_of tree.set
 pub set-in_public : (tree : Tree) → set_in (public_of tree) ≡ Some tree.set
 set-in_public tree =
     let first : number_at (public_of tree) 0 ≡ type_of tree.set = from_be_bytes-to_be_bytes_4 (type_of tree.set) (type-fits tree.set) in
-    let second : number_at (public_of tree) 4 ≡ one_time_type_of tree.set = from_be_bytes-to_be_bytes_4 (one_time_type_of tree.set) (one_time_type-fits tree.set) in
+    let second : number_at (public_of tree) 4 ≡ one_time_type_of tree.set =
+    from_be_bytes-to_be_bytes_4 (one_time_type_of tree.set) (one_time_type-fits tree.set) in
     ap (λ (k : ℕ). set_of_types k (number_at (public_of tree) 4)) first ∙ ap (set_of_types (type_of tree.set)) second ∙ types-name tree.set
 
 pub ident-in_public : (tree : Tree) → length tree.ident ≡ 16 → ident_in (public_of tree) ≡ tree.ident
@@ -90,7 +92,8 @@ root-in_public tree len =
 -- the parts of a signature
 pub length-one_time : (tree : Tree) (q : ℕ) (message : List ℕ) → length (one_time_part tree q message) ≡ one_time_length tree.set
 length-one_time tree q message =
-    length-signature (one_time_of tree.set) (leaf_of tree.ident q) tree.seed (randomizer_of tree.seed q) message (length-randomizer tree.seed q)
+    length-signature (one_time_of tree.set)
+    (leaf_of tree.ident q) tree.seed (randomizer_of tree.seed q) message (length-randomizer tree.seed q)
 
 pub length-path : (tree : Tree) (r n : ℕ) → length (joined (path_of tree r) n) ≡ 32 * n
 length-path tree r n = length-joined (path_of tree r) (λ i. length-node tree i _) n
@@ -112,10 +115,12 @@ length-made tree q message =
 pub leaf-in_made : (tree : Tree) (q : ℕ) (message : List ℕ) → q < leaves_of tree.set → leaf_in (signature_of tree q message) ≡ q
 leaf-in_made tree q message lt = from_be_bytes-to_be_bytes_4 q (omega (arith, lt, leaves-fit tree.set))
 
-pub one_time_type-in_made : (tree : Tree) (q : ℕ) (message : List ℕ) → one_time_type_in (signature_of tree q message) ≡ one_time_type_of tree.set
+pub one_time_type-in_made : (tree : Tree) (q : ℕ) (message : List ℕ) →
+    one_time_type_in (signature_of tree q message) ≡ one_time_type_of tree.set
 one_time_type-in_made tree q message = from_be_bytes-to_be_bytes_4 (one_time_type_of tree.set) (one_time_type-fits tree.set)
 
-pub one_time-in_made : (tree : Tree) (q : ℕ) (message : List ℕ) → one_time_in tree.set (signature_of tree q message) ≡ one_time_part tree q message
+pub one_time-in_made : (tree : Tree) (q : ℕ) (message : List ℕ) →
+    one_time_in tree.set (signature_of tree q message) ≡ one_time_part tree q message
 one_time-in_made tree q message =
     let one_time = one_time_part tree q message in
     let number = to_be_bytes w32 (type_of tree.set) in
@@ -131,7 +136,8 @@ type-in_made tree q message =
     let path = joined (path_of tree (leaves_of tree.set + q)) (height_of tree.set) in
     let all : drop 4 (signature_of tree q message) ≡ one_time ++ (number ++ path) = append_assoc one_time number path in
     let rest : drop (4 + n) (signature_of tree q message) ≡ number ++ path =
-    sym (drop-drop n 4 (signature_of tree q message)) ∙ ap (drop n) all ∙ drop_at one_time (number ++ path) n (length-one_time tree q message) in
+    sym (drop-drop n 4 (signature_of tree q message))
+    ∙ ap (drop n) all ∙ drop_at one_time (number ++ path) n (length-one_time tree q message) in
     ap (λ (t : List ℕ). from_be_bytes w32 (take 4 t)) rest ∙ from_be_bytes-to_be_bytes_4 (type_of tree.set) (type-fits tree.set)
 
 pub path-in_made : (tree : Tree) (q : ℕ) (message : List ℕ) (i : ℕ) → i < height_of tree.set
@@ -140,7 +146,9 @@ path-in_made tree q message i lt =
     let front = to_be_bytes w32 q ++ one_time_part tree q message ++ to_be_bytes w32 (type_of tree.set) in
     let path = joined (path_of tree (leaves_of tree.set + q)) (height_of tree.set) in
     let one_time_long = length-one_time tree q message in
-    let long : length front ≡ 8 + one_time_length tree.set = length-three (to_be_bytes w32 q) (one_time_part tree q message) (to_be_bytes w32 (type_of tree.set)) ∙ omega arith in
+    let long : length front ≡ 8 + one_time_length tree.set =
+    length-three (to_be_bytes w32 q) (one_time_part tree q message) (to_be_bytes w32 (type_of tree.set)) ∙ omega arith in
     let past = drop-append-add front path (32 * i) in
     let P : ℕ → Type 0 = λ k. take 32 (drop (k + 32 * i) (front ++ path)) ≡ path_of tree (leaves_of tree.set + q) i in
-    subst P long (ap (take 32) past ∙ joined-part (path_of tree (leaves_of tree.set + q)) (λ j. length-node tree j _) (height_of tree.set) i lt)
+    subst P long
+    (ap (take 32) past ∙ joined-part (path_of tree (leaves_of tree.set + q)) (λ j. length-node tree j _) (height_of tree.set) i lt)

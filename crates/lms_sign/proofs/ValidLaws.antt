@@ -1,5 +1,6 @@
 -- Valid signatures: those that a key makes, and those that no test refuses.
-use Rattle.std.proofs.Common.{◌≡◌, ℕ, ◌+◌, ◌-◌, ◌<◌, ◌==◌, nat_eq, nat_lt, Bool, true, false, ◌&&◌, List, length, Option, Some, None, is_none, IsOk, ◌↔◌, refl, sym, ap, ◌∙◌, eq-eqb, arith}
+use Rattle.std.proofs.Common.{◌≡◌, ℕ, ◌+◌, ◌-◌, ◌<◌, ◌==◌, nat_eq, nat_lt, Bool, true, false, ◌&&◌, List}
+use Rattle.std.proofs.Common.{length, Option, Some, None, is_none, IsOk, ◌↔◌, refl, sym, ap, ◌∙◌, eq-eqb, arith}
 use Rattle.std.specs.Cmp.Lexicographic.{pointwise, bytes_decides}
 use Rattle.std.proofs.lemmas.Bool.{eqb-true, lt-ltb, ltb-true}
 use Rattle.lms_sign.specs.declared.sets.LmsSet.{LmsSet}
@@ -10,11 +11,14 @@ use Rattle.lms_sign.specs.Sets.{one_time_of, one_time_type_of, type_of, size_of,
 use Rattle.lms_sign.specs.Randomizer.{randomizer_of}
 use Rattle.lms_sign.specs.Tree.{Tree, leaf_node, node, root, public_of, one_time_key}
 use Rattle.lms_sign.specs.Signing.{path_of, signature_of}
-use Rattle.lms_sign.specs.Verifying.{Valid, unless, refusal_in, refusal_under, first_refusal, is_valid, answer_of, set_in, one_time_type_in, type_in, leaf_in, path_in, candidate_leaf, root_from, ident_in, root_in}
+use Rattle.lms_sign.specs.Verifying.{Valid, unless, refusal_in, refusal_under, first_refusal, is_valid, answer_of, set_in}
+use Rattle.lms_sign.specs.Verifying.{one_time_type_in, type_in, leaf_in, path_in, candidate_leaf, root_from, ident_in, root_in}
 use Rattle.lms_sign.proofs.PathLaws.{path-to_root, climbed-same}
-use Rattle.lms_sign.proofs.PartLaws.{length-randomizer, length-public, set-in_public, ident-in_public, root-in_public, length-made, leaf-in_made, one_time_type-in_made, one_time-in_made, type-in_made, path-in_made}
+use Rattle.lms_sign.proofs.PartLaws.{length-randomizer, length-public, set-in_public, ident-in_public, root-in_public, length-made}
+use Rattle.lms_sign.proofs.PartLaws.{leaf-in_made, one_time_type-in_made, one_time-in_made, type-in_made, path-in_made}
 
-leaf-node_is : (tree : Tree) (q : ℕ) → node tree 0 (leaves_of tree.set + q) ≡ leaf_node tree.ident (leaves_of tree.set + q) (one_time_key tree q)
+leaf-node_is : (tree : Tree) (q : ℕ) → node tree 0 (leaves_of tree.set + q)
+    ≡ leaf_node tree.ident (leaves_of tree.set + q) (one_time_key tree q)
 unfolding node
 leaf-node_is tree q =
     let e : leaves_of tree.set + q - leaves_of tree.set ≡ q = omega arith in
@@ -29,17 +33,20 @@ leaf-made tree q message lt =
     rw (leaf-in_made tree q message lt, one_time-in_made tree q message, key) (sym (leaf-node_is tree q))
 
 -- and its path to the root
-root-made : (tree : Tree) (q : ℕ) (message : List ℕ) → q < leaves_of tree.set → root_from tree.set tree.ident message (signature_of tree q message) ≡ root tree
+root-made : (tree : Tree) (q : ℕ) (message : List ℕ) →
+    q < leaves_of tree.set → root_from tree.set tree.ident message (signature_of tree q message) ≡ root tree
 root-made tree q message lt =
     let r = leaves_of tree.set + q in
     let made = signature_of tree q message in
     let h = height_of tree.set in
     let leaf = leaf-made tree q message lt in
-    let same = climbed-same tree.ident (path_in tree.set made) (path_of tree r) r (node tree 0 r) h (λ i below. path-in_made tree q message i below) in
+    let same = climbed-same tree.ident (path_in tree.set made)
+    (path_of tree r) r (node tree 0 r) h (λ i below. path-in_made tree q message i below) in
     rw (leaf, leaf-in_made tree q message lt, same) (path-to_root tree q lt)
 
 -- what a key signs is valid under its public key
-pub made-valid : (tree : Tree) (q : ℕ) (message : List ℕ) → length tree.ident ≡ 16 → q < leaves_of tree.set → Valid (public_of tree) message (signature_of tree q message)
+pub made-valid : (tree : Tree) (q : ℕ) (message : List ℕ) →
+    length tree.ident ≡ 16 → q < leaves_of tree.set → Valid (public_of tree) message (signature_of tree q message)
 made-valid tree q message len lt =
     let leads = ap (λ (ident : List ℕ). root_from tree.set ident message (signature_of tree q message)) (ident-in_public tree len)
     ∙ root-made tree q message lt ∙ sym (root-in_public tree len) in
@@ -62,7 +69,8 @@ valid-unrefused public message signature v =
     let one_time : (one_time_type_in signature == one_time_type_of v.set) ≡ true = eq-eqb _ _ v.one_time_type in
     let tree : (type_in v.set signature == type_of v.set) ≡ true = eq-eqb _ _ v.tree_type in
     let leaf : nat_lt (leaf_in signature) (leaves_of v.set) ≡ true = lt-ltb _ _ v.leaf_range in
-    let same : pointwise nat_eq (root_from v.set (ident_in public) message signature) (root_in public) ≡ true = (bytes_decides _ _).1 v.leads_to_root in
+    let same : pointwise nat_eq (root_from v.set (ident_in public) message signature) (root_in public) ≡ true =
+    (bytes_decides _ _).1 v.leads_to_root in
     rw (key, v.key_types, long, one_time, tree, leaf, same) refl
 
 pub valid-told : (public message signature : List ℕ) → Valid public message signature → is_valid public message signature ≡ true
@@ -117,7 +125,8 @@ answers None h = refl
 answers (Some e) h = cc
 
 -- the answer is Ok exactly where the signature is valid
-pub ok-valid : (public message signature : List ℕ) → IsOk (answer_of (first_refusal public message signature)) ↔ Valid public message signature
+pub ok-valid : (public message signature : List ℕ) →
+    IsOk (answer_of (first_refusal public message signature)) ↔ Valid public message signature
 ok-valid public message signature = (
   λ ok. unrefused-valid public message signature (answers (first_refusal public message signature) ok),
   λ v. rw (valid-unrefused public message signature v) refl,

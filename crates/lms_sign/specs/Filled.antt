@@ -11,5 +11,6 @@ AreLeavesBelow tree q nodes =
 -- the nodes from a number on
 abbrev pub AreNodesFrom : Tree → ℕ → List (List ℕ) → Type 0
 AreNodesFrom tree first nodes =
-    (level r : ℕ) → level ≤ height_of tree.set → 2 ^ (height_of tree.set - level) ≤ r → r < 2 * 2 ^ (height_of tree.set - level)
+    (level r : ℕ) → level ≤ height_of tree.set →
+    2 ^ (height_of tree.set - level) ≤ r → r < 2 * 2 ^ (height_of tree.set - level)
     → first ≤ r → slice_index_or nodes r [] ≡ node tree level r

@@ -1,5 +1,6 @@
 -- What holds of each tree and of each key.
-use Rattle.std.specs.Prelude.{◌≡◌, ◌≢◌, ℕ, ◌+◌, ◌<◌, nat_lt, List, [], ◌∷◌, length, slice_index_or, None, ◌↔◌, if◌then◌else◌}
+use Rattle.std.specs.Prelude.{◌≡◌, ◌≢◌, ℕ, ◌+◌, ◌<◌, nat_lt, List, [], ◌∷◌}
+use Rattle.std.specs.Prelude.{length, slice_index_or, None, ◌↔◌, if◌then◌else◌}
 use Rattle.lms_sign.specs.Sets.{height_of, leaves_of, size_of}
 use Rattle.lms_sign.specs.Tree.{Tree, ident_of_seed, node, root, public_of}
 use Rattle.lms_sign.specs.Signing.{Key, path_of, signature_of}
@@ -9,7 +10,8 @@ use Rattle.lms_sign.specs.Verifying.{Valid, climbed, first_refusal, leaf_in}
 abbrev pub PathLeadsToRoot : Type 0
 PathLeadsToRoot =
     (tree : Tree) (q : ℕ) → q < leaves_of tree.set
-    → climbed tree.ident (path_of tree (leaves_of tree.set + q)) (leaves_of tree.set + q) (node tree 0 (leaves_of tree.set + q)) (height_of tree.set)
+    → climbed tree.ident (path_of tree (leaves_of tree.set + q)) (leaves_of tree.set + q)
+    (node tree 0 (leaves_of tree.set + q)) (height_of tree.set)
     ≡ root tree
 
 -- the signatures that a key gives of some messages in turn, until no leaf is left
@@ -24,7 +26,8 @@ signatures_of key (message ∷ later) =
 abbrev pub SignsOncePerLeaf : Type 0
 SignsOncePerLeaf =
     (key : Key) (messages : List (List ℕ)) (i j : ℕ) → i < j → j < length (signatures_of key messages)
-    → leaf_in (slice_index_or (signatures_of key messages) i []) ≢ leaf_in (slice_index_or (signatures_of key messages) j [])
+    → leaf_in (slice_index_or (signatures_of key messages) i [])
+    ≢ leaf_in (slice_index_or (signatures_of key messages) j [])
 
 -- no test refuses exactly what is valid
 abbrev pub UnrefusedIsValid : Type 0

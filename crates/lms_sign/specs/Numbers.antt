@@ -1,7 +1,8 @@
 -- The numbers of the refusals, in the order of the tests.
 use Rattle.std.specs.Prelude.{ℕ}
 use Rattle.lms_sign.specs.declared.verifying.LmsRefusal.{LmsRefusal}
-use Rattle.lms_sign.specs.declared.verifying.LmsRefusal.TheVariants.{KeyLength, SetType, SignatureLength, TypeDiffers, LeafRange, Root}
+use Rattle.lms_sign.specs.declared.verifying.LmsRefusal.TheVariants.{KeyLength, SetType, SignatureLength}
+use Rattle.lms_sign.specs.declared.verifying.LmsRefusal.TheVariants.{TypeDiffers, LeafRange, Root}
 
 abbrev pub refusal_number : LmsRefusal → ℕ
 refusal_number KeyLength = 1

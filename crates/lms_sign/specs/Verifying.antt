@@ -1,13 +1,16 @@
 -- Valid signatures, and why one is refused (RFC 8554, section 5.4.2).
-use Rattle.std.specs.Prelude.{◌≡◌, ℕ, zero, suc, ◌+◌, ◌*◌, ◌/◌, ◌%◌, ◌^◌, ◌<◌, ◌==◌, nat_eq, nat_lt, Bool, ◌&&◌, List, take, drop, length, Option, Some, None, is_none, Ok, Err, Result, if◌then◌else◌}
+use Rattle.std.specs.Prelude.{◌≡◌, ℕ, zero, suc, ◌+◌, ◌*◌, ◌/◌, ◌%◌, ◌^◌, ◌<◌, ◌==◌, nat_eq, nat_lt, Bool, ◌&&◌}
+use Rattle.std.specs.Prelude.{List, take, drop, length, Option, Some, None, is_none, Ok, Err, Result, if◌then◌else◌}
 use Rattle.std.specs.Int.{w32, from_be_bytes}
 use Rattle.std.specs.Cmp.Lexicographic.{pointwise}
 use Rattle.lms_ots.specs.Chains.{leaf_of}
 use Rattle.lms_ots.specs.Signatures.{candidate_of}
 use Rattle.lms_sign.specs.declared.sets.LmsSet.{LmsSet}
 use Rattle.lms_sign.specs.declared.verifying.LmsRefusal.{LmsRefusal}
-use Rattle.lms_sign.specs.declared.verifying.LmsRefusal.TheVariants.{KeyLength, SetType, SignatureLength, TypeDiffers, LeafRange, Root}
-use Rattle.lms_sign.specs.Sets.{one_time_of, one_time_type_of, one_time_length, height_of, leaves_of, type_of, size_of, set_of_types}
+use Rattle.lms_sign.specs.declared.verifying.LmsRefusal.TheVariants.{KeyLength, SetType, SignatureLength}
+use Rattle.lms_sign.specs.declared.verifying.LmsRefusal.TheVariants.{TypeDiffers, LeafRange, Root}
+use Rattle.lms_sign.specs.Sets.{one_time_of, one_time_type_of, one_time_length}
+use Rattle.lms_sign.specs.Sets.{height_of, leaves_of, type_of, size_of, set_of_types}
 use Rattle.lms_sign.specs.Tree.{leaf_node, inner_node}
 
 -- the u32 at a place
@@ -59,7 +62,8 @@ candidate_leaf set ident message signature =
 -- Tc, the root to which a signature leads
 abbrev pub root_from : LmsSet → List ℕ → List ℕ → List ℕ → List ℕ
 root_from set ident message signature =
-    climbed ident (path_in set signature) (leaves_of set + leaf_in signature) (candidate_leaf set ident message signature) (height_of set)
+    climbed ident (path_in set signature) (leaves_of set + leaf_in signature)
+    (candidate_leaf set ident message signature) (height_of set)
 
 -- a signature of a message under a public key
 pub record Valid (public message signature : List ℕ) : Type 0 where

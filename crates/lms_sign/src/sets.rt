@@ -1,6 +1,7 @@
 //! The parameter sets.
 ghost use Rattle.std.specs.Prelude.{◌≡◌, ◌≤◌};
-ghost use Rattle.lms_sign.specs.Sets.{one_time_of, one_time_type_of, one_time_length, height_of, leaves_of, type_of, size_of, set_of_types};
+ghost use Rattle.lms_sign.specs.Sets.{one_time_of, one_time_type_of, one_time_length};
+ghost use Rattle.lms_sign.specs.Sets.{height_of, leaves_of, type_of, size_of, set_of_types};
 ghost use Rattle.lms_sign.specs.Verifying.{set_in};
 
 use crate::bytes::read_number;

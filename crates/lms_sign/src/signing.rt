@@ -21,7 +21,8 @@ fn put_one_time(
     out: &mut [u8],
 )
     requires { 4 + one_time_length set ≤ length out.old }
-    ensures { take (4 + one_time_length set) out.new ≡ take 4 out.old ++ one_time_part (tree_of set ident.now seed.now) q message.now }
+    ensures { take (4 + one_time_length set) out.new
+        ≡ take 4 out.old ++ one_time_part (tree_of set ident.now seed.now) q message.now }
 {
     let end = 4 + set.one_time_size();
     ots_sign(

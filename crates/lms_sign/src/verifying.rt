@@ -3,7 +3,8 @@ ghost use Rattle.std.specs.Prelude.{◌≡◌, ◌≤◌, ◌<◌, ◌+◌, ◌*
 ghost use Rattle.lms_ots.specs.Signatures.{candidate_of};
 ghost use Rattle.lms_sign.specs.Sets.{leaves_of, height_of, size_of, one_time_length, one_time_type_of};
 ghost use Rattle.lms_sign.specs.Numbers.{refusal_number};
-ghost use Rattle.lms_sign.specs.Verifying.{Valid, first_refusal, refusal_in, is_valid, answer_of, ident_in, root_from, candidate_leaf, climbed, path_in, leaf_in, one_time_type_in};
+ghost use Rattle.lms_sign.specs.Verifying.{Valid, first_refusal, refusal_in, is_valid, answer_of, ident_in};
+ghost use Rattle.lms_sign.specs.Verifying.{root_from, candidate_leaf, climbed, path_in, leaf_in, one_time_type_in};
 
 use crate::bytes::{read_node, read_number};
 use crate::nodes::{leaf, parent_of};

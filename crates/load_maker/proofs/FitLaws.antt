@@ -1,5 +1,6 @@
 -- The fields of each line of a load are in their ranges, and no line is long or has a newline.
-use Rattle.std.proofs.Common.{◌≡◌, ℕ, zero, suc, ◌+◌, ◌-◌, ◌*◌, ◌%◌, ◌^◌, ◌<◌, ◌≤◌, ◌==◌, List, [], ◌∷◌, ◌++◌, Bool, true, false, codes, length, get_or, refl, ap, ◌∙◌, sym, subst, if◌then◌else◌, arith}
+use Rattle.std.proofs.Common.{◌≡◌, ℕ, zero, suc, ◌+◌, ◌-◌, ◌*◌, ◌%◌, ◌^◌, ◌<◌, ◌≤◌, ◌==◌, List, [], ◌∷◌, ◌++◌, Bool}
+use Rattle.std.proofs.Common.{true, false, codes, length, get_or, refl, ap, ◌∙◌, sym, subst, if◌then◌else◌, arith}
 use Rattle.std.proofs.lemmas.List.Elements.{All-nil, All-cons, All-append, All-map, All-replicate}
 use Rattle.std.proofs.lemmas.List.FromFn.{length-range_with_len, get_or-range_with_len}
 use Rattle.std.specs.Fmt.{decimal}
@@ -14,7 +15,8 @@ use Rattle.load_maker.specs.declared.draws.Draw.{Draw}
 use Rattle.load_maker.specs.Draws.{draw_from, draw_of, stream_at, word}
 use Rattle.load_maker.specs.Laws.{LinesAreRead}
 use Rattle.load_maker.specs.Loads as Loads
-use Rattle.load_maker.proofs.WordLaws.{AllTidy, IsTidy, decimal-tidy, is_inside, joined-inside, joined-short, key-fits, key-tidy, labelled-tidy, name-tidy, named, value-fits, value-tidy}
+use Rattle.load_maker.proofs.WordLaws.{AllTidy, IsTidy, decimal-tidy, is_inside, joined-inside, joined-short}
+use Rattle.load_maker.proofs.WordLaws.{key-fits, key-tidy, labelled-tidy, name-tidy, named, value-fits, value-tidy}
 
 -- ---- what is drawn
 

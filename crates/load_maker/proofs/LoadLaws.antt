@@ -8,7 +8,8 @@ use Rattle.schedule_text.specs.declared.line.Line.{Line}
 use Rattle.schedule_text.specs.declared.line.Line.TheVariants.{Round}
 use Rattle.load_maker.specs.declared.draws.Draw.{Draw}
 use Rattle.load_maker.specs.Draws.{draw_from, draw_of, stream_at}
-use Rattle.load_maker.specs.Loads.{header, line_text, text_of, text_of_load, rounds, one_to, transaction_lines, transactions, settle_line, settles}
+use Rattle.load_maker.specs.Loads.{header, line_text, text_of, text_of_load, rounds, one_to}
+use Rattle.load_maker.specs.Loads.{transaction_lines, transactions, settle_line, settles}
 
 -- the text of lines, and then of others
 pub text-append : (a b : List Line) → text_of (a ++ b) ≡ text_of a ++ text_of b

@@ -1,6 +1,8 @@
 -- Which messages of a pool wait.
-use Rattle.std.proofs.Common.{◌≡◌, ◌+◌, ◌≤◌, ◌<◌, ℕ, zero, suc, Bool, true, false, List, [], ◌∷◌, Option, Some, None, length, refl, sym, ap, subst, ◌∙◌, arith}
-use Rattle.std.specs.Prelude.{◌-◌, ◌&&◌, cond, not, drop, map, take, option_map, position, slice_get, slice_index_or, slice_set, sum, unwrap_or}
+use Rattle.std.proofs.Common.{◌≡◌, ◌+◌, ◌≤◌, ◌<◌, ℕ, zero, suc, Bool, true, false, List, []}
+use Rattle.std.proofs.Common.{◌∷◌, Option, Some, None, length, refl, sym, ap, subst, ◌∙◌, arith}
+use Rattle.std.specs.Prelude.{◌-◌, ◌&&◌, cond, not, drop, map, take, option_map, position}
+use Rattle.std.specs.Prelude.{slice_get, slice_index_or, slice_set, sum, unwrap_or}
 use Rattle.std.specs.List.{list_all, position_from, sum_by}
 use Rattle.std.proofs.lemmas.Iterator.Adapters.{position_from-zero}
 use Rattle.std.proofs.lemmas.List.Sums.{sum-map, sum_by-set}

@@ -1,5 +1,6 @@
 -- The messages of a pool.
-use Rattle.std.specs.Prelude.{ℕ, ◌+◌, ◌-◌, List, Bool, true, false, not, Option, None, option_map, drop, take, length, map, nat_le, position, slice_get, sum, if◌then◌else◌}
+use Rattle.std.specs.Prelude.{ℕ, ◌+◌, ◌-◌, List, Bool, true, false, not, Option, None, option_map}
+use Rattle.std.specs.Prelude.{drop, take, length, map, nat_le, position, slice_get, sum, if◌then◌else◌}
 use Rattle.std.specs.List.{list_all}
 use Rattle.basil_types.specs.declared.party.Party.{Party}
 use Rattle.message_pool.specs.declared.pool.Room.{Room}

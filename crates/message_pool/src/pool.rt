@@ -1,6 +1,7 @@
 //! The pool of a run.
 
-ghost use Rattle.std.specs.Prelude.{◌≡◌, ℕ, ◌+◌, ◌-◌, ◌<◌, ◌≤◌, ◌++◌, ◌∷◌, ◌&&◌, [], true, false, Some, OnErr, OnOk, drop, length, nat_le, option_map, position, slice_get, slice_set};
+ghost use Rattle.std.specs.Prelude.{◌≡◌, ℕ, ◌+◌, ◌-◌, ◌<◌, ◌≤◌, ◌++◌, ◌∷◌, ◌&&◌, [], true, false, Some, OnErr};
+ghost use Rattle.std.specs.Prelude.{OnOk, drop, length, nat_le, option_map, position, slice_get, slice_set};
 ghost use Rattle.message_pool.specs.declared.posted.Fate.TheVariants as fates;
 ghost use Rattle.message_pool.specs.declared.posted.Posted.{Posted};
 ghost use Rattle.message_pool.specs.Posts as pools;

@@ -10,7 +10,8 @@ use Rattle.mv_store.specs.declared.index.KeyIndex.{KeyIndex}
 use Rattle.mv_store.specs.declared.keys.Keys.{Keys}
 use Rattle.basil_types.specs.Version.{same_version}
 use Rattle.mv_store.specs.Slots.{slot_at, told_at, slot_after}
-use Rattle.mv_store.specs.Keys.{index_of, HasKey, writer_slot, reader_slot, noted_of, writer_at, reader_at, OnlyRoom, PutsWriter, PutsReader, Notes}
+use Rattle.mv_store.specs.Keys.{index_of, HasKey, writer_slot, reader_slot, noted_of}
+use Rattle.mv_store.specs.Keys.{writer_at, reader_at, OnlyRoom, PutsWriter, PutsReader, Notes}
 use Rattle.mv_store.specs.Noted.{greatest}
 use Rattle.basil_types.proofs.KeyLaws.{bytes_tell, lookup-set_value, lookup-push}
 
@@ -105,7 +106,8 @@ notes old new key read i w found h writers readers noted =
           λ k.
           changed (λ x. x.noted) old new key w h k
           ∙ ap (λ n. cond (bytes_eq key k) n (noted_of old k)) noted
-          ∙ same_choice (bytes_eq key k) _ _ (noted_of old k) (λ p. ap (λ o. Some (greatest (option_and_then (λ x. x.noted) o) read)) (sym found ∙ ap (index_of old) (bytes_tell key k p)));
+          ∙ same_choice (bytes_eq key k) _ _ (noted_of old k)
+          (λ p. ap (λ o. Some (greatest (option_and_then (λ x. x.noted) o) read)) (sym found ∙ ap (index_of old) (bytes_tell key k p)));
       keys = has_keys old new key w h;
     }
 

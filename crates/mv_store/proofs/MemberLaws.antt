@@ -47,7 +47,8 @@ room_of_entered store held noted h s among =
       writes =
           λ k d lt.
           let w : WritePart = get_or (h.transaction).writes k d in
-          slot_of_told _ _ (s.written h w.key among (any_from (λ (x : WritePart). bytes_eq x.key w.key) (h.transaction).writes w (Contains-get_or (h.transaction).writes k d lt) (bytes_same w.key)));
+          slot_of_told _ _ (s.written h w.key among (any_from (λ (x : WritePart). bytes_eq x.key w.key)
+          (h.transaction).writes w (Contains-get_or (h.transaction).writes k d lt) (bytes_same w.key)));
       reads = λ k d lt. slot_of_told _ _ (s.read h _ among (Contains-get_or (h.transaction).reads k d lt));
     }
 

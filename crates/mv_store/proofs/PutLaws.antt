@@ -1,5 +1,6 @@
 -- What a transaction puts at the keys of its items, one after the other.
-use Rattle.std.proofs.Common.{◌≡◌, ℕ, zero, suc, inl, inr, Bool, true, false, cond, List, [], ◌∷◌, ◌++◌, take, Option, Some, None, refl, sym, ap, subst, ◌∙◌}
+use Rattle.std.proofs.Common.{◌≡◌, ℕ, zero, suc, inl, inr, Bool, true, false, cond, List, []}
+use Rattle.std.proofs.Common.{◌∷◌, ◌++◌, take, Option, Some, None, refl, sym, ap, subst, ◌∙◌}
 use Rattle.std.specs.Prelude.{◌||◌, ◌&&◌, IsSome, is_some, option_map, Contains, slice_get}
 use Rattle.std.specs.List.{list_any}
 use Rattle.std.specs.Str.{bytes_eq}

@@ -43,6 +43,7 @@ pub room_of_both : (middle new : Store) (t : TransactionValue) (v : Version) →
     → HasRoom new t
 room_of_both middle new t v same more writes reads =
     record {
-      writes = subst (λ z. All (λ w. IsSome (writer_slot new.keys w.key z)) t.writes) same (All-weaker (λ w. IsSome (writer_slot middle.keys w.key v)) (λ w. IsSome (writer_slot new.keys w.key v)) (λ w h. more.writer_slots w.key v h) t.writes writes);
+      writes = subst (λ z. All (λ w. IsSome (writer_slot new.keys w.key z)) t.writes) same (All-weaker (λ w. IsSome (writer_slot middle.keys
+          w.key v)) (λ w. IsSome (writer_slot new.keys w.key v)) (λ w h. more.writer_slots w.key v h) t.writes writes);
       reads = subst (λ z. All (λ r. IsSome (reader_slot new.keys r.key z)) t.reads) same reads;
     }

@@ -30,7 +30,8 @@ use Rattle.basil_types.proofs.KeyLaws.{bytes_tell, bytes_same}
 use Rattle.basil_types.proofs.VersionLaws.{version_total, version_exact, same_from_neither}
 use Rattle.mv_store.proofs.VersionLaws.{and_parts, is_in_between, is_before, is_above}
 use Rattle.mv_store.proofs.PutLaws.{both}
-use Rattle.mv_store.proofs.Searches.{Source, any_same, any_from, any_to, filter_from, filter_to, filter_map_from, filter_map_to, map_from, map_to, least_same, Contains-nil}
+use Rattle.mv_store.proofs.Searches.{Source, any_same, any_from, any_to, filter_from, filter_to}
+use Rattle.mv_store.proofs.Searches.{filter_map_from, filter_map_to, map_from, map_to, least_same, Contains-nil}
 use Rattle.mv_store.proofs.LatestLaws.{IsLast, NonePasses, IsLatest, last_found, latest_is}
 
 -- ---- the entries of a map, and what is told at versions
@@ -103,8 +104,10 @@ module _ {E : Type 0} (es : List (Version × Option E)) (told : Version → Opti
   any_hit : list_any (λ e. pass e.1) slots ≡ list_any these all
   any_hit =
       any_same (λ e. pass e.1) these slots all
-      (λ f. let m = of_slot f.item f.among f.passes in let h = (m.2).0 in let k = (m.2).1 in record { item = h; among = k.among; passes = k.hit })
-      (λ f. let m = back f.item f.among f.passes in record { item = (m.0, Some m.1); among = slot_of m.0 m.1 f.item m.2; passes = (m.2).passes })
+      (λ f. let m = of_slot f.item f.among f.passes in let h =
+      (m.2).0 in let k = (m.2).1 in record { item = h; among = k.among; passes = k.hit })
+      (λ f. let m =
+      back f.item f.among f.passes in record { item = (m.0, Some m.1); among = slot_of m.0 m.1 f.item m.2; passes = (m.2).passes })
 
   placed_by : (h : Held) (n : ℕ) (b : Bool) → h.committed ≡ b → cond b (Some h.place) None ≡ Some n → (h.committed ≡ true) × (h.place ≡ n)
   placed_by h n true q e = (q, cc)
@@ -141,7 +144,10 @@ module _ {E : Type 0} (es : List (Version × Option E)) (told : Version → Opti
           filter_map_from (λ e. place e.1) slots (m.0, Some m.1) n (slot_of m.0 m.1 s.item m.2)
           ((m.2).at ∙ ap (λ b. cond b (Some (s.item).place) None) parts.0 ∙ ap Some s.gives)
 
-  same_hits : (let found : Hits = record { any = list_any (λ e. pass e.1) (filter (λ e. range e.0) es); committed = reduce min (filter_map (λ e. place e.1) (filter (λ e. range e.0) es)) } in found) ≡ hits these all
+  same_hits : (let found : Hits = record {
+    any = list_any (λ e. pass e.1) (filter (λ e. range e.0) es);
+    committed = reduce min (filter_map (λ e. place e.1) (filter (λ e. range e.0) es));
+  } in found) ≡ hits these all
   unfolding slots
   same_hits = ap (λ (b : Bool). let h : Hits = record { any = b; committed = reduce min (filter_map (λ e. place e.1) slots) } in h) any_hit
       ∙ ap (λ (o : Option ℕ). let h : Hits = record { any = list_any these all; committed = o } in h) least_hit
@@ -173,7 +179,8 @@ module _ (store : Store) (key : List ℕ) (all : List Held) (noted : List NotedR
   pub writer_hits : (es : List (Version × Option Entered)) (low high : Version) → Shows es (writer_at store.keys key)
       → Index.writers_between low high es ≡ held.writer_between key low high all
   writer_hits es low high shows =
-      same_hits es (writer_at store.keys key) (λ v. range_contains version_cmp (Excluded low) (Excluded high) v) (λ o. is_some o) committed_place (λ h. writes_key h.transaction key && is_between low (version h) high) all shows
+      same_hits es (writer_at store.keys key) (λ v. range_contains version_cmp (Excluded low) (Excluded high) v)
+      (λ o. is_some o) committed_place (λ h. writes_key h.transaction key && is_between low (version h) high) all shows
       (λ v x told within ok.
       let w = s.writers key v x told in (
         w.by,
@@ -205,11 +212,13 @@ module _ (store : Store) (key : List ℕ) (all : List Held) (noted : List NotedR
   pub reader_hits : (es : List (Version × Option Reader)) (at : Version) → Shows es (reader_at store.keys key)
       → Index.readers_across at es ≡ held.reader_across key at all
   reader_hits es at shows =
-      same_hits es (reader_at store.keys key) (λ v. range_contains version_cmp (Excluded at) Unbounded v) (reads_below at) (committed_place_below at) (λ h. below at (version h) && reads_key_below key at h.transaction) all shows
+      same_hits es (reader_at store.keys key) (λ v. range_contains version_cmp (Excluded at) Unbounded v)
+      (reads_below at) (committed_place_below at) (λ h. below at (version h) && reads_key_below key at h.transaction) all shows
       (λ v x told within ok.
       let w = s.readers key v x told in
       let reads = any_from (λ (r : ReadPart). bytes_eq r.key key
-      && below r.version at) ((w.by).transaction).reads w.read w.reads (both (bytes_eq (w.read).key key) (below (w.read).version at) (ap (λ k. bytes_eq k key) w.of_key ∙ bytes_same key) (ap (λ (z : Reader). below z.read at) w.told ∙ ok)) in (
+      && below r.version at) ((w.by).transaction).reads w.read w.reads (both (bytes_eq (w.read).key key) (below (w.read).version at)
+      (ap (λ k. bytes_eq k key) w.of_key ∙ bytes_same key) (ap (λ (z : Reader). below z.read at) w.told ∙ ok)) in (
         w.by,
         record {
           among = w.among;
@@ -273,7 +282,8 @@ module _ (store : Store) (key : List ℕ) (all : List Held) (noted : List NotedR
               is = q;
               by = w.by;
               among = filter_from these all w.by w.among (both (state committed w.by) (writes_key (w.by).transaction key
-                  && below (version w.by) bound) right (both (writes_key (w.by).transaction key) (below (version w.by) bound) w.writes before));
+                  && below (version w.by) bound) right
+                  (both (writes_key (w.by).transaction key) (below (version w.by) bound) w.writes before));
               at = w.at;
               told = w.told;
             }
@@ -284,8 +294,11 @@ module _ (store : Store) (key : List ℕ) (all : List Held) (noted : List NotedR
     entry_of h among =
         let f = filter_to these all h among in
         let parts = and_parts (state committed h) (writes_key h.transaction key && below (version h) bound) f.1 in
-        let more = and_parts (writes_key h.transaction key) (below (version h) bound) parts.1 in
-        (shows.from (version h) (entry h) (s.written h key f.0 more.0), both (range_contains version_cmp Unbounded (Excluded bound) (version h)) (is_told committed (Some (entry h))) (is_before bound (version h) ∙ more.1) (told_in committed h ∙ parts.0))
+        let more = and_parts (writes_key h.transaction key) (below (version h) bound) parts.1 in (
+          shows.from (version h) (entry h) (s.written h key f.0 more.0),
+          both (range_contains version_cmp Unbounded (Excluded bound)
+              (version h)) (is_told committed (Some (entry h))) (is_before bound (version h) ∙ more.1) (told_in committed h ∙ parts.0),
+        )
 
     same_latest : (found : Option (Version × Option Entered)) (last : Option Held) → MatchOption found (NonePasses pass es) (IsLast pass es)
         → MatchOption last (filter these all ≡ []) (IsLatest (filter these all))
@@ -298,7 +311,8 @@ module _ (store : Store) (key : List ℕ) (all : List Held) (noted : List NotedR
     same_latest (Some e) (Some h) f l =
         let w = writer_of e f.among f.passes in
         let g = entry_of h l.among in
-        let same : e.0 ≡ version h = same_from_neither e.0 (version h) (f.last (version h, Some (entry h)) g.0 g.1) (ap (below (version h)) (sym w.at) ∙ l.last w.by w.among) in
+        let same : e.0 ≡ version h = same_from_neither e.0
+        (version h) (f.last (version h, Some (entry h)) g.0 g.1) (ap (below (version h)) (sym w.at) ∙ l.last w.by w.among) in
         let told : Some w.slot ≡ Some (entry h) = sym (shows.to e.0 w.slot (subst (λ o. Contains es (e.0, o)) w.is f.among))
         ∙ ap (writer_at store.keys key) same ∙ shows.to (version h) (entry h) g.0 in
         let slot : w.slot ≡ entry h = cc in
@@ -324,25 +338,31 @@ module _ (store : Store) (key : List ℕ) (all : List Held) (noted : List NotedR
 
   pub writers_found : (i : KeyIndex) (low high : Version) → index_of store.keys key ≡ Some i → IsOrdered version_cmp i.writers.map
       → Index.writers_between low high i.writers.map.entries ≡ held.writer_between key low high all
-  writers_found i low high found ordered = writer_hits i.writers.map.entries low high (shows_map i.writers.map (writer_at store.keys key) ordered (told_map i found))
+  writers_found i low high found ordered =
+      writer_hits i.writers.map.entries low high (shows_map i.writers.map (writer_at store.keys key) ordered (told_map i found))
 
   pub no_writers : (low high : Version) → index_of store.keys key ≡ None
       → Index.writers_between low high [] ≡ held.writer_between key low high all
-  no_writers low high none = writer_hits [] low high (shows_none (writer_at store.keys key) (λ v. ap (λ o. unwrap_or (option_and_then (λ (x : KeyIndex). slot_at x.writers v) o) None) none))
+  no_writers low high none = writer_hits [] low high (shows_none (writer_at store.keys key)
+      (λ v. ap (λ o. unwrap_or (option_and_then (λ (x : KeyIndex). slot_at x.writers v) o) None) none))
 
   pub readers_found : (i : KeyIndex) (at : Version) → index_of store.keys key ≡ Some i → IsOrdered version_cmp i.readers.map
       → Index.readers_across at i.readers.map.entries ≡ held.reader_across key at all
-  readers_found i at found ordered = reader_hits i.readers.map.entries at (shows_map i.readers.map (reader_at store.keys key) ordered (read_map i found))
+  readers_found i at found ordered =
+      reader_hits i.readers.map.entries at (shows_map i.readers.map (reader_at store.keys key) ordered (read_map i found))
 
   pub no_readers : (at : Version) → index_of store.keys key ≡ None → Index.readers_across at [] ≡ held.reader_across key at all
-  no_readers at none = reader_hits [] at (shows_none (reader_at store.keys key) (λ v. ap (λ o. unwrap_or (option_and_then (λ (x : KeyIndex). slot_at x.readers v) o) None) none))
+  no_readers at none = reader_hits [] at (shows_none (reader_at store.keys key)
+      (λ v. ap (λ o. unwrap_or (option_and_then (λ (x : KeyIndex). slot_at x.readers v) o) None) none))
 
   pub latest_found : (i : KeyIndex) (committed : Bool) (bound : Version) → index_of store.keys key ≡ Some i
       → IsOrdered version_cmp i.writers.map
       → Index.latest committed bound i.writers.map.entries ≡ held.latest_below (state committed) key bound all
-  latest_found i committed bound found ordered = latest_writer i.writers.map.entries committed bound (shows_map i.writers.map (writer_at store.keys key) ordered (told_map i found)) ordered
+  latest_found i committed bound found ordered = latest_writer i.writers.map.entries committed bound
+      (shows_map i.writers.map (writer_at store.keys key) ordered (told_map i found)) ordered
 
   pub no_latest : (committed : Bool) (bound : Version) → index_of store.keys key ≡ None
       → Index.latest committed bound [] ≡ held.latest_below (state committed) key bound all
   unfolding IsStrictlySortedBy
-  no_latest committed bound none = latest_writer [] committed bound (shows_none (writer_at store.keys key) (λ v. ap (λ o. unwrap_or (option_and_then (λ (x : KeyIndex). slot_at x.writers v) o) None) none)) tt
+  no_latest committed bound none = latest_writer [] committed bound (shows_none (writer_at store.keys key)
+      (λ v. ap (λ o. unwrap_or (option_and_then (λ (x : KeyIndex). slot_at x.writers v) o) None) none)) tt

@@ -1,5 +1,6 @@
 -- Searches through lists with the same elements.
-use Rattle.std.proofs.Common.{◌≡◌, ℕ, zero, suc, ◌+◌, ◌<◌, ◌≤◌, ◌⊎◌, inl, inr, Bool, true, false, cond, List, [], ◌∷◌, ◌++◌, length, get_or, take, Option, Some, None, map, refl, sym, ap, subst, ◌∙◌, arith, add-one}
+use Rattle.std.proofs.Common.{◌≡◌, ℕ, zero, suc, ◌+◌, ◌<◌, ◌≤◌, ◌⊎◌, inl, inr, Bool, true, false, cond, List, [], ◌∷◌, ◌++◌}
+use Rattle.std.proofs.Common.{length, get_or, take, Option, Some, None, map, refl, sym, ap, subst, ◌∙◌, arith, add-one}
 use Rattle.std.specs.Prelude.{◌||◌, min, fold, filter, Contains, slice_get}
 use Rattle.std.specs.List.{list_any, filter_map, reduce, cons_option}
 use Rattle.std.proofs.lemmas.Bool.{cases_lt}
@@ -58,9 +59,11 @@ module _ {A : Type 0} (p : A → Bool) where
     where
       by : (Contains ys x → p x ≡ true → Contains (filter p ys) x) → (y ≡ x) ⊎ Contains ys x → (b : Bool) → p y ≡ b
           → Contains (filter p (y ∷ ys)) x
-      by more (inl q) true r = subst (λ b. Contains (cond b (y ∷ filter p ys) (filter p ys)) x) (sym r) (subst (λ z. Contains (z ∷ filter p ys) x) (sym q) (Contains-head x (filter p ys)))
+      by more (inl q) true r = subst (λ b. Contains (cond b (y ∷ filter p ys) (filter p ys)) x)
+          (sym r) (subst (λ z. Contains (z ∷ filter p ys) x) (sym q) (Contains-head x (filter p ys)))
       by more (inl q) false r = let impossible : true ≡ false = sym e ∙ ap p (sym q) ∙ r in absurd cc
-      by more (inr q) true r = subst (λ b. Contains (cond b (y ∷ filter p ys) (filter p ys)) x) (sym r) (Contains-tail y x (filter p ys) (more q e))
+      by more (inr q) true r =
+          subst (λ b. Contains (cond b (y ∷ filter p ys) (filter p ys)) x) (sym r) (Contains-tail y x (filter p ys) (more q e))
       by more (inr q) false r = subst (λ b. Contains (cond b (y ∷ filter p ys) (filter p ys)) x) (sym r) (more q e)
 
   pub filter_to : (xs : List A) (x : A) → Contains (filter p xs) x → Contains xs x × (p x ≡ true)
@@ -73,7 +76,8 @@ module _ {A : Type 0} (p : A → Bool) where
             | inl q ↦ (subst (λ z. Contains (z ∷ ys) x) (sym q) (Contains-head x ys), ap p (sym q) ∙ r)
             | inr q ↦ let m = more q in (Contains-tail y x ys m.0, m.1)
           ]
-      by more false r = let m = more (subst (λ b. Contains (cond b (y ∷ filter p ys) (filter p ys)) x) r h) in (Contains-tail y x ys m.0, m.1)
+      by more false r = let m =
+          more (subst (λ b. Contains (cond b (y ∷ filter p ys) (filter p ys)) x) r h) in (Contains-tail y x ys m.0, m.1)
 
 module _ {A B : Type 0} where
   pub map_from : (f : A → B) (xs : List A) (x : A) → Contains xs x → Contains (map f xs) (f x)
@@ -133,7 +137,8 @@ both_true false false f g = refl
 pub any_same : {A B : Type 0} (p : A → Bool) (q : B → Bool) (xs : List A) (ys : List B) → (Found p xs → Found q ys)
     → (Found q ys → Found p xs) → list_any p xs ≡ list_any q ys
 any_same p q xs ys f g =
-    both_true (list_any p xs) (list_any q ys) (λ e. let m = f (any_to p xs e) in any_from q ys m.item m.among m.passes) (λ e. let m = g (any_to q ys e) in any_from p xs m.item m.among m.passes)
+    both_true (list_any p xs) (list_any q ys) (λ e. let m = f (any_to p xs e) in any_from q ys m.item m.among m.passes)
+    (λ e. let m = g (any_to q ys e) in any_from p xs m.item m.among m.passes)
 
 -- ---- the least of two lists
 

@@ -36,11 +36,13 @@ not_true false h = refl
 module _ (old new : Store) (t : TransactionValue) (told : Option Entered) (tells : Tells old.keys new.keys t told) where
   writer_elsewhere : (key : List ℕ) (v : Version) → same_version (version_of t) v ≡ false
       → writer_at new.keys key v ≡ writer_at old.keys key v
-  writer_elsewhere key v apart = ap (λ s. unwrap_or s None) (tells.writers.others key v (and_false (list_any (λ (w : WritePart). bytes_eq w.key key) t.writes) _ apart))
+  writer_elsewhere key v apart = ap (λ s. unwrap_or s None)
+      (tells.writers.others key v (and_false (list_any (λ (w : WritePart). bytes_eq w.key key) t.writes) _ apart))
 
   reader_elsewhere : (key : List ℕ) (v : Version) → same_version (version_of t) v ≡ false
       → reader_at new.keys key v ≡ reader_at old.keys key v
-  reader_elsewhere key v apart = ap (λ s. unwrap_or s None) (tells.readers.others key v (and_false (list_any (λ (r : ReadPart). bytes_eq r.key key) t.reads) _ apart))
+  reader_elsewhere key v apart =
+      ap (λ s. unwrap_or s None) (tells.readers.others key v (and_false (list_any (λ (r : ReadPart). bytes_eq r.key key) t.reads) _ apart))
 
   told_of : (o : Option Entered) → unwrap_or (option_map Some o) None ≡ o
   told_of None = refl
@@ -91,7 +93,13 @@ module _ (old new : Store) (t : TransactionValue) (told : Option Entered) (tells
             inl (parts.0, at, sym (writer_here key parts.0) ∙ ap (writer_at new.keys key) at ∙ is)
         by false q =
             let w = s.writers key v e (sym (ap (λ s. unwrap_or s None) (tells.writers.others key v q)) ∙ is) in
-            inr (record { by = w.by; among = among_removed w.by w.among (apart w (same_version (version_of t) (version w.by)) refl); writes = w.writes; at = w.at; told = w.told })
+            inr (record {
+              by = w.by;
+              among = among_removed w.by w.among (apart w (same_version (version_of t) (version w.by)) refl);
+              writes = w.writes;
+              at = w.at;
+              told = w.told;
+            })
           where
             apart : (w : IsWriter held key v e) (c : Bool) → same_version (version_of t) (version w.by) ≡ c → c ≡ false
             apart w true r =
@@ -124,7 +132,15 @@ module _ (old new : Store) (t : TransactionValue) (told : Option Entered) (tells
             )
         by false q =
             let w = s.readers key v e (sym (ap (λ s. unwrap_or s None) (tells.readers.others key v q)) ∙ is) in
-            inr (record { by = w.by; among = among_removed w.by w.among (apart w (same_version (version_of t) (version w.by)) refl); read = w.read; reads = w.reads; of_key = w.of_key; at = w.at; told = w.told })
+            inr (record {
+              by = w.by;
+              among = among_removed w.by w.among (apart w (same_version (version_of t) (version w.by)) refl);
+              read = w.read;
+              reads = w.reads;
+              of_key = w.of_key;
+              at = w.at;
+              told = w.told;
+            })
           where
             apart : (w : IsReader held key v e) (c : Bool) → same_version (version_of t) (version w.by) ≡ c → c ≡ false
             apart w true r =
@@ -161,7 +177,13 @@ stands_entered old new t place committed held noted tells s alone =
               told = (let same : e
                   ≡ e' = cc (this.2) in same);
             }
-            | inr w ↦ record { by = w.by; among = Contains-append_left (removed held t) (x ∷ []) w.by w.among; writes = w.writes; at = w.at; told = w.told }
+            | inr w ↦ record {
+              by = w.by;
+              among = Contains-append_left (removed held t) (x ∷ []) w.by w.among;
+              writes = w.writes;
+              at = w.at;
+              told = w.told;
+            }
           ];
       read =
           λ h r among reads.
@@ -174,8 +196,24 @@ stands_entered old new t place committed held noted tells s alone =
       readers =
           λ key v e' is.
           elim (reader_cases old new t (Some e) tells held noted s alone key v e' is) [
-            | inl this ↦ record { by = x; among = Contains-push (removed held t) x; read = this.0; reads = this.1; of_key = this.2; at = this.3; told = (let same : reader_of this.0 e ≡ e' = cc (this.4) in same) }
-            | inr w ↦ record { by = w.by; among = Contains-append_left (removed held t) (x ∷ []) w.by w.among; read = w.read; reads = w.reads; of_key = w.of_key; at = w.at; told = w.told }
+            | inl this ↦ record {
+              by = x;
+              among = Contains-push (removed held t) x;
+              read = this.0;
+              reads = this.1;
+              of_key = this.2;
+              at = this.3;
+              told = (let same : reader_of this.0 e ≡ e' = cc (this.4) in same);
+            }
+            | inr w ↦ record {
+              by = w.by;
+              among = Contains-append_left (removed held t) (x ∷ []) w.by w.among;
+              read = w.read;
+              reads = w.reads;
+              of_key = w.of_key;
+              at = w.at;
+              told = w.told;
+            }
           ];
       behind = λ key time client. ap (λ o. is_above o (time, client)) (tells.noted key) ∙ s.behind key time client;
     }

@@ -1,5 +1,6 @@
 -- Entered transactions and noted reads, and what is searched for among them.
-use Rattle.std.specs.Prelude.{◌≡◌, ℕ, Bool, not, List, [], ◌∷◌, ◌++◌, Option, None, Some, option_map, filter, map, min, ◌&&◌, if◌then◌else◌, Contains}
+use Rattle.std.specs.Prelude.{◌≡◌, ℕ, Bool, not, List, [], ◌∷◌, ◌++◌, Option, None, Some}
+use Rattle.std.specs.Prelude.{option_map, filter, map, min, ◌&&◌, if◌then◌else◌, Contains}
 use Rattle.std.specs.List.{list_any, reduce}
 use Rattle.std.specs.Str.{bytes_eq}
 use Rattle.basil_types.specs.declared.version.Version.{Version}

@@ -1,5 +1,6 @@
 -- The index of one key.
-use Rattle.std.specs.Prelude.{ℕ, List, Bool, true, false, not, Option, Some, None, option_map, option_and_then, find, reverse, is_some, min, if◌then◌else◌}
+use Rattle.std.specs.Prelude.{ℕ, List, Bool, true, false, not, Option, Some, None, option_map}
+use Rattle.std.specs.Prelude.{option_and_then, find, reverse, is_some, min, if◌then◌else◌}
 use Rattle.std.specs.List.{list_any, filter_map, reduce, fold}
 use Rattle.std.specs.BTreeMap.Range.{entries_between}
 use Rattle.std.specs.declared.ops.Bound.TheVariants.{Excluded, Unbounded}

@@ -1,5 +1,6 @@
 -- The keys, each with its index.
-use Rattle.std.specs.Prelude.{◌≡◌, ℕ, List, Option, None, Some, option_map, option_and_then, unwrap_or, IsSome, ◌&&◌, if◌then◌else◌}
+use Rattle.std.specs.Prelude.{◌≡◌, ℕ, List, Option, None, Some, option_map}
+use Rattle.std.specs.Prelude.{option_and_then, unwrap_or, IsSome, ◌&&◌, if◌then◌else◌}
 use Rattle.std.specs.Str.{bytes_eq}
 use Rattle.indexmap.specs.IndexMap.{get_by}
 use Rattle.basil_types.specs.declared.version.Version.{Version}

@@ -18,7 +18,8 @@ pub(crate) struct Keys {
 impl Keys {
     ghost use Rattle.std.specs.Prelude.{List, ℕ, IsNone, option_copied};
     ghost use Rattle.basil_types.specs.declared.version.Version.{Version};
-    ghost use Rattle.mv_store.specs.Keys.{index_of, HasKey, writer_slot, reader_slot, noted_of, OnlyRoom, PutsWriter, PutsReader, Notes};
+    ghost use Rattle.mv_store.specs.Keys.{index_of, HasKey, writer_slot, reader_slot};
+    ghost use Rattle.mv_store.specs.Keys.{noted_of, OnlyRoom, PutsWriter, PutsReader, Notes};
 
     /// No key.
     pub(crate) fn new(alloc: Global) -> Keys

@@ -36,7 +36,8 @@ module _ (home : Home) (t u : TransactionValue) where
       let own : shard_of home.cluster (r.0).key ≡ home.shard = ap (shard_of home.cluster) same
       ∙ eqb-true (shard_of home.cluster (w.0).key) home.shard p.0 in
       let written : writes_key t (r.0).key
-      ≡ true = hit_from (λ (z : WritePart). bytes_eq z.key (r.0).key) t.writes w.0 w.1 ((bytes_eq-Decides (w.0).key (r.0).key).1 (sym same)) in
+      ≡ true =
+      hit_from (λ (z : WritePart). bytes_eq z.key (r.0).key) t.writes w.0 w.1 ((bytes_eq-Decides (w.0).key (r.0).key).1 (sym same)) in
       hit_from (crosses_in home.cluster home.shard t u) u.reads r.0 r.1
       (and_from _ _ (eq-eqb (shard_of home.cluster (r.0).key) home.shard own) (and_from _ _ written (and_from _ _ s.1 q.0)))
 
@@ -54,7 +55,8 @@ module _ (home : Home) (t u : TransactionValue) where
       let reads : (z : ReadPart) → Bool = λ z. bytes_eq z.key (w.0).key && below z.version (version_of t) in
       let read : reads_key_below (w.0).key (version_of t) u
       ≡ true = hit_from reads u.reads r.0 r.1 (and_from _ _ ((bytes_eq-Decides (r.0).key (w.0).key).1 (sym same)) b.0) in
-      hit_from (is_write_under home t u) t.writes w.0 w.1 (and_from _ _ (eq-eqb (shard_of home.cluster (w.0).key) home.shard own) (and_from _ _ b.1 read))
+      hit_from (is_write_under home t u) t.writes w.0 w.1
+      (and_from _ _ (eq-eqb (shard_of home.cluster (w.0).key) home.shard own) (and_from _ _ b.1 read))
 
   pub under_is_crossed : writes_under home t u ≡ is_crossed_in home.cluster home.shard u t
   under_is_crossed = both (writes_under home t u) (is_crossed_in home.cluster home.shard u t) to_crossed from_crossed

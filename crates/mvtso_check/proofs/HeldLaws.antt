@@ -1,5 +1,6 @@
 -- Which transactions of a table are held, after a change of one entry.
-use Rattle.std.proofs.Common.{◌≡◌, ℕ, zero, suc, ◌+◌, Bool, true, false, cond, List, [], ◌∷◌, ◌++◌, Some, refl, sym, ap, subst, ◌∙◌, ◌⊎◌, inl, inr, arith}
+use Rattle.std.proofs.Common.{◌≡◌, ℕ, zero, suc, ◌+◌, Bool, true, false, cond, List, [], ◌∷◌}
+use Rattle.std.proofs.Common.{◌++◌, Some, refl, sym, ap, subst, ◌∙◌, ◌⊎◌, inl, inr, arith}
 use Rattle.std.specs.Prelude.{slice_get, slice_set, not, Contains, ⊤}
 use Rattle.std.specs.List.{IsDistinct, AllByRecursion}
 use Rattle.std.specs.Str.{bytes_eq}
@@ -168,11 +169,13 @@ put_in k (d ∷ es) (suc p) e e' a h s =
     let next : HaveSame (removed (held_from (k + 1) es) e.transaction
     ++ held_at (k + suc p) e' ∷ []) (held_from (k + 1) (slice_set es p e')) =
     subst (λ (m : ℕ). HaveSame (removed (held_from (k + 1) es) e.transaction
-    ++ held_at m e' ∷ []) (held_from (k + 1) (slice_set es p e'))) n (put_in (k + 1) es p e e' (IsDistinct-tail bytes_eq (id_of d) (ids_of es) a) h s) in
+    ++ held_at m e' ∷ []) (held_from (k + 1) (slice_set es p e'))) n
+    (put_in (k + 1) es p e e' (IsDistinct-tail bytes_eq (id_of d) (ids_of es) a) h s) in
     elim (cases_Bool (stands d)) [
       | inl i ↦
           subst (λ hs. HaveSame (hs
-          ++ held_at (k + suc p) e' ∷ []) (held_from k (d ∷ slice_set es p e'))) (sym (removed_before e.transaction k d es (before_apart d es p e a h) i))
+          ++ held_at (k + suc p) e' ∷ []) (held_from k (d ∷ slice_set es p e')))
+          (sym (removed_before e.transaction k d es (before_apart d es p e a h) i))
           (subst (λ hs. HaveSame (held_at k d ∷ (removed (held_from (k + 1) es) e.transaction
           ++ held_at (k + suc p) e' ∷ [])) hs) (sym (held_yes k d (slice_set es p e') i))
           (same_cons (held_at k d) _ _ next))
@@ -227,7 +230,8 @@ no_other k (d ∷ es) zero e a g h c v =
             | inl f ↦ ap (λ (z : Held). z.transaction) (sym f) ∙ ap (λ (z : EntryValue). z.transaction) is
             | inr f ↦ absurd (none_apart (id_of d) (k + 1) es h (head_apart d es a) f (ap (λ (w : Version). w.id) v ∙ ap id_of (sym is)))
           ]
-      | inr s ↦ absurd (none_apart (id_of d) (k + 1) es h (head_apart d es a) (subst (λ hs. Contains hs h) (held_no k d es s) c) (ap (λ (w : Version). w.id) v ∙ ap id_of (sym is)))
+      | inr s ↦ absurd (none_apart (id_of d) (k + 1) es h
+          (head_apart d es a) (subst (λ hs. Contains hs h) (held_no k d es s) c) (ap (λ (w : Version). w.id) v ∙ ap id_of (sym is)))
     ]
 no_other k (d ∷ es) (suc p) e a g h c v =
     let next = no_other (k + 1) es p e (IsDistinct-tail bytes_eq (id_of d) (ids_of es) a) g h in
@@ -244,7 +248,8 @@ no_other k (d ∷ es) (suc p) e a g h c v =
 pub held_apart : (k : ℕ) (es : List EntryValue) (g h : Held) → IsDistinct bytes_eq (ids_of es) → Contains (held_from k es) g
     → Contains (held_from k es) h → version g ≡ version h → g ≡ h
 held_apart k [] g h a i j v = absurd (in_none g i)
-held_apart k (d ∷ es) g h a i j v = by (held_apart (k + 1) es g h (IsDistinct-tail bytes_eq (id_of d) (ids_of es) a)) (cases_Bool (stands d))
+held_apart k (d ∷ es) g h a i j v =
+    by (held_apart (k + 1) es g h (IsDistinct-tail bytes_eq (id_of d) (ids_of es) a)) (cases_Bool (stands d))
   where
     same_id : (version g).id ≡ (version h).id
     same_id = ap (λ (w : Version). w.id) v
@@ -264,5 +269,6 @@ held_apart k (d ∷ es) g h a i j v = by (held_apart (k + 1) es g h (IsDistinct-
 
     by : (Contains (held_from (k + 1) es) g → Contains (held_from (k + 1) es) h → version g ≡ version h → g ≡ h)
         → (stands d ≡ true) ⊎ (stands d ≡ false) → g ≡ h
-    by next (inl s) = both next (in_cases (held_at k d) (held_from (k + 1) es) g (subst (λ hs. Contains hs g) (held_yes k d es s) i)) (in_cases (held_at k d) (held_from (k + 1) es) h (subst (λ hs. Contains hs h) (held_yes k d es s) j))
+    by next (inl s) = both next (in_cases (held_at k d) (held_from (k + 1) es) g (subst (λ hs. Contains hs g) (held_yes k d es s) i))
+        (in_cases (held_at k d) (held_from (k + 1) es) h (subst (λ hs. Contains hs h) (held_yes k d es s) j))
     by next (inr s) = next (subst (λ hs. Contains hs g) (held_no k d es s) i) (subst (λ hs. Contains hs h) (held_no k d es s) j) v

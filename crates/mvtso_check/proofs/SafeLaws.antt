@@ -17,7 +17,8 @@ use Rattle.txn_table.specs.declared.released.Home.{Home}
 use Rattle.mvtso_check.specs.declared.verdict.Verdict.TheVariants.{Commit, Wait}
 use Rattle.mvtso_check.specs.Book.{stands, is_broken_by, is_broken, is_open, IsSettled}
 use Rattle.mvtso_check.specs.Laws.{IsLetStand, NothingConflicts, DependenciesAreSettled}
-use Rattle.mvtso_check.specs.Verdict.{Book, aborted_by, is_late, has_broken_dependency, is_crossed, is_read_later, must_abort, must_wait, proof, verdict}
+use Rattle.mvtso_check.specs.Verdict.{Book, aborted_by, is_late, has_broken_dependency, is_crossed}
+use Rattle.mvtso_check.specs.Verdict.{is_read_later, must_abort, must_wait, proof, verdict}
 
 -- ---- the verdict's cases
 
@@ -57,7 +58,8 @@ behind_true false b h e = cc
 tested : (home : Home) (now : ℕ) (book : Book) (t : TransactionValue) → IsLetStand home now book t
     → (has_broken_dependency home book t ≡ false) × (is_crossed home book t ≡ false)
 tested home now book t e =
-    let_stand (is_late home now t) (has_broken_dependency home book t) (is_crossed home book t) (is_read_later home book t) (must_wait home book t) (proof home book t) e
+    let_stand (is_late home now t) (has_broken_dependency home book t)
+    (is_crossed home book t) (is_read_later home book t) (must_wait home book t) (proof home book t) e
 
 pub nothing_conflicts : NothingConflicts
 nothing_conflicts = record {

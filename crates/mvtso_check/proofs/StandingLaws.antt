@@ -5,7 +5,8 @@ use Rattle.basil_types.specs.declared.party.Party.{Party}
 use Rattle.basil_types.specs.declared.party.Decision.{Decision}
 use Rattle.basil_types.specs.declared.party.Decision.TheVariants.{Commit, Abort}
 use Rattle.basil_types.specs.Transaction.{TransactionValue}
-use Rattle.txn_table.specs.Entries.{EntryValue, VoteValue, Unvoted, Waiting, Voted, arrived, asked, asked_vote, voted, decided, decision_of, is_voted, is_waiting}
+use Rattle.txn_table.specs.Entries.{EntryValue, VoteValue, Unvoted, Waiting, Voted, arrived, asked}
+use Rattle.txn_table.specs.Entries.{asked_vote, voted, decided, decision_of, is_voted, is_waiting}
 use Rattle.txn_table.specs.Laws.{KeepsTransactions}
 use Rattle.txn_table.specs.Released.{is_committed}
 use Rattle.txn_table.specs.Tables.{changed}
@@ -60,7 +61,8 @@ module _ (f : EntryValue
   staying s c =
       ap held_in (changed_some f es p e is.at)
       ∙ stays_in 0 es p e (f e) is.at s
-      (ap (λ (u : TransactionValue). let h : Held = record { place = 0 + p; committed = has_committed (f e); transaction = u } in h) (keeps e)
+      (ap (λ (u : TransactionValue). let h : Held =
+      record { place = 0 + p; committed = has_committed (f e); transaction = u } in h) (keeps e)
       ∙ ap (λ (d : Bool). let h : Held = record { place = 0 + p; committed = d; transaction = e.transaction } in h) c)
 
 module _ (es : List EntryValue) (p : ℕ) (e : EntryValue) where
@@ -72,11 +74,13 @@ module _ (es : List EntryValue) (p : ℕ) (e : EntryValue) where
   votes_commit : (signature : List ℕ) (proof : Option ℕ) → IsEntry es p e → IsOpen e
       → HaveSame (entered (held_in es) e.transaction p false) (held_in (changed (voted Commit signature proof) p es))
   votes_commit signature proof is o =
-      entering (voted Commit signature proof) (λ e. refl) es p e is false (ap (stands_by (Voted Commit signature proof)) o) (ap is_committed o)
+      entering (voted Commit signature proof)
+      (λ e. refl) es p e is false (ap (stands_by (Voted Commit signature proof)) o) (ap is_committed o)
 
   votes_abort : (signature : List ℕ) (proof : Option ℕ) → IsEntry es p e → IsOpen e
       → held_in (changed (voted Abort signature proof) p es) ≡ removed (held_in es) e.transaction
-  votes_abort signature proof is o = leaving (voted Abort signature proof) (λ e. refl) es p e is (ap (stands_by (Voted Abort signature proof)) o)
+  votes_abort signature proof is o =
+      leaving (voted Abort signature proof) (λ e. refl) es p e is (ap (stands_by (Voted Abort signature proof)) o)
 
   commits : (certificate : List ℕ) → IsEntry es p e
       → HaveSame (entered (held_in es) e.transaction p true) (held_in (changed (decided Commit certificate) p es))
@@ -118,7 +122,8 @@ module _ (old new : Store) (es now : List EntryValue) (p : ℕ) (e : EntryValue)
   after_entering : (committed : Bool) → HaveSame (entered (held_in es) e.transaction p committed) (held_in now)
       → Enters old new e.transaction p committed → StandsAfter old es new now
   after_entering committed same enters noted s =
-      stands_by_elements new _ (held_in now) noted noted (enters (held_in es) noted s (no_other 0 es p e is.distinct is.at)) same (same_itself_all noted)
+      stands_by_elements new _ (held_in now) noted noted
+      (enters (held_in es) noted s (no_other 0 es p e is.distinct is.at)) same (same_itself_all noted)
 
   after_leaving : held_in now ≡ removed (held_in es) e.transaction → TakesOut old new e.transaction → StandsAfter old es new now
   after_leaving same takes noted s =

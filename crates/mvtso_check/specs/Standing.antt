@@ -5,7 +5,8 @@ use Rattle.std.specs.Str.{bytes_eq}
 use Rattle.basil_types.specs.declared.party.Party.{Party}
 use Rattle.basil_types.specs.declared.party.Decision.TheVariants.{Commit, Abort}
 use Rattle.basil_types.specs.Transaction.{TransactionValue}
-use Rattle.txn_table.specs.Entries.{EntryValue, Unvoted, arrived, asked, voted, decided, is_voted, is_waiting, decision_of}
+use Rattle.txn_table.specs.Entries.{EntryValue, Unvoted, arrived, asked, voted}
+use Rattle.txn_table.specs.Entries.{decided, is_voted, is_waiting, decision_of}
 use Rattle.txn_table.specs.Tables.{ids_of, changed}
 use Rattle.mv_store.specs.declared.store.Store.{Store}
 use Rattle.mv_store.specs.Held.{Held, NotedRead, version, entered, removed, NoOther}

@@ -1,10 +1,12 @@
 //! Frames that wait for their signature, which is their last field.
 
-ghost use Rattle.std.specs.Prelude.{◌≡◌, ◌+◌, ◌<◌, ◌≤◌, ◌++◌, ◌∷◌, [], All, IfOk, IfSome, OnOk, length, map, vec_len, vec_capacity};
+ghost use Rattle.std.specs.Prelude.{◌≡◌, ◌+◌, ◌<◌, ◌≤◌, ◌++◌, ◌∷◌, [], All, IfOk};
+ghost use Rattle.std.specs.Prelude.{IfSome, OnOk, length, map, vec_len, vec_capacity};
 ghost use Rattle.basil_types.specs.Limits.{signature_limit};
 ghost use Rattle.basil_types.specs.Transaction.{long_text};
 ghost use Rattle.frame_views.specs.Fitting.{IsSignature};
-ghost use Rattle.node_steps.specs.Pendings.{front_of, sealed, sealed_all, bytes_in, Sends, HasRoomFor, IsReady, CanSign};
+ghost use Rattle.node_steps.specs.Pendings.{front_of, sealed, sealed_all, bytes_in};
+ghost use Rattle.node_steps.specs.Pendings.{Sends, HasRoomFor, IsReady, CanSign};
 ghost use Rattle.node_steps.specs.Pens.{pen_value, after_one};
 
 use basil_types::bytes::Bytes;

@@ -43,7 +43,8 @@ text_unsigned : (p : Option TransactionValue) → signatures (maybe_text p) ≡ 
 text_unsigned None = refl
 text_unsigned (Some t) = refl
 
-then_one : (ms : List MarkValue) (g : SignedBy) (gs : List SignedBy) → signatures ms ≡ gs → signatures (ms ++ Signature g ∷ []) ≡ gs ++ g ∷ []
+then_one : (ms : List MarkValue) (g : SignedBy) (gs : List SignedBy) →
+    signatures ms ≡ gs → signatures (ms ++ Signature g ∷ []) ≡ gs ++ g ∷ []
 then_one ms g gs e = filter_map-append signature_of ms (Signature g ∷ []) ∙ ap (λ l. l ++ g ∷ []) e
 
 reply_signatures : (p : Option TransactionValue) (g : SignedBy) → signatures (maybe_text p ++ Signature g ∷ []) ≡ g ∷ []

@@ -1,5 +1,6 @@
 -- What looking at one part of a frame after the other tells.
-use Rattle.std.proofs.Common.{◌≡◌, ℕ, ◌≤◌, Bool, true, false, cond, not, List, [], ◌∷◌, ◌++◌, Option, Some, None, length, take, refl, sym, ap, subst, ◌∙◌, append-nil, append_assoc, arith}
+use Rattle.std.proofs.Common.{◌≡◌, ℕ, ◌≤◌, Bool, true, false, cond, not, List, [], ◌∷◌, ◌++◌, Option, Some}
+use Rattle.std.proofs.Common.{None, length, take, refl, sym, ap, subst, ◌∙◌, append-nil, append_assoc, arith}
 use Rattle.std.specs.Prelude.{◌&&◌, ◌||◌, Result, Ok, Err, IfErr, OnOk}
 use Rattle.std.specs.Result.{IsErrAnd}
 use Rattle.std.specs.List.{list_any}
@@ -84,7 +85,8 @@ module _ (A : Accepted) (faulty : List Party) (ms ns : List MarkValue) where
 pub passes_nothing : (A : Accepted) (faulty : List Party) (watch : Watch) → Passes A faulty watch [] watch
 passes_nothing A faulty watch w f h = (refl, h)
 
-pub passes_same : (A : Accepted) (faulty : List Party) (watch new : Watch) (ms ns : List MarkValue) → ms ≡ ns → Passes A faulty watch ms new →
+pub passes_same : (A : Accepted) (faulty : List Party) (watch new : Watch) (ms ns : List MarkValue) →
+    ms ≡ ns → Passes A faulty watch ms new →
     Passes A faulty watch ns new
 passes_same A faulty watch new ms ns e p = subst (λ ms. Passes A faulty watch ms new) e p
 
@@ -228,11 +230,13 @@ module _ (A : Accepted) (faulty : List Party) (a b c d : List MarkValue) (first 
 
 -- ---- a frame
 
-pub is_sound : (A : Accepted) (faulty : List Party) (old new : Watch) (ms : List MarkValue) → Passes A faulty old ms new → IsSound A faulty old ms
+pub is_sound : (A : Accepted) (faulty : List Party) (old new : Watch) (ms : List MarkValue) →
+    Passes A faulty old ms new → IsSound A faulty old ms
 is_sound A faulty old new ms p w earlier f h = (p w f h.now).0
 
 pub is_seen : (A : Accepted) (faulty : List Party) (old middle new : Watch) (ms : List MarkValue) → Passes A faulty old ms middle →
-    Grown old middle → new.noted ≡ middle.noted → new.texts ≡ middle.texts → new.before ≡ length (entries_of old.texts) → Sees old new faulty ms
+    Grown old middle → new.noted ≡ middle.noted →
+    new.texts ≡ middle.texts → new.before ≡ length (entries_of old.texts) → Sees old new faulty ms
 is_seen A faulty old middle new ms p grown noted texts before w earlier f h =
     let kept : Holds middle (after_marks w ms) = (p w f h.now).1 in
     let whole : take new.before (entries_of new.texts) ≡ entries_of old.texts =
@@ -266,7 +270,8 @@ is_as_before old middle new grown noted before texts w earlier h =
 -- ---- a text
 
 module _ (watch new : Watch) (t : TransactionValue) (noted : new.noted ≡ watch.noted) where
-  pub text_passed : ((texts : List TransactionValue) → AreTexts (entries_of watch.texts) texts → AreTexts (entries_of new.texts) (texts ++ t ∷ [])) →
+  pub text_passed : ((texts : List TransactionValue) →
+      AreTexts (entries_of watch.texts) texts → AreTexts (entries_of new.texts) (texts ++ t ∷ [])) →
       ((w : WatchValue) → AreTexts (entries_of watch.texts) w.texts → collision w t ≡ None) →
       (A : Accepted) (faulty : List Party) → Passes A faulty watch (Text t ∷ []) new
   text_passed kept apart A faulty w f h = (

@@ -67,6 +67,8 @@ of_both p t item committed prepared g part none last is signed e f =
     let whole : parts_marks p ≡ a ++ (b ++ (c ++ [])) =
     ap (λ o. a ++ (b ++ (c ++ (maybe_text (option_map transaction_of o) ++ maybe_signature p.last)))) none
     ∙ ap (λ o. a ++ (b ++ (c ++ maybe_signature o))) last in
-    more_behind a b c x ∙ ap (λ l. l ++ x) (sym whole ∙ is ∙ ap (λ l. Text part.transaction ∷ l) (around_alone part.certificate.id part.certificate.body))
+    more_behind a b c x ∙ ap (λ l. l ++ x)
+    (sym whole ∙ is ∙ ap (λ l. Text part.transaction ∷ l) (around_alone part.certificate.id part.certificate.body))
     ∙ ap (λ g. part_marks part ++ (Text (transaction_of t) ∷ Signature g ∷ [])) signed
-    ∙ sym (ap (λ c. maybe_part c ++ (maybe_text prepared ++ Signature g ∷ [])) e ∙ ap (λ p. part_marks part ++ (maybe_text p ++ Signature g ∷ [])) f)
+    ∙ sym (ap (λ c. maybe_part c ++ (maybe_text prepared ++ Signature g ∷ [])) e
+    ∙ ap (λ p. part_marks part ++ (maybe_text p ++ Signature g ∷ [])) f)

@@ -1,5 +1,6 @@
 -- Parties of which nobody is there twice and few are of one shard fit their room.
-use Rattle.std.proofs.Common.{◌≡◌, ℕ, zero, suc, ◌+◌, ◌*◌, ◌≤◌, ◌<◌, Bool, true, false, cond, List, [], ◌∷◌, ◌++◌, length, length-append, not, refl, sym, ap, subst, ◌∙◌, inl, inr, arith}
+use Rattle.std.proofs.Common.{◌≡◌, ℕ, zero, suc, ◌+◌, ◌*◌, ◌≤◌, ◌<◌, Bool, true, false, cond, List, [], ◌∷◌}
+use Rattle.std.proofs.Common.{◌++◌, length, length-append, not, refl, sym, ap, subst, ◌∙◌, inl, inr, arith}
 use Rattle.std.specs.Prelude.{All, ◌&&◌, ◌||◌, ◌==◌, nat_lt, if◌then◌else◌}
 use Rattle.std.specs.List.{count_by, list_any}
 use Rattle.std.proofs.lemmas.Bool.{cases_lt, cases_eq, lt-ltb, le-ltb, lt-leb, leb-false, and_parts, eqb-true, eq-eqb, ne_eqb}
@@ -131,7 +132,8 @@ they_fit xs h =
     omega (
       arith,
       all_below xs h.numbered,
-      clients_fit 256 xs (λ k. subst (λ n. n ≤ 1) (count_same (same_party (Client k)) (client_is k) (same_client k) xs) (h.once (Client k))),
+      clients_fit 256 xs
+          (λ k. subst (λ n. n ≤ 1) (count_same (same_party (Client k)) (client_is k) (same_client k) xs) (h.once (Client k))),
       shards_fit 256 6 xs h.counted,
     )
 

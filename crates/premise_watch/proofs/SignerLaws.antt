@@ -1,5 +1,6 @@
 -- Who signed which words, with one more.
-use Rattle.std.proofs.Common.{◌≡◌, ℕ, Bool, true, false, cond, List, [], ◌∷◌, ◌++◌, Option, None, Some, Vec, Global, refl, sym, ap, ◌∙◌, append-nil}
+use Rattle.std.proofs.Common.{◌≡◌, ℕ, Bool, true, false, cond, List, [], ◌∷◌, ◌++◌, Option}
+use Rattle.std.proofs.Common.{None, Some, Vec, Global, refl, sym, ap, ◌∙◌, append-nil}
 use Rattle.std.specs.Prelude.{◌&&◌, ◌||◌, Result, Ok, Err, OnErr}
 use Rattle.std.specs.List.{list_any}
 use Rattle.std.specs.Map.{lookup, set_value}
@@ -25,7 +26,8 @@ pub written : (old new : Noted) (words : List ℕ) (u w : Vec Party Global) → 
 written old new words u w found e k =
     ap (lookup (λ x. bytes_eq k x.items)) e ∙ lookup-set_value (λ x. x.items) words k old.signers.entries u w found
 
-pub pushed : (old new : Noted) (words : List ℕ) (key : Vec ℕ Global) (w : Vec Party Global) → key.items ≡ words → listed_at old words ≡ None →
+pub pushed : (old new : Noted) (words : List ℕ) (key : Vec ℕ Global) (w : Vec Party Global) →
+    key.items ≡ words → listed_at old words ≡ None →
     new.signers.entries ≡ old.signers.entries ++ (key, w) ∷ [] → Puts old new words w
 pushed old new words key w is none e k =
     ap (lookup (λ x. bytes_eq k x.items)) e ∙ lookup-push (λ x. x.items) words k old.signers.entries key w is none
@@ -36,7 +38,8 @@ listed o = option_map_or (λ parties. parties.items) o []
 same_list : (noted : Noted) (words k : List ℕ) → bytes_eq words k ≡ true → listed_at noted k ≡ listed_at noted words
 same_list noted words k e = ap (listed_at noted) (sym ((bytes_eq-Decides words k).0 e))
 
-pub adds : (old new : Noted) (words : List ℕ) (p : Party) (u w : Vec Party Global) → listed_at old words ≡ Some u → w.items ≡ u.items ++ p ∷ [] →
+pub adds : (old new : Noted) (words : List ℕ) (p : Party) (u w : Vec Party Global) →
+    listed_at old words ≡ Some u → w.items ≡ u.items ++ p ∷ [] →
     Puts old new words w → Adds old new words p
 unfolding listed
 adds old new words p u w there more puts k = ap listed (puts k) ∙ by (bytes_eq words k) refl

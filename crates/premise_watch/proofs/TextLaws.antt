@@ -1,11 +1,13 @@
 -- The first text of each id, as transactions are seen.
-use Rattle.std.proofs.Common.{◌≡◌, ℕ, ◌⊎◌, inl, inr, Bool, true, false, cond, not, List, [], ◌∷◌, ◌++◌, Option, Some, None, Contains, refl, sym, ap, subst, ◌∙◌, arith}
+use Rattle.std.proofs.Common.{◌≡◌, ℕ, ◌⊎◌, inl, inr, Bool, true, false, cond, not, List, [], ◌∷◌}
+use Rattle.std.proofs.Common.{◌++◌, Option, Some, None, Contains, refl, sym, ap, subst, ◌∙◌, arith}
 use Rattle.std.specs.Prelude.{All, ◌&&◌, find, option_map}
 use Rattle.std.specs.Map.{lookup}
 use Rattle.std.specs.Option.{option_or}
 use Rattle.std.specs.Str.{bytes_eq}
 use Rattle.std.proofs.lemmas.Bool.{and_parts}
-use Rattle.std.proofs.lemmas.List.Elements.{All-nil, All-cons, All-contains, Contains-get_or, Contains-append_left, Contains-append_right, Contains-push, Contains-push_cases}
+use Rattle.std.proofs.lemmas.List.Elements.{All-nil, All-cons, All-contains, Contains-get_or, Contains-append_left}
+use Rattle.std.proofs.lemmas.List.Elements.{Contains-append_right, Contains-push, Contains-push_cases}
 use Rattle.std.proofs.lemmas.List.Folds.{find-append}
 use Rattle.std.proofs.lemmas.Option.{same_Some}
 use Rattle.std.proofs.lemmas.Slice.Eq.{bytes_eq-Decides}
@@ -139,7 +141,8 @@ module _ (es : List (List ℕ × List ℕ)) (ts : List TransactionValue) (t : Tr
         lookup_push (bytes_eq i) es (id t) (canonical t)
         ∙ ap (λ o. option_or o (cond (bytes_eq i (id t)) (Some (canonical t)) None)) (h.first i) ∙ sym (first_push i ts t);
     apart = with_one ts t h.apart (λ u c.
-        let apart : bytes_eq (id t) (id u) ≡ false = missed (has_id (id t)) ts u (unmapped (find (has_id (id t)) ts) (sym (h.first (id t)) ∙ none)) c in
+        let apart : bytes_eq (id t) (id u) ≡ false =
+        missed (has_id (id t)) ts u (unmapped (find (has_id (id t)) ts) (sym (h.first (id t)) ∙ none)) c in
         (other_ids t u (swapped (id t) (id u) false apart), other_ids u t apart));
   }
     where
@@ -148,7 +151,8 @@ module _ (es : List (List ℕ × List ℕ)) (ts : List TransactionValue) (t : Tr
       unmapped (Some u) e = absurd cc
 
   -- the transaction whose text is the first of an id
-  first_of : (b : List ℕ) → lookup (bytes_eq (id t)) es ≡ Some b → (u : TransactionValue) × Contains ts u × (id u ≡ id t) × (canonical u ≡ b)
+  first_of : (b : List ℕ) → lookup (bytes_eq (id t)) es ≡ Some b →
+      (u : TransactionValue) × Contains ts u × (id u ≡ id t) × (canonical u ≡ b)
   first_of b there = by (find (has_id (id t)) ts) refl (sym (h.first (id t)) ∙ there)
     where
       by : (o : Option TransactionValue) → find (has_id (id t)) ts ≡ o → option_map canonical o ≡ Some b →
@@ -188,7 +192,8 @@ module _ (es : List (List ℕ × List ℕ)) (ts : List TransactionValue) (t : Tr
       option_map (λ u. Collision (canonical u) (canonical t)) (find (collides t) ts) ≡ Some (Collision b (canonical t))
   clash b there differs = by (first_of b there) (find (collides t) ts) refl
     where
-      by : (u : TransactionValue) × Contains ts u × (id u ≡ id t) × (canonical u ≡ b) → (o : Option TransactionValue) → find (collides t) ts ≡ o →
+      by : (u : TransactionValue) × Contains ts u ×
+          (id u ≡ id t) × (canonical u ≡ b) → (o : Option TransactionValue) → find (collides t) ts ≡ o →
           option_map (λ u. Collision (canonical u) (canonical t)) (find (collides t) ts) ≡ Some (Collision b (canonical t))
       by f None e =
           let one : bytes_eq (id f.0) (id t) ≡ true = (bytes_eq-Decides (id f.0) (id t)).1 f.2 in
@@ -202,7 +207,8 @@ module _ (es : List (List ℕ × List ℕ)) (ts : List TransactionValue) (t : Tr
 
 -- ---- as texts are looked up, by the digest of bytes
 
-module _ (es : List (List ℕ × List ℕ)) (t : TransactionValue) (bytes i : List ℕ) (is : i ≡ id_of bytes) (spelled : bytes ≡ canonical t) where
+module _ (es : List (List ℕ × List ℕ)) (t : TransactionValue)
+    (bytes i : List ℕ) (is : i ≡ id_of bytes) (spelled : bytes ≡ canonical t) where
   id_is : i ≡ id t
   id_is = is ∙ ap id_of spelled
 

@@ -2,9 +2,11 @@
 use Rattle.std.specs.Prelude.{ℕ, List, [], ◌∷◌, ◌++◌, Option, Some, None, map}
 use Rattle.basil_types.specs.declared.party.Decision.TheVariants.{Abort}
 use Rattle.basil_types.specs.Transaction.{TransactionValue, id}
-use Rattle.frame_views.specs.Signed.{SignedBy, client_signed, vote_signed, log_signed, tally_signed, tallies_signed, commit_signed}
+use Rattle.frame_views.specs.Signed.{SignedBy, client_signed, vote_signed, log_signed}
+use Rattle.frame_views.specs.Signed.{tally_signed, tallies_signed, commit_signed}
 use Rattle.frame_views.specs.Signed.{reply_signed, word_signed, proposal_signed}
-use Rattle.frame_views.specs.Values.{MessageValue, Read, ReadReply, St1, Vote, St2, LogReply, Writeback, Recover, Invoke, Elect, Decide}
+use Rattle.frame_views.specs.Values.{MessageValue, Read, ReadReply, St1, Vote, St2}
+use Rattle.frame_views.specs.Values.{LogReply, Writeback, Recover, Invoke, Elect, Decide}
 use Rattle.frame_views.specs.Values.{BodyValue, Commits, FastAbort, ConflictAbort, CommittedValue}
 
 -- what the watch looks at

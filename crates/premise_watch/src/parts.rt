@@ -57,7 +57,8 @@ pub(crate) fn parts_of<'a>(m: &MessageView<'a>) -> Parts<'a>
 
 /// A transaction, if there is one, and then signatures.
 fn behind<'a>(first: Option<TransactionView<'a>>, signed: Signatures<'a>) -> Parts<'a>
-    ensures { parts_marks result ≡ maybe_text (option_map transaction_of first.entry) ++ as_marks (signed_left signed.entry) }
+    ensures { parts_marks result ≡ maybe_text (option_map transaction_of first.entry)
+        ++ as_marks (signed_left signed.entry) }
 {
     Parts {
         first,

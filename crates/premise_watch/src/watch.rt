@@ -40,7 +40,8 @@ pub struct Watch {
 }
 
 impl Watch {
-    ghost use Rattle.premise_watch.specs.Watches.{Watches, KeepsWatching, Notes, Sees, GoesBack, IsSound, IsFirstBreach};
+    ghost use Rattle.premise_watch.specs.Watches.{Watches, KeepsWatching, Notes, Sees};
+    ghost use Rattle.premise_watch.specs.Watches.{GoesBack, IsSound, IsFirstBreach};
 
     /// A watch that knows of no words and has seen nothing. Takes no memory.
     pub fn new(alloc: Global) -> Watch
@@ -94,8 +95,8 @@ impl Watch {
         }
     }
 
-    /// Takes back the last `see` that was Ok, once: where there is none, or it was taken back, nothing changes. What was
-    /// noted stays. Takes no memory.
+    /// Takes back the last `see` that was Ok, once: where there is none, or it was taken back, nothing changes. What
+    /// was noted stays. Takes no memory.
     pub fn undo(&mut self)
         ensures { GoesBack self.old self.new }
     {

@@ -1,5 +1,6 @@
 -- Sets as masks of bits.
-use Rattle.std.proofs.Common.{◌≡◌, ℕ, zero, suc, ◌+◌, ◌-◌, ◌*◌, ◌%◌, ◌^◌, ◌<◌, ◌≤◌, ◌==◌, nat_lt, Bool, true, false, ◌&&◌, refl, arith, ◌∙◌, ap, min, inl, inr, ◌⊎◌, bit_and}
+use Rattle.std.proofs.Common.{◌≡◌, ℕ, zero, suc, ◌+◌, ◌-◌, ◌*◌, ◌%◌, ◌^◌, ◌<◌, ◌≤◌, ◌==◌, nat_lt, Bool}
+use Rattle.std.proofs.Common.{true, false, ◌&&◌, refl, arith, ◌∙◌, ap, min, inl, inr, ◌⊎◌, bit_and}
 use Rattle.std.specs.Int.{bit_at}
 use Rattle.std.proofs.Math.Nat.{mod-eq_of_lt, one-mul}
 use Rattle.std.proofs.Math.Pow.{pow-lt}
@@ -62,10 +63,13 @@ and_order true b n false h = let e : true ≡ false = h in cc
 and_order false b true w h = refl
 and_order false b false w h = refl
 
-pub meets : (a b n m : ℕ) → a < 2 ^ 32 → ((i : ℕ) → members m i ≡ (nat_lt i n && nat_lt i 32)) → (i : ℕ) → members (bit_and (bit_and a b) m) i ≡ (nat_lt i n && (members a i && members b i))
-meets a b n m h k i = members_and (bit_and a b) m i ∙ (rw (members_and a b i, k i) (and_order (members a i) (members b i) (nat_lt i n) (nat_lt i 32) (within a i h)))
+pub meets : (a b n m : ℕ) → a < 2 ^ 32 → ((i : ℕ) → members m i ≡ (nat_lt i n && nat_lt i 32)) →
+    (i : ℕ) → members (bit_and (bit_and a b) m) i ≡ (nat_lt i n && (members a i && members b i))
+meets a b n m h k i = members_and (bit_and a b) m i
+    ∙ (rw (members_and a b i, k i) (and_order (members a i) (members b i) (nat_lt i n) (nat_lt i 32) (within a i h)))
 
-pub meets_many : (a b n c : ℕ) → ((i : ℕ) → members c i ≡ (nat_lt i n && (members a i && members b i))) → size (members a) n + size (members b) n ≤ n + size (members c) n
+pub meets_many : (a b n c : ℕ) → ((i : ℕ) → members c i ≡ (nat_lt i n && (members a i && members b i))) →
+    size (members a) n + size (members b) n ≤ n + size (members c) n
 meets_many a b n c h =
     let e = size_same (members c) (shared (members a) (members b)) n (λ i l. h i ∙ (rw (lt-ltb i n l) refl)) in
     omega (arith, sets_share n (members a) (members b))

@@ -1,5 +1,6 @@
 use Rattle.std.specs.Prelude.{ℕ, ◌+◌, ◌≤◌, Bool}
-use Rattle.quorum_laws.specs.Numbers.{replicas, one_correct, correct_ones, commit_tally, abort_tally, log_quorum, majority}
+use Rattle.quorum_laws.specs.Numbers.{replicas, one_correct, correct_ones}
+use Rattle.quorum_laws.specs.Numbers.{commit_tally, abort_tally, log_quorum, majority}
 use Rattle.quorum_laws.specs.Sets.{size, shared, others, SomeMember}
 
 -- two sets of numbers below n share at least what their sizes leave no room for

@@ -4,8 +4,8 @@ use Rattle.std.specs.Prelude.{ℕ, ◌+◌, ◌*◌}
 abbrev pub replicas : ℕ → ℕ
 replicas f = 5 * f + 1
 
--- so many replicas have a correct one among them: replies that make a prepared version a dependency, and the fewest that a
--- read may wait for
+-- so many replicas have a correct one among them: replies that make a prepared version a dependency, and the fewest
+-- that a read may wait for
 abbrev pub one_correct : ℕ → ℕ
 one_correct f = f + 1
 

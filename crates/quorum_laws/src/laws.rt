@@ -1,6 +1,8 @@
 //! How much two sets of the replicas of a shard have in common, for every f.
 
-ghost use Rattle.quorum_laws.specs.Laws.{SetsShare, TalliesShare, TalliesShareCorrect, TallyHasCorrect, LogAndTallyShare, LogAndMajorityShareCorrect, LogsShareCorrect, CorrectAreMany};
+ghost use Rattle.quorum_laws.specs.Laws.{SetsShare, TalliesShare, TalliesShareCorrect};
+ghost use Rattle.quorum_laws.specs.Laws.{TallyHasCorrect, LogAndTallyShare};
+ghost use Rattle.quorum_laws.specs.Laws.{LogAndMajorityShareCorrect, LogsShareCorrect, CorrectAreMany};
 ghost use Rattle.quorum_laws.specs.Lists.{ListsAreSets};
 
 /// Two sets of numbers below n share at least |p| + |q| - n of them.

@@ -1,5 +1,6 @@
 -- Parts that have their sizes and ascend by key still do with one more.
-use Rattle.std.proofs.Common.{◌≡◌, ℕ, ◌+◌, Bool, true, false, cond, List, [], ◌∷◌, map, length, Option, Some, None, refl, sym, ap, subst, ◌∙◌}
+use Rattle.std.proofs.Common.{◌≡◌, ℕ, ◌+◌, Bool, true, false, cond, List, [], ◌∷◌, map}
+use Rattle.std.proofs.Common.{length, Option, Some, None, refl, sym, ap, subst, ◌∙◌}
 use Rattle.std.specs.Prelude.{not, position, option_map, Result, Ok, Err, OnOk, OnErr}
 use Rattle.std.specs.List.{position_from, AllByRecursion}
 use Rattle.std.specs.Cmp.Lexicographic.{slice_cmp}

@@ -1,5 +1,6 @@
 -- What a faulty client adds to a transaction that it began, and whether it can form it.
-use Rattle.std.specs.Prelude.{◌≡◌, ℕ, List, Bool, false, ◌&&◌, ◌==◌, nat_lt, length, Option, Some, None, option_map, is_some, Result, Ok, Err, if◌then◌else◌}
+use Rattle.std.specs.Prelude.{◌≡◌, ℕ, List, Bool, false, ◌&&◌, ◌==◌, nat_lt, length, Option}
+use Rattle.std.specs.Prelude.{Some, None, option_map, is_some, Result, Ok, Err, if◌then◌else◌}
 use Rattle.basil_types.specs.Built.{key_fits, or_else, write_fits}
 use Rattle.basil_types.specs.declared.party.Party.TheVariants.{Client}
 use Rattle.basil_types.specs.declared.transaction.parts.ReadPart.{ReadPart}

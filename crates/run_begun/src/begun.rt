@@ -1,6 +1,7 @@
 //! A transaction that an event began, and what a faulty client adds to it.
 
-ghost use Rattle.std.specs.Prelude.{◌≡◌, ◌≢◌, ◌≤◌, length, None, Some, Ok, Err, true, false, is_some, option_map, IfErr, IfNone, IfOk, OnErr, OnOk, ◌==◌, ◌&&◌};
+ghost use Rattle.std.specs.Prelude.{◌≡◌, ◌≢◌, ◌≤◌, length, None, Some, Ok, Err, true, false, is_some};
+ghost use Rattle.std.specs.Prelude.{option_map, IfErr, IfNone, IfOk, OnErr, OnOk, ◌==◌, ◌&&◌};
 ghost use Rattle.basil_types.specs.Built as built_of;
 ghost use Rattle.basil_types.specs.Built.{built, key_fault, size_fault};
 ghost use Rattle.client_core.specs.Calls.{most_keys};

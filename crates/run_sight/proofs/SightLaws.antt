@@ -1,5 +1,6 @@
 -- Of what a sight is one, as it sees frames and goes back.
-use Rattle.std.proofs.Common.{◌≡◌, ℕ, zero, suc, Bool, true, false, cond, List, [], ◌∷◌, length, map, take, Option, None, Ok, Err, refl, sym, ap, subst, ◌∙◌}
+use Rattle.std.proofs.Common.{◌≡◌, ℕ, zero, suc, Bool, true, false, cond, List, [], ◌∷◌, length}
+use Rattle.std.proofs.Common.{map, take, Option, None, Ok, Err, refl, sym, ap, subst, ◌∙◌}
 use Rattle.std.specs.Prelude.{Result, IfOk, IfErr, OnOk, OnErr, ◌&&◌}
 use Rattle.std.specs.Map.{lookup}
 use Rattle.std.specs.Str.{bytes_eq}
@@ -31,8 +32,10 @@ use Rattle.cluster_run.specs.Telling.{committed_by_version}
 use Rattle.run_sight.specs.declared.certified.Certified.{Certified}
 use Rattle.run_sight.specs.declared.certified.Lengths.{Lengths}
 use Rattle.run_sight.specs.declared.sight.Sight.{Sight}
-use Rattle.run_sight.specs.Keeping.{AddsProven, AreKept, AreOf, Commits, Decisions, Keeps, KeepsFirst, SameKept, by_id, commits_of, committed_in, decisions_of}
-use Rattle.run_sight.specs.Sights.{BreaksBy, BreaksByFrame, BreaksByMessage, Ends, Follows, GoesBack, KeepsSight, Sees, SeesFrame, SeesMessage, SeesNothing, SightValue, sight_of}
+use Rattle.run_sight.specs.Keeping.{AddsProven, AreKept, AreOf, Commits, Decisions, Keeps, KeepsFirst}
+use Rattle.run_sight.specs.Keeping.{SameKept, by_id, commits_of, committed_in, decisions_of}
+use Rattle.run_sight.specs.Sights.{BreaksBy, BreaksByFrame, BreaksByMessage, Ends, Follows, GoesBack}
+use Rattle.run_sight.specs.Sights.{KeepsSight, Sees, SeesFrame, SeesMessage, SeesNothing, SightValue, sight_of}
 
 -- ---- lists
 

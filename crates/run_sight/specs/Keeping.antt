@@ -1,5 +1,6 @@
 -- What is kept of the pairs of a transaction and a certificate that proves its decision.
-use Rattle.std.specs.Prelude.{◌≡◌, ℕ, Bool, List, [], ◌∷◌, ◌++◌, Option, option_map, is_some, filter, find, length, map, take}
+use Rattle.std.specs.Prelude.{◌≡◌, ℕ, Bool, List, [], ◌∷◌, ◌++◌, Option}
+use Rattle.std.specs.Prelude.{option_map, is_some, filter, find, length, map, take}
 use Rattle.std.specs.Prelude.{if◌then◌else◌}
 use Rattle.std.specs.Map.{lookup}
 use Rattle.std.specs.Str.{bytes_eq}

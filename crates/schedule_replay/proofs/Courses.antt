@@ -1,5 +1,6 @@
 -- How far a course came.
-use Rattle.std.proofs.Common.{◌≡◌, ℕ, ◌+◌, ◌≤◌, ◌<◌, List, [], ◌∷◌, ◌++◌, length, take, drop, drop-cons, get_or, suc, Bool, Some, None, refl, add-one, ap, subst, sym, ◌∙◌}
+use Rattle.std.proofs.Common.{◌≡◌, ℕ, ◌+◌, ◌≤◌, ◌<◌, List, [], ◌∷◌, ◌++◌, length, take, drop, drop-cons}
+use Rattle.std.proofs.Common.{get_or, suc, Bool, Some, None, refl, add-one, ap, subst, sym, ◌∙◌}
 use Rattle.std.specs.Prelude.{Result, Ok, Err, option_map}
 use Rattle.std.proofs.Math.Seq.{take-suc}
 use Rattle.std.proofs.lemmas.List.{take_all, take-append-drop}
@@ -201,7 +202,8 @@ line_done r line number mid new road none does names world cluster = let after =
 )
 
 -- a line that a reason refuses
-pub line_refused : (r : ReplayValue) (line : Line) (number : ℕ) (reason : Reason) (course : Course) (road : Road) → reason_of r line ≡ Some reason →
+pub line_refused : (r : ReplayValue) (line : Line) (number : ℕ) (reason : Reason) (course : Course) (road : Road) →
+    reason_of r line ≡ Some reason →
     Stands course r → Did (round_of r line) (line_step r line number) r course (Err (BadInput number reason)) road
 line_refused r line number reason course road is stands =
     (ap (λ o. unless_refused (option_map (BadInput number) o) (answered line number (line_does r line))) is, stands)

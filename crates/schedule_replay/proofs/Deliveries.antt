@@ -11,7 +11,9 @@ use Rattle.premise_watch.specs.declared.broken.Broken as premises
 use Rattle.replica_core.specs.Answers.{answer}
 use Rattle.cluster_run.specs.Events as events
 use Rattle.cluster_run.specs.Events.{happens, marked}
-use Rattle.cluster_run.specs.Parts.{Mail, are_bytes, client_did, client_handles, client_self, enter, enter_all, hand, handle, handle_by, has_room, posted, read_frame, replica_did, replica_handles, replica_self, see, see_message, unless_broken}
+use Rattle.cluster_run.specs.Parts.{Mail, are_bytes, client_did, client_handles, client_self, enter}
+use Rattle.cluster_run.specs.Parts.{enter_all, hand, handle, handle_by, has_room, posted, read_frame}
+use Rattle.cluster_run.specs.Parts.{replica_did, replica_handles, replica_self, see, see_message, unless_broken}
 use Rattle.cluster_run.specs.States.{Delivered, Posted, Setup, Standing, State, client_at, is_faulty, posted_at, standing}
 use Rattle.cluster_run.specs.declared.fault.WorldFault.{WorldFault}
 use Rattle.cluster_run.specs.declared.fault.WorldFault.TheVariants.{Broken, PoolFull, Call, Exhausted}

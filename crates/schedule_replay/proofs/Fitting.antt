@@ -7,8 +7,10 @@ use Rattle.cluster_run.specs.Safety.{IsEvent}
 use Rattle.schedule_text.specs.Fitting.{Fits, GrammarIsRead}
 use Rattle.schedule_text.specs.Reading.{line_at}
 use Rattle.schedule_text.specs.declared.line.Line.{Line}
-use Rattle.schedule_text.specs.declared.line.Line.TheVariants.{Header, Skipped, Faulty, Begin, Read, Write, Delete, Claim, Prepare, Settle, Recover, Invoke, Round}
-use Rattle.schedule_text.specs.declared.line.Line.TheVariants.{Deliver, Lose, Divert, Clock, Vote, Second, Logged, Elect, Decide, Raw, Show, Stop}
+use Rattle.schedule_text.specs.declared.line.Line.TheVariants.{Header, Skipped, Faulty, Begin, Read, Write, Delete}
+use Rattle.schedule_text.specs.declared.line.Line.TheVariants.{Claim, Prepare, Settle, Recover, Invoke, Round}
+use Rattle.schedule_text.specs.declared.line.Line.TheVariants.{Deliver, Lose, Divert, Clock, Vote, Second}
+use Rattle.schedule_text.specs.declared.line.Line.TheVariants.{Logged, Elect, Decide, Raw, Show, Stop}
 use Rattle.schedule_replay.specs.Events.{by_name, claim_of, event_of}
 use Rattle.schedule_replay.specs.Names.{number_of}
 use Rattle.schedule_replay.specs.Replays.{NamesValue}

@@ -1,5 +1,6 @@
 -- Names in a map.
-use Rattle.std.proofs.Common.{◌≡◌, ℕ, suc, ◌+◌, Bool, true, false, cond, List, [], ◌∷◌, ◌++◌, Option, Some, None, Vec, refl, sym, ap, ◌∙◌, arith, is_some}
+use Rattle.std.proofs.Common.{◌≡◌, ℕ, suc, ◌+◌, Bool, true, false, cond, List, [], ◌∷◌, ◌++◌}
+use Rattle.std.proofs.Common.{Option, Some, None, Vec, refl, sym, ap, ◌∙◌, arith, is_some}
 use Rattle.std.specs.Prelude.{find, map, position, option_map, slice_set}
 use Rattle.std.specs.BTreeSet.{insert_key}
 use Rattle.std.specs.Cmp.Lexicographic.{slice_cmp}
@@ -101,7 +102,8 @@ module _ {A : Type 0} (name key : List ℕ) where
     place : ℕ
     there : position_from (is_named name) 0 (map named_in es) ≡ Some place
     begun : map named_in (set_value (is_key name) es w) ≡ map named_in es
-    keys : map keys_in (set_value (is_key name) es w) ≡ slice_set (map keys_in es) place (with_this key (naming.keys_of (names_in es) place))
+    keys : map keys_in (set_value (is_key name) es w)
+        ≡ slice_set (map keys_in es) place (with_this key (naming.keys_of (names_in es) place))
 
   puts : (es : Entries A) (v w : Begun) → lookup (is_key name) es ≡ Some v → w.client ≡ v.client →
       w.keys.keys ≡ with_this key v.keys.keys → Put es w

@@ -1,5 +1,6 @@
 -- Reports, part by part.
-use Rattle.std.proofs.Common.{◌≡◌, ℕ, ◌+◌, ◌<◌, ◌≤◌, Bool, true, false, cond, List, [], ◌∷◌, ◌++◌, length, drop, get_or, Option, Some, None, refl, sym, ap, subst, ◌∙◌, append_assoc}
+use Rattle.std.proofs.Common.{◌≡◌, ℕ, ◌+◌, ◌<◌, ◌≤◌, Bool, true, false, cond, List, [], ◌∷◌, ◌++◌, length}
+use Rattle.std.proofs.Common.{drop, get_or, Option, Some, None, refl, sym, ap, subst, ◌∙◌, append_assoc}
 use Rattle.std.specs.Prelude.{codes, is_some, option_and_then, option_map, slice_get, unwrap_or}
 use Rattle.std.specs.List.{flat_map}
 use Rattle.std.specs.Map.{lookup}
@@ -20,7 +21,8 @@ use Rattle.schedule_replay.specs.declared.course.Course.{Course}
 use Rattle.schedule_replay.specs.Names.{keys_of}
 use Rattle.schedule_replay.specs.Naming.{name_at}
 use Rattle.schedule_replay.specs.Replays.{NamedValue, NamesValue, ReplayValue}
-use Rattle.schedule_replay.specs.Reports.{chosen_words, decided, end_line, fate_line, first_name, has_id, key_lines, read_line, read_lines, report, tx_lines, writer_word}
+use Rattle.schedule_replay.specs.Reports.{chosen_words, decided, end_line, fate_line, first_name, has_id}
+use Rattle.schedule_replay.specs.Reports.{key_lines, read_line, read_lines, report, tx_lines, writer_word}
 use Rattle.schedule_replay.specs.Shown.{Stands}
 use Rattle.schedule_replay.specs.Telling.{AddsPlace, AreFirst, FirstBelow, Placed, Tells, name_placed, place_of, transaction_lines}
 use Rattle.schedule_text.specs.Spelling.{key_word}

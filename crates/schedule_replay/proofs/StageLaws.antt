@@ -1,5 +1,6 @@
 -- What the parts of a schedule's code come to.
-use Rattle.std.proofs.Common.{◌≡◌, ℕ, ◌+◌, ◌≤◌, ◌<◌, Bool, true, false, List, [], ◌∷◌, ◌++◌, Option, Some, None, refl, sym, ap, subst, ◌∙◌, arith}
+use Rattle.std.proofs.Common.{◌≡◌, ℕ, ◌+◌, ◌≤◌, ◌<◌, Bool, true, false, List, [], ◌∷◌}
+use Rattle.std.proofs.Common.{◌++◌, Option, Some, None, refl, sym, ap, subst, ◌∙◌, arith}
 use Rattle.std.specs.Prelude.{◌≢◌, ◌*◌, ◌&&◌, ◌||◌, nat_le, nat_lt, Result, Ok, Err, option_map, OnOk, if◌then◌else◌}
 use Rattle.std.specs.Result.{IsErrAnd}
 use Rattle.std.proofs.lemmas.Grind.{common_steps}
@@ -32,7 +33,8 @@ use Rattle.schedule_replay.specs.Roads.{Road}
 use Rattle.schedule_replay.specs.Schedules.{Ends, IsAt, Joins, Took}
 use Rattle.schedule_replay.specs.Shown.{Did, Stands, opening_of}
 use Rattle.schedule_text.specs.declared.reason.Reason.{Reason}
-use Rattle.schedule_replay.specs.Stages.{AreParties, Stage, Begins, Opens, Runs, ended, first_line, on_road, opened, faulty_reason, opening_line, read_line, stage_step}
+use Rattle.schedule_replay.specs.Stages.{AreParties, Stage, Begins, Opens, Runs, ended, first_line, on_road}
+use Rattle.schedule_replay.specs.Stages.{opened, faulty_reason, opening_line, read_line, stage_step}
 use Rattle.schedule_replay.specs.declared.course.Course.{Course}
 use Rattle.schedule_replay.specs.declared.fault.ReplayFault.{ReplayFault}
 use Rattle.schedule_replay.specs.declared.fault.ReplayFault.TheVariants.{BadInput, Broken, Full, LinkFault, WriteFault, NoMemory}
@@ -209,7 +211,8 @@ at_road (schedules.Runs replay) (Runs r) road at = record { cluster = at.cluster
 abbrev refuses : ReplayFault → Result Stage ReplayFault
 refuses f = Err f
 
-refused_by : (should : Result Stage ReplayFault) (road : Road) (n : ℕ) (reason : Reason) (f : ReplayFault) → should ≡ Err (BadInput n reason) →
+refused_by : (should : Result Stage ReplayFault) (road : Road) (n : ℕ) (reason : Reason) (f : ReplayFault) →
+    should ≡ Err (BadInput n reason) →
     refuses (BadInput n reason) ≡ refuses f → Took (Err f) should road
 refused_by should road n reason f is h =
     let same : BadInput n reason ≡ f = cc in subst (λ x. Took (Err x) should road) same is

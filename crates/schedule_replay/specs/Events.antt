@@ -1,5 +1,6 @@
 -- The events of a line.
-use Rattle.std.specs.Prelude.{ℕ, ◌+◌, List, [], ◌∷◌, Bool, true, false, Option, Some, None, option_and_then, option_map, Result, Ok, if◌then◌else◌}
+use Rattle.std.specs.Prelude.{ℕ, ◌+◌, List, [], ◌∷◌, Bool, true, false, Option, Some}
+use Rattle.std.specs.Prelude.{None, option_and_then, option_map, Result, Ok, if◌then◌else◌}
 use Rattle.std.specs.Option.{option_map_or}
 use Rattle.basil_types.specs.Steps.{◌>>=◌}
 use Rattle.cluster_run.specs.Events as events
@@ -8,8 +9,10 @@ use Rattle.cluster_run.specs.States.{Posted, Setup, State, posted_at}
 use Rattle.cluster_run.specs.declared.fault.WorldFault.{WorldFault}
 use Rattle.message_pool.specs.Posts.{is_waiting}
 use Rattle.schedule_text.specs.declared.line.Line.{Line}
-use Rattle.schedule_text.specs.declared.line.Line.TheVariants.{Begin, Read, Write, Delete, Claim, Prepare, Settle, Recover, Invoke, Round}
-use Rattle.schedule_text.specs.declared.line.Line.TheVariants.{Deliver, Lose, Divert, Clock, Vote, Second, Logged, Elect, Decide, Raw, Show}
+use Rattle.schedule_text.specs.declared.line.Line.TheVariants.{Begin, Read, Write, Delete, Claim}
+use Rattle.schedule_text.specs.declared.line.Line.TheVariants.{Prepare, Settle, Recover, Invoke, Round}
+use Rattle.schedule_text.specs.declared.line.Line.TheVariants.{Deliver, Lose, Divert, Clock, Vote}
+use Rattle.schedule_text.specs.declared.line.Line.TheVariants.{Second, Logged, Elect, Decide, Raw, Show}
 use Rattle.schedule_replay.specs.Names.{number_of}
 use Rattle.schedule_replay.specs.Replays.{NamesValue, ReplayValue}
 use Rattle.schedule_replay.specs.Roads.{Road, behind_one, gift, handed}

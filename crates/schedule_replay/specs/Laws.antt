@@ -43,8 +43,8 @@ abbrev pub ReportsAreSafe : Type 0
 ReportsAreSafe =
     (road : Road) (bytes text : List ℕ) → outcome_on road bytes ≡ Ok text → IsSafeReport road bytes text
 
--- a schedule ends in a breach at a line: the lines before it led to a replay, whose run this line's events take to the breach,
--- and the run is safe until there
+-- a schedule ends in a breach at a line: the lines before it led to a replay, whose run this line's events take to the
+-- breach, and the run is safe until there
 pub record IsRealBreak (road : Road) (bytes : List ℕ) (b : Broken) : Type 0 where
   pub before : List (List ℕ)
   pub line : List ℕ
@@ -61,4 +61,5 @@ pub record IsRealBreak (road : Road) (bytes : List ℕ) (b : Broken) : Type 0 wh
 
 abbrev pub BreaksAreReal : Type 0
 BreaksAreReal =
-    (road : Road) (bytes : List ℕ) (b : Broken) → outcome_on road bytes ≡ Err (fault.Broken b) → IsRealBreak road bytes b
+    (road : Road) (bytes : List ℕ) (b : Broken) →
+    outcome_on road bytes ≡ Err (fault.Broken b) → IsRealBreak road bytes b

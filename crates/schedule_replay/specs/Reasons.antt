@@ -8,10 +8,13 @@ use Rattle.keyring_lms.specs.Replay.{is_party_of}
 use Rattle.node_steps.specs.Refusing.{when}
 use Rattle.quorum_laws.specs.Numbers.{replicas}
 use Rattle.schedule_text.specs.declared.line.Line.{Line}
-use Rattle.schedule_text.specs.declared.line.Line.TheVariants.{Header, Faulty, Begin, Read, Write, Delete, Claim, Prepare, Settle, Recover, Invoke}
-use Rattle.schedule_text.specs.declared.line.Line.TheVariants.{Deliver, Lose, Divert, Clock, Vote, Second, Logged, Elect, Decide, Raw, Stop}
+use Rattle.schedule_text.specs.declared.line.Line.TheVariants.{Header, Faulty, Begin, Read, Write, Delete}
+use Rattle.schedule_text.specs.declared.line.Line.TheVariants.{Claim, Prepare, Settle, Recover, Invoke}
+use Rattle.schedule_text.specs.declared.line.Line.TheVariants.{Deliver, Lose, Divert, Clock, Vote}
+use Rattle.schedule_text.specs.declared.line.Line.TheVariants.{Second, Logged, Elect, Decide, Raw, Stop}
 use Rattle.schedule_text.specs.declared.reason.Reason.{Reason}
-use Rattle.schedule_text.specs.declared.reason.Reason.TheVariants.{Misspelt, OutOfRange, WrongName, CannotBeFaulty, WrongParty, NoMessage, NoJournal}
+use Rattle.schedule_text.specs.declared.reason.Reason.TheVariants.{Misspelt, OutOfRange, WrongName, CannotBeFaulty}
+use Rattle.schedule_text.specs.declared.reason.Reason.TheVariants.{WrongParty, NoMessage, NoJournal}
 use Rattle.schedule_replay.specs.Names.{is_begun, is_formed, is_by_faulty}
 use Rattle.schedule_replay.specs.Replays.{ReplayValue}
 

@@ -4,7 +4,8 @@ use Rattle.basil_types.specs.Links.{LinkState}
 use Rattle.basil_types.specs.declared.party.Party.{Party}
 use Rattle.schedule_text.specs.declared.reason.Reason.{Reason}
 use Rattle.schedule_replay.specs.declared.fault.ReplayFault.{ReplayFault}
-use Rattle.schedule_replay.specs.declared.fault.ReplayFault.TheVariants.{BadInput, Broken, Full, LinkFault, WriteFault, NoMemory}
+use Rattle.schedule_replay.specs.declared.fault.ReplayFault.TheVariants.{BadInput, Broken, Full}
+use Rattle.schedule_replay.specs.declared.fault.ReplayFault.TheVariants.{LinkFault, WriteFault, NoMemory}
 use Rattle.schedule_replay.specs.declared.replay.Replay.{Replay}
 use Rattle.schedule_replay.specs.declared.stages.Opened.{Opened}
 use Rattle.schedule_replay.specs.declared.stages.Schedule.{Schedule}

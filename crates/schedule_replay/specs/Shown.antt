@@ -15,7 +15,8 @@ use Rattle.schedule_replay.specs.declared.course.Course.{Course}
 use Rattle.schedule_replay.specs.declared.fault.Halt.{Halt}
 use Rattle.schedule_replay.specs.declared.fault.Halt.TheVariants as halt
 use Rattle.schedule_replay.specs.declared.fault.ReplayFault.{ReplayFault}
-use Rattle.schedule_replay.specs.declared.fault.ReplayFault.TheVariants.{BadInput, Broken, Full, LinkFault, WriteFault, NoMemory}
+use Rattle.schedule_replay.specs.declared.fault.ReplayFault.TheVariants.{BadInput, Broken, Full}
+use Rattle.schedule_replay.specs.declared.fault.ReplayFault.TheVariants.{LinkFault, WriteFault, NoMemory}
 use Rattle.schedule_replay.specs.declared.replay.Opening as code
 use Rattle.schedule_replay.specs.Events.{deliver_all}
 use Rattle.schedule_replay.specs.Names.{is_begun}
@@ -62,8 +63,8 @@ pub record HasStopped (messages : List ℕ) (r : ReplayValue) (course : Course) 
   pub stands : Stands course reached
   pub goes : reached.road ≡ road
 
--- events, which deliver these messages one after another, come to this, with this road left: the world shows it, and the
--- names are as before; a refusal is that; where a link failed, the messages before stay delivered
+-- events, which deliver these messages one after another, come to this, with this road left: the world shows it, and
+-- the names are as before; a refusal is that; where a link failed, the messages before stay delivered
 abbrev pub Does :
     (messages : List ℕ) → Result ReplayValue WorldFault → ReplayValue → Course → Result (Unit {0}) Halt → Road → Type 0
 Does messages answer r course (Ok done) road =
@@ -115,8 +116,8 @@ fault_by number halt.Link = LinkFault
 fault_by number halt.NoMemory = NoMemory
 
 -- a line, which delivers these messages one after another, does what it should: Ok exactly where that is, and then the
--- replay shows it, with this road left; a refusal is that, and one by a reason leaves all as before; where a link failed,
--- the messages before stay delivered; want of memory ends it
+-- replay shows it, with this road left; a refusal is that, and one by a reason leaves all as before; where a link
+-- failed, the messages before stay delivered; want of memory ends it
 abbrev pub Did :
     (messages : List ℕ) → Result ReplayValue ReplayFault → ReplayValue → Course → Result (Unit {0}) ReplayFault → Road →
     Type 0

@@ -1,5 +1,6 @@
 -- What became of all transactions of a run, in numbers.
-use Rattle.std.specs.Prelude.{ℕ, List, [], ◌∷◌, ◌++◌, Bool, true, false, codes, decimal, filter, length, map, Option, Some, None}
+use Rattle.std.specs.Prelude.{ℕ, List, [], ◌∷◌, ◌++◌, Bool, true, false, codes}
+use Rattle.std.specs.Prelude.{decimal, filter, length, map, Option, Some, None}
 use Rattle.std.specs.List.{range_with_len}
 use Rattle.basil_types.specs.declared.party.Decision.{Decision}
 use Rattle.basil_types.specs.declared.party.Decision.TheVariants.{Commit, Abort}

@@ -1,6 +1,7 @@
 //! The course of a replay: what lines do to a world and to the names of its transactions.
 
-ghost use Rattle.std.specs.Prelude.{◌≡◌, ◌<◌, ◌++◌, [], ℕ, List, true, false, IfErr, IfOk, IfSome, OnErr, OnOk, option_map};
+ghost use Rattle.std.specs.Prelude.{◌≡◌, ◌<◌, ◌++◌, [], ℕ, List, true, false};
+ghost use Rattle.std.specs.Prelude.{IfErr, IfOk, IfSome, OnErr, OnOk, option_map};
 ghost use Rattle.cluster_run.specs.Events as events;
 ghost use Rattle.cluster_world.specs.EventValues.{event_value};
 ghost use Rattle.cluster_world.specs.Worlds.{is_end};

@@ -1,5 +1,6 @@
 -- A line is cut at its first space.
-use Rattle.std.proofs.Common.{◌≡◌, ℕ, ◌+◌, ◌<◌, List, [], ◌∷◌, length, take, drop, Some, None, Bool, true, false, eqb, refl, ◌∙◌, arith, get_or}
+use Rattle.std.proofs.Common.{◌≡◌, ℕ, ◌+◌, ◌<◌, List, [], ◌∷◌, length, take, drop, Some}
+use Rattle.std.proofs.Common.{None, Bool, true, false, eqb, refl, ◌∙◌, arith, get_or}
 use Rattle.std.proofs.lemmas.Grind.{common_steps}
 use Rattle.std.proofs.lemmas.List.Splits.{slice_split_first, slice_split_none, length-slice_split}
 use Rattle.std.proofs.lemmas.List.Quantifiers.{position-Some}
@@ -12,13 +13,15 @@ place-is p xs d at e =
     let h : (at < length xs) × (p (get_or xs at d) ≡ true) × ((k : ℕ) → k < at → p (get_or xs k d) ≡ false) = position-Some p xs at d e in
     position_or_len_is p xs at d (omega (arith, h.0)) h.2 (λ _. h.1)
 
-pub split-Some : (bs : List ℕ) (at : ℕ) → position (λ b. eqb b 32) bs ≡ Some at → slice_split (λ b. eqb b 32) bs ≡ take at bs ∷ slice_split (λ b. eqb b 32) (drop (at + 1) bs)
+pub split-Some : (bs : List ℕ) (at : ℕ) →
+    position (λ b. eqb b 32) bs ≡ Some at → slice_split (λ b. eqb b 32) bs ≡ take at bs ∷ slice_split (λ b. eqb b 32) (drop (at + 1) bs)
 split-Some bs at e =
     let i : position_or_len (λ b. eqb b 32) bs ≡ at = place-is (λ b. eqb b 32) bs 0 at e in
     let l : at < length bs = (position-Some (λ b. eqb b 32) bs at 0 e).0 in
     slice_split_first (λ b. eqb b 32) bs 0 (omega (arith, i, l)) ∙ (λ j. take (i j) bs ∷ slice_split (λ b. eqb b 32) (drop (i j + 1) bs))
 
-pub position-none : {X : Type 0} (p : X → Bool) (xs : List X) → position p xs ≡ None → (k : ℕ) (d : X) → k < length xs → p (get_or xs k d) ≡ false
+pub position-none : {X : Type 0} (p : X → Bool) (xs : List X) →
+    position p xs ≡ None → (k : ℕ) (d : X) → k < length xs → p (get_or xs k d) ≡ false
 position-none p xs e k d h = grind (arith, common_steps, prefix_len_passes)
 
 pub split-None : (bs : List ℕ) → position (λ b. eqb b 32) bs ≡ None → slice_split (λ b. eqb b 32) bs ≡ bs ∷ []

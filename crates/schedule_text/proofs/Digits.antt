@@ -1,5 +1,6 @@
 -- Digits are a text, and what it parses to.
-use Rattle.std.proofs.Common.{◌≡◌, ℕ, ◌^◌, ◌<◌, ◌≤◌, List, [], ◌∷◌, length, true, nat_lt, if◌then◌else◌, Option, Some, None, Result, Ok, Err, rules, arith, tests}
+use Rattle.std.proofs.Common.{◌≡◌, ℕ, ◌^◌, ◌<◌, ◌≤◌, List, [], ◌∷◌, length, true, nat_lt}
+use Rattle.std.proofs.Common.{if◌then◌else◌, Option, Some, None, Result, Ok, Err, rules, arith, tests}
 use Rattle.std.proofs.lemmas.Grind.{common_steps}
 use Rattle.std.specs.List.{list_all}
 use Rattle.std.specs.Result.{OkIff, result_ok}
@@ -46,5 +47,6 @@ limited P v (Err e) p h = let b : 2 ^ 64 ≤ v = not-below v (λ l. h (p, l)) in
     not-below v h = omega arith
 
 -- digits parse to their number, where it is below the limit
-pub parsed : {E : Type 0} (ds : List ℕ) (r : Result ℕ E) → AreDigits ds → 0 < length ds → ParsesUnsigned 64 10 ds r → result_ok r ≡ (if nat_lt (digits_value 10 ds) (2 ^ 64) then Some (digits_value 10 ds) else None)
+pub parsed : {E : Type 0} (ds : List ℕ) (r : Result ℕ E) → AreDigits ds → 0 < length ds →
+    ParsesUnsigned 64 10 ds r → result_ok r ≡ (if nat_lt (digits_value 10 ds) (2 ^ 64) then Some (digits_value 10 ds) else None)
 parsed ds r h some p = limited (0 < length ds) (digits_value 10 ds) r some (parse_digits own 64 ds r p h)

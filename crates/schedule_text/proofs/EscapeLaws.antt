@@ -1,5 +1,6 @@
 -- What the spelling of a key, a value or a frame is read as.
-use Rattle.std.proofs.Common.{◌≡◌, ℕ, suc, ◌+◌, ◌*◌, ◌/◌, ◌%◌, ◌<◌, ◌≤◌, List, [], ◌∷◌, ◌++◌, length, Bool, true, false, eqb, refl, ap, ◌∙◌, arith, Ok, Some, codes, slice_index}
+use Rattle.std.proofs.Common.{◌≡◌, ℕ, suc, ◌+◌, ◌*◌, ◌/◌, ◌%◌, ◌<◌, ◌≤◌, List, [], ◌∷◌, ◌++◌, length}
+use Rattle.std.proofs.Common.{Bool, true, false, eqb, refl, ap, ◌∙◌, arith, Ok, Some, codes, slice_index}
 use Rattle.std.specs.Prelude.{bytes_eq}
 use Rattle.std.proofs.lemmas.Grind.{common_steps}
 use Rattle.std.proofs.lemmas.List.Folds.{list_all-append}
@@ -20,12 +21,14 @@ plain-step b [] h = rw h refl
 plain-step b (c ∷ []) h = rw h refl
 plain-step b (c ∷ d ∷ rest) h = rw h refl
 
-escape-again : (b : ℕ) → b < 256 → is_plain b ≡ false → escape 37 (slice_index lower_digits (b / 16)) (slice_index lower_digits (b % 16)) ≡ Some b
+escape-again : (b : ℕ) → b < 256 → is_plain b ≡ false →
+    escape 37 (slice_index lower_digits (b / 16)) (slice_index lower_digits (b % 16)) ≡ Some b
 escape-again b l h =
     let whole : 16 * (b / 16) + b % 16 ≡ b = omega arith in
     rw (hex_digit-again (b / 16) (omega arith), hex_digit-again (b % 16) (omega arith), whole, h) refl
 
-escape-step : (b : ℕ) (w : Word) → b < 256 → is_plain b ≡ false → unescaped (37 ∷ slice_index lower_digits (b / 16) ∷ slice_index lower_digits (b % 16) ∷ w) ≡ onto (Some b) (unescaped w)
+escape-step : (b : ℕ) (w : Word) → b < 256 → is_plain b ≡ false →
+    unescaped (37 ∷ slice_index lower_digits (b / 16) ∷ slice_index lower_digits (b % 16) ∷ w) ≡ onto (Some b) (unescaped w)
 unfolding unescaped
 escape-step b w l h = rw (escape-again b l h) refl
 
@@ -65,7 +68,8 @@ some-length n = grind (arith, common_steps)
 pub value-again : (bytes : List ℕ) → HasBytes 0 256 bytes → value (value_word bytes) ≡ Ok bytes
 unfolding value
 value-again [] h = refl
-value-again (b ∷ bytes) h = rw (some-length (length bytes), byte-is-no-percent b (key_word bytes) (is_plain b) refl) (text-again 256 (b ∷ bytes) (omega arith, h.1, h.2))
+value-again (b ∷ bytes) h = rw (some-length (length bytes), byte-is-no-percent b (key_word bytes) (is_plain b) refl)
+    (text-again 256 (b ∷ bytes) (omega arith, h.1, h.2))
 
 byte-clean : (b : ℕ) (plain : Bool) → is_plain b ≡ plain → b < 256 → clean (spelled_byte b) ≡ true
 byte-clean b true h l = rw h (let other : is_other b ≡ true = grind (arith, common_steps) in rw other refl)
@@ -74,7 +78,11 @@ byte-clean b false h l = rw (h, digit-is-clean (b / 16) (omega arith), digit-is-
 pub key-clean : (bytes : List ℕ) → IsBytes bytes → clean (key_word bytes) ≡ true
 key-clean [] h = refl
 key-clean (b ∷ bytes) h =
-    rw (list_all-append is_other (spelled_byte b) (key_word bytes), byte-clean b (is_plain b) refl (h 0), key-clean bytes (λ k. h (suc k))) refl
+    rw (
+      list_all-append is_other (spelled_byte b) (key_word bytes),
+      byte-clean b (is_plain b) refl (h 0),
+      key-clean bytes (λ k. h (suc k)),
+    ) refl
 
 pub value-clean : (bytes : List ℕ) → IsBytes bytes → clean (value_word bytes) ≡ true
 value-clean [] h = refl
@@ -82,7 +90,8 @@ value-clean (b ∷ bytes) h = rw (some-length (length bytes)) (key-clean (b ∷ 
 
 -- ---- hex
 
-hex-tests : (p : ℕ → Bool) → ((d : ℕ) → d < 16 → p (slice_index lower_digits d) ≡ true) → (bytes : List ℕ) → IsBytes bytes → list_all p (encode_lower bytes) ≡ true
+hex-tests : (p : ℕ → Bool) → ((d : ℕ) → d < 16 → p (slice_index lower_digits d) ≡ true) →
+    (bytes : List ℕ) → IsBytes bytes → list_all p (encode_lower bytes) ≡ true
 unfolding encode_with
 hex-tests p t [] h = refl
 hex-tests p t (b ∷ bytes) h =
@@ -96,7 +105,11 @@ pub hex-again : (bytes : List ℕ) → 1 ≤ length bytes → IsBytes bytes → 
 unfolding hex
 hex-again bytes l h =
     let twice = length-encode_with lower_digits bytes in
-    rw (lt-yes 0 (length (encode_lower bytes)) (omega (arith, twice)), hex-tests is_lower_hex digit-is-lower bytes h, decode_of-encode_lower bytes h) refl
+    rw (
+      lt-yes 0 (length (encode_lower bytes)) (omega (arith, twice)),
+      hex-tests is_lower_hex digit-is-lower bytes h,
+      decode_of-encode_lower bytes h,
+    ) refl
 
 pub frame-again : (bytes : List ℕ) → HasBytes 1 frame_limit bytes → frame (encode_lower bytes) ≡ Ok bytes
 unfolding frame

@@ -1,17 +1,21 @@
 -- What is read as a key, a value or a frame is its spelling.
-use Rattle.std.proofs.Common.{◌≡◌, ℕ, zero, suc, ◌+◌, ◌-◌, ◌*◌, ◌/◌, ◌%◌, ◌<◌, ◌≤◌, ◌==◌, List, [], ◌∷◌, ◌++◌, length, Bool, true, false, not, ◌&&◌, eqb, refl, sym, ap, ◌∙◌, arith, Result, Ok, Err, Option, Some, None, codes, slice_index, inl, inr, if◌then◌else◌, subst}
+use Rattle.std.proofs.Common.{◌≡◌, ℕ, zero, suc, ◌+◌, ◌-◌, ◌*◌, ◌/◌, ◌%◌, ◌<◌, ◌≤◌, ◌==◌, List, [], ◌∷◌, ◌++◌}
+use Rattle.std.proofs.Common.{length, Bool, true, false, not, ◌&&◌, eqb, refl, sym, ap, ◌∙◌, arith, Result}
+use Rattle.std.proofs.Common.{Ok, Err, Option, Some, None, codes, slice_index, inl, inr, if◌then◌else◌, subst}
 use Rattle.std.specs.Prelude.{nat_le, nat_lt, bytes_eq}
 use Rattle.std.proofs.lemmas.Grind.{common_steps}
 use Rattle.std.proofs.lemmas.Bool.{cases_lt, eqb-true, ltb-true}
 use Rattle.std.specs.List.{list_all}
-use Rattle.hex.specs.Hex.{IsBytes, lower_digits, encode_lower, encode_with, decode_of, decode_pairs, pair_value, value_at, hex_digit_value, digit_or_error, ◌>>=◌}
+use Rattle.hex.specs.Hex.{IsBytes, lower_digits, encode_lower, encode_with, decode_of, decode_pairs}
+use Rattle.hex.specs.Hex.{pair_value, value_at, hex_digit_value, digit_or_error, ◌>>=◌}
 use Rattle.hex.specs.declared.error.FromHexError.{FromHexError}
 use Rattle.hex.proofs.HexLemmas.{decode_of-ok, decode_of-even}
 use Rattle.basil_types.specs.Limits.{frame_limit}
 use Rattle.schedule_text.specs.declared.complaint.Complaint.{Complaint}
 use Rattle.schedule_text.specs.declared.complaint.Complaint.TheVariants.{Misspelt, OutOfSize}
 use Rattle.schedule_text.specs.Words.{Word}
-use Rattle.schedule_text.specs.Fields.{is_plain, is_digit, is_lower_hex, hex_digit, pair_of_digits, unless_plain, escape, onto, unescaped, sized, text, value, spelt, hex, sized_frame, frame}
+use Rattle.schedule_text.specs.Fields.{is_plain, is_digit, is_lower_hex, hex_digit, pair_of_digits, unless_plain}
+use Rattle.schedule_text.specs.Fields.{escape, onto, unescaped, sized, text, value, spelt, hex, sized_frame, frame}
 use Rattle.schedule_text.specs.Spelling.{spelled_byte, key_word, value_word}
 use Rattle.schedule_text.specs.Fitting.{HasBytes}
 use Rattle.schedule_text.proofs.WordLaws.{and-left, and-right}
@@ -76,7 +80,8 @@ bytes-cons : (b : ℕ) (bytes : List ℕ) → b < 256 → IsBytes bytes → IsBy
 bytes-cons b bytes l h zero = l
 bytes-cons b bytes l h (suc i) = h i
 
-onto-takes : (b : ℕ) (o : Option (List ℕ)) (bytes : List ℕ) → onto (Some b) o ≡ Some bytes → (rest : List ℕ) × (o ≡ Some rest) × (b ∷ rest ≡ bytes)
+onto-takes : (b : ℕ) (o : Option (List ℕ)) (bytes : List ℕ) →
+    onto (Some b) o ≡ Some bytes → (rest : List ℕ) × (o ≡ Some rest) × (b ∷ rest ≡ bytes)
 onto-takes b None bytes h = cc h
 onto-takes b (Some rest) bytes h = (rest, refl, some-is (b ∷ rest) bytes h)
 
@@ -85,11 +90,13 @@ plain-spelled b h = (rw h refl, plain-small b h)
   where
     plain-small : (b : ℕ) → is_plain b ≡ true → b < 256
     plain-small b h =
-        let m : b ≤ 126 = le-of b 126 (and-right (nat_le 33 b) (nat_le b 126) (and-left (nat_le 33 b && nat_le b 126) (not (b == 37)) (and-left (nat_le 33 b && nat_le b 126 && not (b == 37)) (not (b == 58)) h))) in
+        let m : b ≤ 126 = le-of b 126 (and-right (nat_le 33 b) (nat_le b 126) (and-left (nat_le 33 b && nat_le b 126)
+        (not (b == 37)) (and-left (nat_le 33 b && nat_le b 126 && not (b == 37)) (not (b == 58)) h))) in
         omega arith
 
 -- one byte, and the bytes of the rest
-one-more : (b : ℕ) (w : Word) (bytes : List ℕ) (o : Option (List ℕ)) → is_plain b ≡ true → onto (Some b) o ≡ Some bytes → ((rest : List ℕ) → o ≡ Some rest → (key_word rest ≡ w) × IsBytes rest) → (key_word bytes ≡ b ∷ w) × IsBytes bytes
+one-more : (b : ℕ) (w : Word) (bytes : List ℕ) (o : Option (List ℕ)) → is_plain b ≡ true → onto (Some b) o ≡ Some bytes →
+    ((rest : List ℕ) → o ≡ Some rest → (key_word rest ≡ w) × IsBytes rest) → (key_word bytes ≡ b ∷ w) × IsBytes bytes
 one-more b w bytes o p h again =
     let t = onto-takes b o bytes h in
     let r = again t.0 t.1 in
@@ -100,12 +107,14 @@ one-more b w bytes o p h again =
 escape-takes : (p c d x : ℕ) → escape p c d ≡ Some x → (p ∷ c ∷ d ∷ [] ≡ spelled_byte x) × (x < 256)
 escape-takes p c d x h = tested (p == 37) refl h
   where
-    digits : (a b : Option ℕ) → hex_digit c ≡ a → hex_digit d ≡ b → unless_plain (pair_of_digits a b) ≡ Some x → p ≡ 37 → (p ∷ c ∷ d ∷ [] ≡ spelled_byte x) × (x < 256)
+    digits : (a b : Option ℕ) → hex_digit c ≡ a →
+        hex_digit d ≡ b → unless_plain (pair_of_digits a b) ≡ Some x → p ≡ 37 → (p ∷ c ∷ d ∷ [] ≡ spelled_byte x) × (x < 256)
     digits None b i j h e = cc h
     digits (Some u) None i j h e = cc h
     digits (Some u) (Some v) i j h e = unplain (is_plain (16 * u + v)) refl h
       where
-        unplain : (q : Bool) → is_plain (16 * u + v) ≡ q → (if q then None else Some (16 * u + v)) ≡ Some x → (p ∷ c ∷ d ∷ [] ≡ spelled_byte x) × (x < 256)
+        unplain : (q : Bool) → is_plain (16 * u + v) ≡ q →
+            (if q then None else Some (16 * u + v)) ≡ Some x → (p ∷ c ∷ d ∷ [] ≡ spelled_byte x) × (x < 256)
         unplain true k h = cc h
         unplain false k h =
             let s : 16 * u + v ≡ x = some-is (16 * u + v) x h in
@@ -118,11 +127,13 @@ escape-takes p c d x h = tested (p == 37) refl h
             let n : is_plain x ≡ false = ap is_plain (sym s) ∙ k in
             (rw (n, high, low, a.1, b.1, e) refl, omega arith)
 
-    tested : (q : Bool) → (p == 37) ≡ q → (if q then unless_plain (pair_of_digits (hex_digit c) (hex_digit d)) else None) ≡ Some x → (p ∷ c ∷ d ∷ [] ≡ spelled_byte x) × (x < 256)
+    tested : (q : Bool) → (p == 37) ≡ q → (if q then unless_plain (pair_of_digits (hex_digit c) (hex_digit d)) else None) ≡ Some x →
+        (p ∷ c ∷ d ∷ [] ≡ spelled_byte x) × (x < 256)
     tested true i h = digits (hex_digit c) (hex_digit d) refl refl h (eqb-true p 37 i)
     tested false i h = cc h
 
-one-escaped : (p c d : ℕ) (w : Word) (bytes : List ℕ) (e : Option ℕ) (o : Option (List ℕ)) → escape p c d ≡ e → onto e o ≡ Some bytes → ((rest : List ℕ) → o ≡ Some rest → (key_word rest ≡ w) × IsBytes rest) → (key_word bytes ≡ p ∷ c ∷ d ∷ w) × IsBytes bytes
+one-escaped : (p c d : ℕ) (w : Word) (bytes : List ℕ) (e : Option ℕ) (o : Option (List ℕ)) → escape p c d ≡ e → onto e o ≡ Some bytes →
+    ((rest : List ℕ) → o ≡ Some rest → (key_word rest ≡ w) × IsBytes rest) → (key_word bytes ≡ p ∷ c ∷ d ∷ w) × IsBytes bytes
 one-escaped p c d w bytes None o i h again = cc h
 one-escaped p c d w bytes (Some x) o i h again =
     let t = onto-takes x o bytes h in
@@ -136,18 +147,23 @@ unfolding unescaped
 unescaped-takes [] bytes h = subst (λ (z : List ℕ). (key_word z ≡ []) × IsBytes z) (some-is [] bytes h) (refl, λ i. omega arith)
 unescaped-takes (b ∷ []) bytes h = tested (is_plain b) refl h (λ rest e. unescaped-takes [] rest e)
   where
-    tested : (q : Bool) → is_plain b ≡ q → (if q then Some (b ∷ []) else None) ≡ Some bytes → ((rest : List ℕ) → Some [] ≡ Some rest → (key_word rest ≡ []) × IsBytes rest) → (key_word bytes ≡ b ∷ []) × IsBytes bytes
+    tested : (q : Bool) → is_plain b ≡ q → (if q then Some (b ∷ []) else None) ≡ Some bytes →
+        ((rest : List ℕ) → Some [] ≡ Some rest → (key_word rest ≡ []) × IsBytes rest) → (key_word bytes ≡ b ∷ []) × IsBytes bytes
     tested false i h again = cc h
     tested true i h again = one-more b [] bytes (Some []) i h again
 unescaped-takes (b ∷ c ∷ []) bytes h = tested (is_plain b) refl h (λ rest e. unescaped-takes (c ∷ []) rest e)
   where
-    tested : (q : Bool) → is_plain b ≡ q → (if q then onto (Some b) (unescaped (c ∷ [])) else None) ≡ Some bytes → ((rest : List ℕ) → unescaped (c ∷ []) ≡ Some rest → (key_word rest ≡ c ∷ []) × IsBytes rest) → (key_word bytes ≡ b ∷ c ∷ []) × IsBytes bytes
+    tested : (q : Bool) → is_plain b ≡ q → (if q then onto (Some b) (unescaped (c ∷ [])) else None) ≡ Some bytes → ((rest : List ℕ) →
+        unescaped (c ∷ []) ≡ Some rest → (key_word rest ≡ c ∷ []) × IsBytes rest) → (key_word bytes ≡ b ∷ c ∷ []) × IsBytes bytes
     tested false i h again = cc h
     tested true i h again = one-more b (c ∷ []) bytes (unescaped (c ∷ [])) i h again
-unescaped-takes (b ∷ c ∷ d ∷ w) bytes h = tested (is_plain b) refl h (λ rest e. unescaped-takes (c ∷ d ∷ w) rest e) (λ rest e. unescaped-takes w rest e)
+unescaped-takes (b ∷ c ∷ d ∷ w) bytes h =
+    tested (is_plain b) refl h (λ rest e. unescaped-takes (c ∷ d ∷ w) rest e) (λ rest e. unescaped-takes w rest e)
   where
-    tested : (q : Bool) → is_plain b ≡ q → (if q then onto (Some b) (unescaped (c ∷ d ∷ w)) else onto (escape b c d) (unescaped w)) ≡ Some bytes
-        → ((rest : List ℕ) → unescaped (c ∷ d ∷ w) ≡ Some rest → (key_word rest ≡ c ∷ d ∷ w) × IsBytes rest) → ((rest : List ℕ) → unescaped w ≡ Some rest → (key_word rest ≡ w) × IsBytes rest) → (key_word bytes ≡ b ∷ c ∷ d ∷ w) × IsBytes bytes
+    tested : (q : Bool) → is_plain b ≡ q →
+        (if q then onto (Some b) (unescaped (c ∷ d ∷ w)) else onto (escape b c d) (unescaped w)) ≡ Some bytes
+        → ((rest : List ℕ) → unescaped (c ∷ d ∷ w) ≡ Some rest → (key_word rest ≡ c ∷ d ∷ w) × IsBytes rest) → ((rest : List ℕ) →
+        unescaped w ≡ Some rest → (key_word rest ≡ w) × IsBytes rest) → (key_word bytes ≡ b ∷ c ∷ d ∷ w) × IsBytes bytes
     tested true i h next behind = one-more b (c ∷ d ∷ w) bytes (unescaped (c ∷ d ∷ w)) i h next
     tested false i h next behind = one-escaped b c d w bytes (escape b c d) (unescaped w) refl h behind
 
@@ -178,15 +194,18 @@ pub value-takes : (w : Word) (bytes : List ℕ) → value w ≡ Ok bytes → (va
 unfolding value
 value-takes w bytes h = tested (bytes_eq w (codes "%")) refl h
   where
-    tested : (q : Bool) → bytes_eq w (codes "%") ≡ q → (if q then Ok [] else text 256 w) ≡ Ok bytes → (value_word bytes ≡ w) × HasBytes 0 256 bytes
-    tested true i h = subst (λ (z : List ℕ). (value_word z ≡ w) × HasBytes 0 256 z) (ok-is [] bytes h) (sym (text-is w (codes "%") i), (omega arith, omega arith, λ k. omega arith))
+    tested : (q : Bool) → bytes_eq w (codes "%") ≡ q →
+        (if q then Ok [] else text 256 w) ≡ Ok bytes → (value_word bytes ≡ w) × HasBytes 0 256 bytes
+    tested true i h = subst (λ (z : List ℕ). (value_word z ≡ w) × HasBytes 0 256 z)
+        (ok-is [] bytes h) (sym (text-is w (codes "%") i), (omega arith, omega arith, λ k. omega arith))
     tested false i h =
         let t = text-takes 256 w bytes h in
         (value-of bytes t.1.0 ∙ t.0, (omega arith, t.1.1, t.1.2))
 
 -- ---- hex
 
-bind-ok : {A B : Type 0} (r : Result A FromHexError) (f : A → Result B FromHexError) (y : B) → (r >>= f) ≡ Ok y → (x : A) × (r ≡ Ok x) × (f x ≡ Ok y)
+bind-ok : {A B : Type 0} (r : Result A FromHexError) (f : A → Result B FromHexError) (y : B) →
+    (r >>= f) ≡ Ok y → (x : A) × (r ≡ Ok x) × (f x ≡ Ok y)
 bind-ok (Ok x) f y h = (x, refl, h)
 bind-ok (Err e) f y h = cc h
 
@@ -216,7 +235,8 @@ pairs-take i (a ∷ b ∷ w) bytes l h =
     let p2 = bind-ok (value_at b (i + 1)) _ p0.0 p1.2 in
     let p3 = bind-ok (decode_pairs (i + 2) w) _ bytes p0.2 in
     let la : is_lower_hex a ≡ true = and-left (is_lower_hex a) (is_lower_hex b && list_all is_lower_hex w) l in
-    let lr : (is_lower_hex b && list_all is_lower_hex w) ≡ true = and-right (is_lower_hex a) (is_lower_hex b && list_all is_lower_hex w) l in
+    let lr : (is_lower_hex b && list_all is_lower_hex w) ≡ true =
+    and-right (is_lower_hex a) (is_lower_hex b && list_all is_lower_hex w) l in
     let va = lower-value a i p1.0 la p1.1 in
     let vb = lower-value b (i + 1) p2.0 (and-left (is_lower_hex b) (list_all is_lower_hex w) lr) p2.1 in
     let again = pairs-take (i + 2) w p3.0 (and-right (is_lower_hex b) (list_all is_lower_hex w) lr) p3.1 in
@@ -235,8 +255,12 @@ hex-takes w bytes h =
     let some : 0 < length w = ltb-true 0 (length w) (and-left (nat_lt 0 (length w)) (list_all is_lower_hex w) p.0) in
     let d = decoded (decode_of w) refl p.1 in
     let k = decode_of-ok w bytes d in
-    let n : length w ≡ 2 * length bytes = k.2 in
-    (pairs-take 0 w bytes (and-right (nat_lt 0 (length w)) (list_all is_lower_hex w) p.0) (sym (decode_of-even w k.0) ∙ d), omega arith, k.3)
+    let n : length w ≡ 2 * length bytes = k.2 in (
+      pairs-take 0 w bytes (and-right (nat_lt 0 (length w)) (list_all is_lower_hex w) p.0)
+          (sym (decode_of-even w k.0) ∙ d),
+      omega arith,
+      k.3,
+    )
   where
     decoded : (r : Result (List ℕ) FromHexError) → decode_of w ≡ r → spelt r ≡ Ok bytes → decode_of w ≡ Ok bytes
     decoded (Ok bs) e h = e ∙ ap (λ (z : List ℕ). Ok z) (ok-is bs bytes h)

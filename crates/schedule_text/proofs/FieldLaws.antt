@@ -1,5 +1,6 @@
 -- What a field's spelling is read as.
-use Rattle.std.proofs.Common.{◌≡◌, ℕ, zero, suc, ◌-◌, ◌<◌, ◌≤◌, ◌^◌, ◌==◌, List, [], ◌∷◌, length, Bool, true, false, ◌&&◌, eqb, refl, ap, arith, Ok, Option, Some, None, get_or, codes, slice_index, inl, inr}
+use Rattle.std.proofs.Common.{◌≡◌, ℕ, zero, suc, ◌-◌, ◌<◌, ◌≤◌, ◌^◌, ◌==◌, List, [], ◌∷◌, length, Bool, true, false}
+use Rattle.std.proofs.Common.{◌&&◌, eqb, refl, ap, arith, Ok, Option, Some, None, get_or, codes, slice_index, inl, inr}
 use Rattle.std.specs.Prelude.{nat_le, nat_lt, bytes_eq, unwrap_or}
 use Rattle.std.proofs.lemmas.Grind.{common_steps}
 use Rattle.std.proofs.lemmas.Bool.{cases_lt, eqb-true, lt-ltb}
@@ -13,7 +14,8 @@ use Rattle.basil_types.specs.declared.party.Decision.TheVariants.{Commit, Abort}
 use Rattle.schedule_text.specs.declared.line.KeysKind.{KeysKind}
 use Rattle.schedule_text.specs.declared.line.KeysKind.TheVariants.{Plain, W4H5, W4H10, W8H5, W8H10, Batch}
 use Rattle.schedule_text.specs.Words.{Word}
-use Rattle.schedule_text.specs.Fields.{number, number_in, is_digit, is_canonical, views, is_lower, is_name_byte, name, writer, decision, is_lower_hex, hex_digit, keys_kind}
+use Rattle.schedule_text.specs.Fields.{number, number_in, is_digit, is_canonical, views, is_lower}
+use Rattle.schedule_text.specs.Fields.{is_name_byte, name, writer, decision, is_lower_hex, hex_digit, keys_kind}
 use Rattle.schedule_text.specs.Parties.{place}
 use Rattle.schedule_text.specs.Spelling.{keys_word, decision_word, writer_word}
 use Rattle.schedule_text.specs.Fitting.{IsName, IsWriter, IsPlace, IsClient, IsU64}
@@ -30,7 +32,8 @@ lt-yes a b h = lt-ltb a b h
 
 -- ---- numbers
 
-number-of : (w : Word) (n : ℕ) → nat_lt 0 (length w) ≡ true → list_all is_digit w ≡ true → is_canonical w ≡ true → digits_value 10 w ≡ n → nat_lt n (2 ^ 64) ≡ true → number w ≡ Ok n
+number-of : (w : Word) (n : ℕ) → nat_lt 0 (length w) ≡ true →
+    list_all is_digit w ≡ true → is_canonical w ≡ true → digits_value 10 w ≡ n → nat_lt n (2 ^ 64) ≡ true → number w ≡ Ok n
 unfolding number
 number-of w n a b c d e = rw (a, b, c, d, e) refl
 
@@ -46,7 +49,8 @@ canonical-decimal (suc n) h =
 
 pub number-again : (n : ℕ) → IsU64 n → number (decimal n) ≡ Ok n
 number-again n h =
-    number-of (decimal n) n (lt-yes 0 (length (decimal n)) (decimal_nonempty n h)) (digits_decimal own n h) (canonical-decimal n h) (digits_value-decimal own n h) (lt-yes n (2 ^ 64) h)
+    number-of (decimal n) n (lt-yes 0 (length (decimal n)) (decimal_nonempty n h))
+    (digits_decimal own n h) (canonical-decimal n h) (digits_value-decimal own n h) (lt-yes n (2 ^ 64) h)
 
 pub number_in-again : (least most n : ℕ) → least ≤ n → n ≤ most → IsU64 n → number_in least most (decimal n) ≡ Ok n
 unfolding number_in
@@ -80,7 +84,8 @@ name-again w h = rw h refl
 name-is-no-dash : (w : Word) → IsName w → bytes_eq w (codes "-") ≡ false
 name-is-no-dash [] h = cc
 name-is-no-dash (f ∷ r) h =
-    let lower : is_lower f ≡ true = and-left (is_lower f) (list_all is_name_byte r) (and-left (is_lower f && list_all is_name_byte r) (nat_le (length r) 15) h) in
+    let lower : is_lower f ≡ true =
+    and-left (is_lower f) (list_all is_name_byte r) (and-left (is_lower f && list_all is_name_byte r) (nat_le (length r) 15) h) in
     let other : eqb f 45 ≡ false = grind (arith, common_steps) in
     rw other refl
 
@@ -106,7 +111,8 @@ keys-again Batch = refl
 pub name-clean : (w : Word) → IsName w → clean w ≡ true
 name-clean [] h = refl
 name-clean (f ∷ r) h =
-    let tested : (is_lower f && list_all is_name_byte r) ≡ true = and-left (is_lower f && list_all is_name_byte r) (nat_le (length r) 15) h in
+    let tested : (is_lower f && list_all is_name_byte r) ≡ true =
+    and-left (is_lower f && list_all is_name_byte r) (nat_le (length r) 15) h in
     let first : is_other f ≡ true = name-other f (lower-name f (and-left (is_lower f) (list_all is_name_byte r) tested)) in
     let rest : clean r ≡ true = all-weaker is_name_byte is_other name-other r (and-right (is_lower f) (list_all is_name_byte r) tested) in
     rw (first, rest) refl
@@ -120,7 +126,8 @@ name-clean (f ∷ r) h =
 -- ---- hex digits
 
 digit-back : ℕ → Bool
-digit-back d = unwrap_or (hex_digit (slice_index lower_digits d)) 99 == d && is_lower_hex (slice_index lower_digits d) && is_other (slice_index lower_digits d)
+digit-back d = unwrap_or (hex_digit (slice_index lower_digits d)) 99 == d
+    && is_lower_hex (slice_index lower_digits d) && is_other (slice_index lower_digits d)
 
 digits-back : ℕ → Bool
 digits-back zero = true
@@ -147,12 +154,15 @@ pub hex_digit-again : (d : ℕ) → d < 16 → hex_digit (slice_index lower_digi
 unfolding digit-back
 hex_digit-again d l =
     some-of (hex_digit (slice_index lower_digits d)) d l
-    (eqb-true (unwrap_or (hex_digit (slice_index lower_digits d)) 99) d (and-left _ (is_lower_hex (slice_index lower_digits d)) (and-left _ (is_other (slice_index lower_digits d)) (digit-at d l))))
+    (eqb-true (unwrap_or (hex_digit (slice_index lower_digits d)) 99) d
+    (and-left _ (is_lower_hex (slice_index lower_digits d)) (and-left _ (is_other (slice_index lower_digits d)) (digit-at d l))))
 
 pub digit-is-lower : (d : ℕ) → d < 16 → is_lower_hex (slice_index lower_digits d) ≡ true
 unfolding digit-back
-digit-is-lower d l = and-right (unwrap_or (hex_digit (slice_index lower_digits d)) 99 == d) _ (and-left _ (is_other (slice_index lower_digits d)) (digit-at d l))
+digit-is-lower d l = and-right (unwrap_or (hex_digit (slice_index lower_digits d)) 99 == d) _
+    (and-left _ (is_other (slice_index lower_digits d)) (digit-at d l))
 
 pub digit-is-clean : (d : ℕ) → d < 16 → is_other (slice_index lower_digits d) ≡ true
 unfolding digit-back
-digit-is-clean d l = and-right (unwrap_or (hex_digit (slice_index lower_digits d)) 99 == d && is_lower_hex (slice_index lower_digits d)) _ (digit-at d l)
+digit-is-clean d l =
+    and-right (unwrap_or (hex_digit (slice_index lower_digits d)) 99 == d && is_lower_hex (slice_index lower_digits d)) _ (digit-at d l)

@@ -1,5 +1,7 @@
 -- What is read as a field's value is that value's spelling.
-use Rattle.std.proofs.Common.{◌≡◌, ℕ, ◌-◌, ◌<◌, ◌≤◌, ◌^◌, ◌==◌, List, [], ◌∷◌, ◌++◌, length, take, drop, Bool, true, false, not, ◌&&◌, ◌||◌, refl, sym, ap, ◌∙◌, arith, Result, Ok, Err, Option, Some, None, get_or, codes, slice_index, if◌then◌else◌, subst, append-nil}
+use Rattle.std.proofs.Common.{◌≡◌, ℕ, ◌-◌, ◌<◌, ◌≤◌, ◌^◌, ◌==◌, List, [], ◌∷◌, ◌++◌, length, take, drop, Bool}
+use Rattle.std.proofs.Common.{true, false, not, ◌&&◌, ◌||◌, refl, sym, ap, ◌∙◌, arith, Result, Ok, Err, Option}
+use Rattle.std.proofs.Common.{Some, None, get_or, codes, slice_index, if◌then◌else◌, subst, append-nil}
 use Rattle.std.specs.Prelude.{nat_le, nat_lt, bytes_eq}
 use Rattle.std.proofs.lemmas.Grind.{common_steps}
 use Rattle.std.proofs.lemmas.Bool.{eqb-true, ltb-true}
@@ -19,7 +21,8 @@ use Rattle.schedule_text.specs.declared.line.KeysKind.{KeysKind}
 use Rattle.schedule_text.specs.declared.line.KeysKind.TheVariants.{Plain, W4H5, W4H10, W8H5, W8H10, Batch}
 use Rattle.schedule_text.specs.Words.{Word}
 use Rattle.schedule_text.specs.Complaints.{both, made, made2}
-use Rattle.schedule_text.specs.Fields.{number, number_in, in_range, is_digit, is_canonical, views, in_order, is_name, name, writer, decision, literal, keys_kind, behind, labelled, where_named}
+use Rattle.schedule_text.specs.Fields.{number, number_in, in_range, is_digit, is_canonical, views, in_order, is_name}
+use Rattle.schedule_text.specs.Fields.{name, writer, decision, literal, keys_kind, behind, labelled, where_named}
 use Rattle.schedule_text.specs.Parties.{party, replica_party, client_party, only_party, place, whole, if_ended}
 use Rattle.schedule_text.specs.Spelling.{keys_word, decision_word, writer_word, party_words}
 use Rattle.schedule_text.specs.Fitting.{IsName, IsWriter, IsPlace, IsClient, IsParty, IsU64}
@@ -45,12 +48,14 @@ canonical-one w h e = one-of (length w == 1) refl h
 pub number-takes : (w : Word) (n : ℕ) → number w ≡ Ok n → (decimal n ≡ w) × IsU64 n
 unfolding number
 number-takes w n h =
-    let inner : Result ℕ Complaint = if is_canonical w && nat_lt (digits_value 10 w) (2 ^ 64) then Ok (digits_value 10 w) else Err OutOfRange in
+    let inner : Result ℕ Complaint =
+    if is_canonical w && nat_lt (digits_value 10 w) (2 ^ 64) then Ok (digits_value 10 w) else Err OutOfRange in
     let p = if-ok (nat_lt 0 (length w) && list_all is_digit w) inner Misspelt n h in
     let q = if-ok (is_canonical w && nat_lt (digits_value 10 w) (2 ^ 64)) (Ok (digits_value 10 w)) OutOfRange n p.1 in
     let some : 0 < length w = ltb-true 0 (length w) (and-left (nat_lt 0 (length w)) (list_all is_digit w) p.0) in
     let digits : AreDigits w = and-right (nat_lt 0 (length w)) (list_all is_digit w) p.0 in
-    let small : digits_value 10 w < 2 ^ 64 = ltb-true (digits_value 10 w) (2 ^ 64) (and-right (is_canonical w) (nat_lt (digits_value 10 w) (2 ^ 64)) q.0) in
+    let small : digits_value 10 w < 2 ^ 64 =
+    ltb-true (digits_value 10 w) (2 ^ 64) (and-right (is_canonical w) (nat_lt (digits_value 10 w) (2 ^ 64)) q.0) in
     let canonical : is_canonical w ≡ true = and-left (is_canonical w) (nat_lt (digits_value 10 w) (2 ^ 64)) q.0 in
     let e : digits_value 10 w ≡ n = ok-is (digits_value 10 w) n q.1 in
     let same : decimal (digits_value 10 w) ≡ w = decimal-digits_value own w digits some (canonical-one w canonical) small in
@@ -65,7 +70,8 @@ in_range-takes least most (Ok m) n h =
     let g : m ≤ most = le-of m most (and-right (nat_le least m) (nat_le m most) p.0) in
     (p.1, omega arith, omega arith)
 
-pub number_in-takes : (least most : ℕ) (w : Word) (n : ℕ) → number_in least most w ≡ Ok n → (decimal n ≡ w) × (least ≤ n) × (n ≤ most) × IsU64 n
+pub number_in-takes : (least most : ℕ) (w : Word) (n : ℕ) →
+    number_in least most w ≡ Ok n → (decimal n ≡ w) × (least ≤ n) × (n ≤ most) × IsU64 n
 unfolding number_in
 number_in-takes least most w n h =
     let p = in_range-takes least most (number w) n h in
@@ -92,7 +98,8 @@ pub views-takes : (d c : Word) (t : ℕ × ℕ) → views d c ≡ Ok t → (deci
 unfolding views
 views-takes d c t h = ordered (both (number d) (number c)) refl h
   where
-    ordered : (r : Result (ℕ × ℕ) Complaint) → both (number d) (number c) ≡ r → in_order r ≡ Ok t → (decimal t.0 ≡ d) × (decimal t.1 ≡ c) × (t.0 ≤ t.1) × IsU64 t.1
+    ordered : (r : Result (ℕ × ℕ) Complaint) →
+        both (number d) (number c) ≡ r → in_order r ≡ Ok t → (decimal t.0 ≡ d) × (decimal t.1 ≡ c) × (t.0 ≤ t.1) × IsU64 t.1
     ordered (Err c') e h = cc h
     ordered (Ok v) e h =
         let p = if-ok (nat_le v.0 v.1) (Ok v) OutOfRange t h in
@@ -117,13 +124,15 @@ unfolding writer
 writer-takes w o h = dashed (bytes_eq w (codes "-")) refl h
   where
     dashed : (b : Bool) → bytes_eq w (codes "-") ≡ b → (if b then Ok None else made Some (name w)) ≡ Ok o → (writer_word o ≡ w) × IsWriter o
-    dashed true e h = let s : None ≡ o = ok-is None o h in subst (λ (z : Option (List ℕ)). (writer_word z ≡ w) × IsWriter z) s (sym (text-is w (codes "-") e), tt)
+    dashed true e h = let s : None ≡ o =
+        ok-is None o h in subst (λ (z : Option (List ℕ)). (writer_word z ≡ w) × IsWriter z) s (sym (text-is w (codes "-") e), tt)
     dashed false e h =
         let m = made-takes Some (name w) o h in
         let n = name-takes w m.0 m.1 in
         subst (λ (z : Option (List ℕ)). (writer_word z ≡ w) × IsWriter z) m.2 n
 
-if-word : {A : Type 0} (w text : Word) (a : A) (other : Result A Complaint) (v : A) (P : A → Type 0) → (w ≡ text → P a) → (other ≡ Ok v → P v) → (if bytes_eq w text then Ok a else other) ≡ Ok v → P v
+if-word : {A : Type 0} (w text : Word) (a : A) (other : Result A Complaint) (v : A) (P : A → Type 0) →
+    (w ≡ text → P a) → (other ≡ Ok v → P v) → (if bytes_eq w text then Ok a else other) ≡ Ok v → P v
 if-word {A} w text a other v P same next h = tested (bytes_eq w text) refl h
   where
     tested : (b : Bool) → bytes_eq w text ≡ b → (if b then Ok a else other) ≡ Ok v → P v
@@ -152,17 +161,25 @@ pub literal-takes : (text w : Word) (u : Unit {0}) → literal text w ≡ Ok u �
 unfolding literal
 literal-takes text w u h = let p = if-ok (bytes_eq w text) (Ok tt) Misspelt u h in text-is w text p.0
 
-pub labelled-takes : {A : Type 0} (label : Word) (field : Word → Result A Complaint) (w : Word) (v : A) → labelled label field w ≡ Ok v → (rest : Word) × (w ≡ label ++ rest) × (field rest ≡ Ok v)
+pub labelled-takes : {A : Type 0} (label : Word) (field : Word → Result A Complaint) (w : Word) (v : A) →
+    labelled label field w ≡ Ok v → (rest : Word) × (w ≡ label ++ rest) × (field rest ≡ Ok v)
 unfolding behind
 labelled-takes {A} label field w v h = tested (bytes_eq (take (length label) w) label) refl h
   where
-    tested : (b : Bool) → bytes_eq (take (length label) w) label ≡ b → where_named field (if b then Some (drop (length label) w) else None) ≡ Ok v → (rest : Word) × (w ≡ label ++ rest) × (field rest ≡ Ok v)
+    tested : (b : Bool) → bytes_eq (take (length label) w) label ≡ b → where_named field (if b then Some (drop (length label) w) else None)
+        ≡ Ok v → (rest : Word) × (w ≡ label ++ rest) × (field rest ≡ Ok v)
     tested false e h = cc h
-    tested true e h = (drop (length label) w, sym (take-append-drop (length label) w) ∙ ap (λ (z : Word). z ++ drop (length label) w) (text-is (take (length label) w) label e), h)
+    tested true e h = (
+      drop (length label) w,
+      sym (take-append-drop (length label) w)
+          ∙ ap (λ (z : Word). z ++ drop (length label) w) (text-is (take (length label) w) label e),
+      h,
+    )
 
 -- ---- parties
 
-pub party-takes : (ws : List Word) (r : Result Party Complaint) (rest : List Word) (p : Party) → party ws ≡ Some (r, rest) → r ≡ Ok p → (ws ≡ party_words p ++ rest) × IsParty p
+pub party-takes : (ws : List Word) (r : Result Party Complaint) (rest : List Word) (p : Party) →
+    party ws ≡ Some (r, rest) → r ≡ Ok p → (ws ≡ party_words p ++ rest) × IsParty p
 unfolding party
 party-takes [] r rest p h e = cc h
 party-takes (kind ∷ ws) r rest p h e = tested (bytes_eq kind (codes "replica")) refl (bytes_eq kind (codes "client")) refl h
@@ -175,7 +192,8 @@ party-takes (kind ∷ ws) r rest p h e = tested (bytes_eq kind (codes "replica")
     of_replica (s ∷ []) h = cc h
     of_replica (s ∷ i ∷ us) h =
         let q = some-is (made2 Replica (number_in 0 7 s) (number_in 0 30 i), us) (r, rest) h in
-        let m = made-takes (λ (t : ℕ × ℕ). Replica t.0 t.1) (both (number_in 0 7 s) (number_in 0 30 i)) p (ap (λ (z : Result Party Complaint × List Word). z.0) q ∙ e) in
+        let m = made-takes (λ (t : ℕ × ℕ). Replica t.0 t.1)
+        (both (number_in 0 7 s) (number_in 0 30 i)) p (ap (λ (z : Result Party Complaint × List Word). z.0) q ∙ e) in
         let t = place-takes s i m.0 m.1 in
         subst (P (codes "replica" ∷ s ∷ i ∷ us)) m.2
         ((λ j. codes "replica" ∷ sym t.0 j ∷ sym t.1 j ∷ (q j).1), t.2)

@@ -23,11 +23,17 @@ header_rest s c k j =
     ∷ (codes "delta=" ++ decimal s.delta) ∷ (codes "clock=" ++ decimal c) ∷ (codes "keys=" ++ keys_word k) ∷ journal_words j
 
 numbers-again : (s : Setting) → IsSetting s → IsU64 s.delta
-    → cluster_numbers (codes "f=" ++ decimal s.f) (codes "shards=" ++ decimal s.shards) (codes "reads=" ++ decimal s.reads) (codes "delta=" ++ decimal s.delta) ≡ Ok (record { f = s.f; shards = s.shards; reads = s.reads; delta = s.delta })
+    → cluster_numbers (codes "f=" ++ decimal s.f) (codes "shards=" ++ decimal s.shards) (codes "reads=" ++ decimal s.reads)
+    (codes "delta=" ++ decimal s.delta) ≡ Ok (record { f = s.f; shards = s.shards; reads = s.reads; delta = s.delta })
 unfolding cluster_numbers behind all4 all3
 numbers-again s h d =
     let a = h.faulty in let b = h.few in let c = h.correct in
-    rw (number-again s.f (omega arith), number-again s.shards (omega arith), number-again s.reads (omega arith), number-again s.delta d) refl
+    rw (
+      number-again s.f (omega arith),
+      number-again s.shards (omega arith),
+      number-again s.reads (omega arith),
+      number-again s.delta d,
+    ) refl
 
 clock-again : (c : ℕ) → IsU64 c → labelled (codes "clock=") number (codes "clock=" ++ decimal c) ≡ Ok c
 unfolding behind
@@ -40,15 +46,30 @@ keys-label k = keys-again k
 cluster-again : (s : Setting) → IsSetting s → cluster_of (record { f = s.f; shards = s.shards; reads = s.reads; delta = s.delta }) ≡ Ok s
 unfolding cluster_of
 cluster-again s h =
-    rw (le-yes s.f 6 h.faulty, le-yes 1 s.shards h.some, le-yes s.shards 8 h.few, le-yes (s.f + 1) s.reads h.enough, le-yes s.reads (4 * s.f + 1) h.correct) refl
+    rw (
+      le-yes s.f 6 h.faulty,
+      le-yes 1 s.shards h.some,
+      le-yes s.shards 8 h.few,
+      le-yes (s.f + 1) s.reads h.enough,
+      le-yes s.reads (4 * s.f + 1) h.correct,
+    ) refl
 
 fields-again : (s : Setting) (c : ℕ) (k : KeysKind) (j : Bool) → IsSetting s → IsU64 s.delta → IsU64 c
-    → header_fields j (codes "1", codes "f=" ++ decimal s.f, codes "shards=" ++ decimal s.shards, codes "reads=" ++ decimal s.reads, codes "delta=" ++ decimal s.delta, codes "clock=" ++ decimal c, codes "keys=" ++ keys_word k)
+    → header_fields j (
+      codes "1",
+      codes "f=" ++ decimal s.f,
+      codes "shards=" ++ decimal s.shards,
+      codes "reads=" ++ decimal s.reads,
+      codes "delta=" ++ decimal s.delta,
+      codes "clock=" ++ decimal c,
+      codes "keys=" ++ keys_word k,
+    )
     ≡ Ok (record { numbers = record { f = s.f; shards = s.shards; reads = s.reads; delta = s.delta }; clock = c; keys = k; journal = j })
 unfolding header_fields literal all4 all3
 fields-again s c k j h d u = rw (numbers-again s h d, clock-again c u, keys-label k) refl
 
-pub said-header : (s : Setting) (c : ℕ) (k : KeysKind) (j : Bool) → Fits (Header s c k j) → said (codes "basil" ∷ header_rest s c k j) ≡ Ok (Header s c k j)
+pub said-header : (s : Setting) (c : ℕ) (k : KeysKind) (j : Bool) →
+    Fits (Header s c k j) → said (codes "basil" ∷ header_rest s c k j) ≡ Ok (Header s c k j)
 unfolding said kind_of line_of header journal_fields literal eight_of seven_of six_of five_of four_of three_of two_of one_of
 said-header s c k true h = rw (fields-again s c k true h.0 h.1 h.2, cluster-again s h.0) refl
 said-header s c k false h = rw (fields-again s c k false h.0 h.1 h.2, cluster-again s h.0) refl
@@ -61,10 +82,25 @@ keys-clean W8H5 = refl
 keys-clean W8H10 = refl
 keys-clean Batch = refl
 
-pub clean-header : (s : Setting) (c : ℕ) (k : KeysKind) (j : Bool) → Fits (Header s c k j) → all_clean (codes "basil" ∷ header_rest s c k j) ≡ true
+pub clean-header : (s : Setting) (c : ℕ) (k : KeysKind) (j : Bool) →
+    Fits (Header s c k j) → all_clean (codes "basil" ∷ header_rest s c k j) ≡ true
 clean-header s c k true h =
     let a = h.0.faulty in let b = h.0.few in let r = h.0.correct in
-    rw (clean-decimal s.f (omega arith), clean-decimal s.shards (omega arith), clean-decimal s.reads (omega arith), clean-decimal s.delta h.1, clean-decimal c h.2, keys-clean k) refl
+    rw (
+      clean-decimal s.f (omega arith),
+      clean-decimal s.shards (omega arith),
+      clean-decimal s.reads (omega arith),
+      clean-decimal s.delta h.1,
+      clean-decimal c h.2,
+      keys-clean k,
+    ) refl
 clean-header s c k false h =
     let a = h.0.faulty in let b = h.0.few in let r = h.0.correct in
-    rw (clean-decimal s.f (omega arith), clean-decimal s.shards (omega arith), clean-decimal s.reads (omega arith), clean-decimal s.delta h.1, clean-decimal c h.2, keys-clean k) refl
+    rw (
+      clean-decimal s.f (omega arith),
+      clean-decimal s.shards (omega arith),
+      clean-decimal s.reads (omega arith),
+      clean-decimal s.delta h.1,
+      clean-decimal c h.2,
+      keys-clean k,
+    ) refl

@@ -1,5 +1,6 @@
 -- What is read as a header is its spelling.
-use Rattle.std.proofs.Common.{◌≡◌, ℕ, ◌+◌, ◌*◌, List, [], ◌∷◌, ◌++◌, Bool, true, false, ◌&&◌, refl, sym, ap, ◌∙◌, Result, Ok, Err, Option, Some, None, codes, subst}
+use Rattle.std.proofs.Common.{◌≡◌, ℕ, ◌+◌, ◌*◌, List, [], ◌∷◌, ◌++◌, Bool, true, false, ◌&&◌, refl}
+use Rattle.std.proofs.Common.{sym, ap, ◌∙◌, Result, Ok, Err, Option, Some, None, codes, subst}
 use Rattle.std.specs.Prelude.{nat_le, if◌then◌else◌}
 use Rattle.std.specs.Fmt.{decimal}
 use Rattle.basil_types.specs.Setting.{Setting, IsSetting}
@@ -14,7 +15,8 @@ use Rattle.schedule_text.specs.declared.kinds.header.HeaderFields.{HeaderFields}
 use Rattle.schedule_text.specs.Words.{Word, seven_of, eight_of}
 use Rattle.schedule_text.specs.Complaints.{both, all4}
 use Rattle.schedule_text.specs.Fields.{literal, number, keys_kind, labelled}
-use Rattle.schedule_text.specs.Headers.{header, header_fields, journal_fields, cluster_numbers, cluster_of, accepted, with_cluster, seven_fields, eight_fields}
+use Rattle.schedule_text.specs.Headers.{header, header_fields, journal_fields, cluster_numbers}
+use Rattle.schedule_text.specs.Headers.{cluster_of, accepted, with_cluster, seven_fields, eight_fields}
 use Rattle.schedule_text.specs.Spelling.{line_words, keys_word, journal_words}
 use Rattle.schedule_text.specs.Fitting.{IsU64}
 use Rattle.schedule_text.proofs.WordLaws.{and-left, and-right}
@@ -35,7 +37,8 @@ label-keys label w k h =
 
 abbrev Numbers : Word → Word → Word → Word → ClusterNumbers → Type 0
 Numbers f s r d n =
-    (codes "f=" ++ decimal n.f ≡ f) × (codes "shards=" ++ decimal n.shards ≡ s) × (codes "reads=" ++ decimal n.reads ≡ r) × (codes "delta=" ++ decimal n.delta ≡ d) × IsU64 n.delta
+    (codes "f=" ++ decimal n.f ≡ f) × (codes "shards=" ++ decimal n.shards ≡ s) ×
+    (codes "reads=" ++ decimal n.reads ≡ r) × (codes "delta=" ++ decimal n.delta ≡ d) × IsU64 n.delta
 
 numbers-take : (f s r d : Word) (n : ClusterNumbers) → cluster_numbers f s r d ≡ Ok n → Numbers f s r d n
 unfolding cluster_numbers
@@ -57,8 +60,15 @@ abbrev Seven : Type 0
 Seven = Word × Word × Word × Word × Word × Word × Word
 
 abbrev seven_words : HeaderFields → Seven
-seven_words h =
-    (codes "1", codes "f=" ++ decimal h.numbers.f, codes "shards=" ++ decimal h.numbers.shards, codes "reads=" ++ decimal h.numbers.reads, codes "delta=" ++ decimal h.numbers.delta, codes "clock=" ++ decimal h.clock, codes "keys=" ++ keys_word h.keys)
+seven_words h = (
+  codes "1",
+  codes "f=" ++ decimal h.numbers.f,
+  codes "shards=" ++ decimal h.numbers.shards,
+  codes "reads=" ++ decimal h.numbers.reads,
+  codes "delta=" ++ decimal h.numbers.delta,
+  codes "clock=" ++ decimal h.clock,
+  codes "keys=" ++ keys_word h.keys,
+)
 
 abbrev Told : Bool → Seven → HeaderFields → Type 0
 Told j t h = (seven_words h ≡ t) × (h.journal ≡ j) × IsU64 h.numbers.delta × IsU64 h.clock
@@ -66,7 +76,8 @@ Told j t h = (seven_words h ≡ t) × (h.journal ≡ j) × IsU64 h.numbers.delta
 fields-told : (j : Bool) (t : Seven) (h : HeaderFields) → header_fields j t ≡ Ok h → Told j t h
 unfolding header_fields
 fields-told j t h e =
-    let F : (Unit {0}) × ClusterNumbers × ℕ × KeysKind → HeaderFields = λ u. record { numbers = u.1; clock = u.2; keys = u.3; journal = j } in
+    let F : (Unit {0}) × ClusterNumbers × ℕ × KeysKind → HeaderFields =
+    λ u. record { numbers = u.1; clock = u.2; keys = u.3; journal = j } in
     let A = literal (codes "1") t.0 in
     let B = cluster_numbers t.1 t.2 t.3 t.4 in
     let C = labelled (codes "clock=") number t.5 in
@@ -79,9 +90,11 @@ fields-told j t h e =
     let k = label-keys (codes "keys=") t.6 m.0.3 q.3 in
     subst (Told j t) m.2 ((λ i. (sym a i, b.0 i, b.1 i, b.2 i, b.3 i, c.0 i, k i)), refl, b.4, c.1)
 
-cluster-takes : (n : ClusterNumbers) (s : Setting) → cluster_of n ≡ Ok s → (s ≡ record { f = n.f; shards = n.shards; reads = n.reads; delta = n.delta }) × IsSetting s
+cluster-takes : (n : ClusterNumbers) (s : Setting) →
+    cluster_of n ≡ Ok s → (s ≡ record { f = n.f; shards = n.shards; reads = n.reads; delta = n.delta }) × IsSetting s
 unfolding cluster_of
-cluster-takes n s h = tested (nat_le n.f 6) refl (nat_le 1 n.shards && nat_le n.shards 8) refl (nat_le (n.f + 1) n.reads && nat_le n.reads (4 * n.f + 1)) refl h
+cluster-takes n s h = tested (nat_le n.f 6) refl
+    (nat_le 1 n.shards && nat_le n.shards 8) refl (nat_le (n.f + 1) n.reads && nat_le n.reads (4 * n.f + 1)) refl h
   where
     S : Setting
     S = record { f = n.f; shards = n.shards; reads = n.reads; delta = n.delta }
@@ -89,7 +102,8 @@ cluster-takes n s h = tested (nat_le n.f 6) refl (nat_le 1 n.shards && nat_le n.
     fault : Bool → Bool → Bool → Option ClusterFault
     fault a b c = if a then (if b then (if c then None else Some ReadsOutOfRange) else Some ShardsOutOfRange) else Some FOutOfRange
 
-    tested : (a : Bool) → nat_le n.f 6 ≡ a → (b : Bool) → (nat_le 1 n.shards && nat_le n.shards 8) ≡ b → (c : Bool) → (nat_le (n.f + 1) n.reads && nat_le n.reads (4 * n.f + 1)) ≡ c
+    tested : (a : Bool) → nat_le n.f 6 ≡ a → (b : Bool) →
+        (nat_le 1 n.shards && nat_le n.shards 8) ≡ b → (c : Bool) → (nat_le (n.f + 1) n.reads && nat_le n.reads (4 * n.f + 1)) ≡ c
         → accepted (fault a b c) S ≡ Ok s → (s ≡ S) × IsSetting s
     tested false i b j c k h = cc h
     tested true i false j c k h = cc h
@@ -110,8 +124,10 @@ cluster-takes n s h = tested (nat_le n.f 6) refl (nat_le 1 n.shards && nat_le n.
 -- the words of a header are its seven, and `journal` or nothing
 abbrev Header_of : List Word → HeaderFields → Type 0
 Header_of ws h =
-    (codes "1" ∷ (codes "f=" ++ decimal h.numbers.f) ∷ (codes "shards=" ++ decimal h.numbers.shards) ∷ (codes "reads=" ++ decimal h.numbers.reads)
-    ∷ (codes "delta=" ++ decimal h.numbers.delta) ∷ (codes "clock=" ++ decimal h.clock) ∷ (codes "keys=" ++ keys_word h.keys) ∷ journal_words h.journal ≡ ws)
+    (codes "1" ∷ (codes "f=" ++ decimal h.numbers.f)
+    ∷ (codes "shards=" ++ decimal h.numbers.shards) ∷ (codes "reads=" ++ decimal h.numbers.reads)
+    ∷ (codes "delta=" ++ decimal h.numbers.delta)
+    ∷ (codes "clock=" ++ decimal h.clock) ∷ (codes "keys=" ++ keys_word h.keys) ∷ journal_words h.journal ≡ ws)
     × IsU64 h.numbers.delta × IsU64 h.clock
 
 without_journal : (ws : List Word) (t : Seven) (h : HeaderFields) → seven_of ws ≡ Some t → header_fields false t ≡ Ok h → Header_of ws h
@@ -120,7 +136,8 @@ without_journal ws t h s e =
     let p = f.0 in
     ((λ i. (p i).0 ∷ (p i).1 ∷ (p i).2 ∷ (p i).3 ∷ (p i).4 ∷ (p i).5 ∷ (p i).6 ∷ journal_words (f.1 i)) ∙ sym (seven-take ws t s), f.2, f.3)
 
-with_journal : (ws : List Word) (t : Word × Word × Word × Word × Word × Word × Word × Word) (h : HeaderFields) → eight_of ws ≡ Some t → journal_fields t ≡ Ok h → Header_of ws h
+with_journal : (ws : List Word) (t : Word × Word × Word × Word × Word × Word × Word × Word) (h : HeaderFields) →
+    eight_of ws ≡ Some t → journal_fields t ≡ Ok h → Header_of ws h
 unfolding journal_fields
 with_journal ws t h s e =
     let A = literal (codes "journal") t.7 in
@@ -140,7 +157,8 @@ with_journal ws t h s e =
 fields-are : (ws : List Word) (h : HeaderFields) → seven_fields (eight_fields (eight_of ws)) (seven_of ws) ≡ Ok h → Header_of ws h
 fields-are ws h e = tested (seven_of ws) refl (eight_of ws) refl e
   where
-    tested : (a : Option (Word × Word × Word × Word × Word × Word × Word)) → seven_of ws ≡ a → (b : Option (Word × Word × Word × Word × Word × Word × Word × Word)) → eight_of ws ≡ b
+    tested : (a : Option (Word × Word × Word × Word × Word × Word × Word)) →
+        seven_of ws ≡ a → (b : Option (Word × Word × Word × Word × Word × Word × Word × Word)) → eight_of ws ≡ b
         → seven_fields (eight_fields b) a ≡ Ok h → Header_of ws h
     tested (Some t) i b j e = without_journal ws t h i e
     tested None i (Some t) j e = with_journal ws t h j e
@@ -150,7 +168,8 @@ pub header-takes : (ws : List Word) (v : Line) → header ws ≡ Ok v → Stands
 unfolding header line_words
 header-takes ws v h = read (seven_fields (eight_fields (eight_of ws)) (seven_of ws)) refl h
   where
-    read : (r : Result HeaderFields Complaint) → seven_fields (eight_fields (eight_of ws)) (seven_of ws) ≡ r → with_cluster r ≡ Ok v → Stands (codes "basil" ∷ ws) v
+    read : (r : Result HeaderFields Complaint) →
+        seven_fields (eight_fields (eight_of ws)) (seven_of ws) ≡ r → with_cluster r ≡ Ok v → Stands (codes "basil" ∷ ws) v
     read (Err c) e h = cc h
     read (Ok f) e h =
         let m = made-takes (λ (s : Setting). Header s f.clock f.keys f.journal) (cluster_of f.numbers) v h in

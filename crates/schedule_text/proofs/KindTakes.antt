@@ -6,16 +6,21 @@ use Rattle.basil_types.specs.declared.party.Party.{Party}
 use Rattle.basil_types.specs.declared.party.Decision.{Decision}
 use Rattle.schedule_text.specs.declared.complaint.Complaint.{Complaint}
 use Rattle.schedule_text.specs.declared.line.Line.{Line}
-use Rattle.schedule_text.specs.declared.line.Line.TheVariants.{Faulty, Begin, Read, Write, Delete, Claim, Prepare, Settle, Recover, Invoke, Round, Deliver, Lose, Divert, Clock, Vote, Second, Logged, Elect, Decide, Raw, Show, Stop}
+use Rattle.schedule_text.specs.declared.line.Line.TheVariants.{Faulty, Begin, Read, Write, Delete, Claim, Prepare}
+use Rattle.schedule_text.specs.declared.line.Line.TheVariants.{Settle, Recover, Invoke, Round, Deliver, Lose, Divert}
+use Rattle.schedule_text.specs.declared.line.Line.TheVariants.{Clock, Vote, Second, Logged, Elect, Decide, Raw, Show, Stop}
 use Rattle.schedule_text.specs.Words.{Word, one_of, two_of, three_of, five_of, six_of, seven_of}
 use Rattle.schedule_text.specs.Complaints.{both, made, made2, made3, made4, made5, all3, all4, all5}
 use Rattle.schedule_text.specs.Fields.{name, key, value, writer, client, replica, number, decision, views, view, frame, hex, write}
 use Rattle.schedule_text.specs.Parties.{party, only_party, place}
-use Rattle.schedule_text.specs.Lines.{fields, begin, read, write_of, delete, claim, prepare, call, settle, recover, invoke, round, deliver, lose, divert, faulty, clock, vote, second, logged, elect, decide, raw, show, stop}
+use Rattle.schedule_text.specs.Lines.{fields, begin, read, write_of, delete, claim, prepare, call, settle, recover, invoke, round}
+use Rattle.schedule_text.specs.Lines.{deliver, lose, divert, faulty, clock, vote, second, logged, elect, decide, raw, show, stop}
 use Rattle.schedule_text.specs.Spelling.{line_words, party_words}
 use Rattle.schedule_text.specs.Fitting.{Fits, IsName, IsClient}
-use Rattle.schedule_text.proofs.ResultTakes.{ok-is, made-takes, both-takes, all3-takes, all4-takes, all5-takes, fields-take, one-takes, two-takes, three-take, five-take, six-take, seven-take}
-use Rattle.schedule_text.proofs.FieldTakes.{number-takes, number_in-takes, client-takes, replica-takes, place-takes, view-takes, views-takes, name-takes, writer-takes, decision-takes, party-takes, only_party-takes}
+use Rattle.schedule_text.proofs.ResultTakes.{ok-is, made-takes, both-takes, all3-takes, all4-takes, all5-takes}
+use Rattle.schedule_text.proofs.ResultTakes.{fields-take, one-takes, two-takes, three-take, five-take, six-take, seven-take}
+use Rattle.schedule_text.proofs.FieldTakes.{number-takes, number_in-takes, client-takes, replica-takes, place-takes, view-takes}
+use Rattle.schedule_text.proofs.FieldTakes.{views-takes, name-takes, writer-takes, decision-takes, party-takes, only_party-takes}
 use Rattle.schedule_text.proofs.EscapeTakes.{text-takes, value-takes, hex-takes, frame-takes}
 
 -- the words of a value, and its ranges
@@ -39,7 +44,11 @@ begin-takes ws v h =
     let t0 = name-takes p.0.0 m.0.0 q.0 in
     let t1 = client-takes p.0.1 m.0.1 q.1 in
     let t2 = number-takes p.0.2 m.0.2 q.2 in
-    along (codes "begin" ∷ ws) (Begin m.0.0 m.0.1 m.0.2) v m.2 (worded (codes "begin") (Begin m.0.0 m.0.1 m.0.2) (p.0.0 ∷ p.0.1 ∷ p.0.2 ∷ []) ws (λ i. codes "begin" ∷ (t0.0) i ∷ (t1.0) i ∷ (t2.0) i ∷ []) ws-are, (t0.1, t1.1, t2.1))
+    along (codes "begin" ∷ ws) (Begin m.0.0 m.0.1 m.0.2) v m.2 (
+      worded (codes "begin") (Begin m.0.0 m.0.1 m.0.2)
+          (p.0.0 ∷ p.0.1 ∷ p.0.2 ∷ []) ws (λ i. codes "begin" ∷ (t0.0) i ∷ (t1.0) i ∷ (t2.0) i ∷ []) ws-are,
+      (t0.1, t1.1, t2.1),
+    )
 
 pub read-takes : (ws : List Word) (v : Line) → read ws ≡ Ok v → Stands (codes "read" ∷ ws) v
 unfolding read line_words
@@ -50,7 +59,11 @@ read-takes ws v h =
     let q = both-takes (name p.0.0) (key p.0.1) m.0 m.1 in
     let t0 = name-takes p.0.0 m.0.0 q.0 in
     let t1 = text-takes 64 p.0.1 m.0.1 q.1 in
-    along (codes "read" ∷ ws) (Read m.0.0 m.0.1) v m.2 (worded (codes "read") (Read m.0.0 m.0.1) (p.0.0 ∷ p.0.1 ∷ []) ws (λ i. codes "read" ∷ (t0.0) i ∷ (t1.0) i ∷ []) ws-are, (t0.1, t1.1))
+    along (codes "read" ∷ ws) (Read m.0.0 m.0.1) v m.2 (
+      worded (codes "read")
+          (Read m.0.0 m.0.1) (p.0.0 ∷ p.0.1 ∷ []) ws (λ i. codes "read" ∷ (t0.0) i ∷ (t1.0) i ∷ []) ws-are,
+      (t0.1, t1.1),
+    )
 
 pub write_of-takes : (ws : List Word) (v : Line) → write_of ws ≡ Ok v → Stands (codes "write" ∷ ws) v
 unfolding write_of line_words
@@ -62,7 +75,11 @@ write_of-takes ws v h =
     let t0 = name-takes p.0.0 m.0.0 q.0 in
     let t1 = text-takes 64 p.0.1 m.0.1 q.1 in
     let t2 = value-takes p.0.2 m.0.2 q.2 in
-    along (codes "write" ∷ ws) (Write m.0.0 m.0.1 m.0.2) v m.2 (worded (codes "write") (Write m.0.0 m.0.1 m.0.2) (p.0.0 ∷ p.0.1 ∷ p.0.2 ∷ []) ws (λ i. codes "write" ∷ (t0.0) i ∷ (t1.0) i ∷ (t2.0) i ∷ []) ws-are, (t0.1, t1.1, t2.1))
+    along (codes "write" ∷ ws) (Write m.0.0 m.0.1 m.0.2) v m.2 (
+      worded (codes "write") (Write m.0.0 m.0.1 m.0.2)
+          (p.0.0 ∷ p.0.1 ∷ p.0.2 ∷ []) ws (λ i. codes "write" ∷ (t0.0) i ∷ (t1.0) i ∷ (t2.0) i ∷ []) ws-are,
+      (t0.1, t1.1, t2.1),
+    )
 
 pub delete-takes : (ws : List Word) (v : Line) → delete ws ≡ Ok v → Stands (codes "delete" ∷ ws) v
 unfolding delete line_words
@@ -73,19 +90,28 @@ delete-takes ws v h =
     let q = both-takes (name p.0.0) (key p.0.1) m.0 m.1 in
     let t0 = name-takes p.0.0 m.0.0 q.0 in
     let t1 = text-takes 64 p.0.1 m.0.1 q.1 in
-    along (codes "delete" ∷ ws) (Delete m.0.0 m.0.1) v m.2 (worded (codes "delete") (Delete m.0.0 m.0.1) (p.0.0 ∷ p.0.1 ∷ []) ws (λ i. codes "delete" ∷ (t0.0) i ∷ (t1.0) i ∷ []) ws-are, (t0.1, t1.1))
+    along (codes "delete" ∷ ws) (Delete m.0.0 m.0.1) v m.2 (
+      worded (codes "delete")
+          (Delete m.0.0 m.0.1) (p.0.0 ∷ p.0.1 ∷ []) ws (λ i. codes "delete" ∷ (t0.0) i ∷ (t1.0) i ∷ []) ws-are,
+      (t0.1, t1.1),
+    )
 
 pub claim-takes : (ws : List Word) (v : Line) → claim ws ≡ Ok v → Stands (codes "claim" ∷ ws) v
 unfolding claim line_words
 claim-takes ws v h =
     let p = fields-take (three_of ws) (λ (t : Word × Word × Word). made3 Claim (name t.0) (key t.1) (writer t.2)) v h in
     let ws-are = three-take ws p.0 p.1 in
-    let m = made-takes (λ (t : List ℕ × List ℕ × Option (List ℕ)). Claim t.0 t.1 t.2) (all3 (name p.0.0) (key p.0.1) (writer p.0.2)) v p.2 in
+    let m =
+    made-takes (λ (t : List ℕ × List ℕ × Option (List ℕ)). Claim t.0 t.1 t.2) (all3 (name p.0.0) (key p.0.1) (writer p.0.2)) v p.2 in
     let q = all3-takes (name p.0.0) (key p.0.1) (writer p.0.2) m.0 m.1 in
     let t0 = name-takes p.0.0 m.0.0 q.0 in
     let t1 = text-takes 64 p.0.1 m.0.1 q.1 in
     let t2 = writer-takes p.0.2 m.0.2 q.2 in
-    along (codes "claim" ∷ ws) (Claim m.0.0 m.0.1 m.0.2) v m.2 (worded (codes "claim") (Claim m.0.0 m.0.1 m.0.2) (p.0.0 ∷ p.0.1 ∷ p.0.2 ∷ []) ws (λ i. codes "claim" ∷ (t0.0) i ∷ (t1.0) i ∷ (t2.0) i ∷ []) ws-are, (t0.1, t1.1, t2.1))
+    along (codes "claim" ∷ ws) (Claim m.0.0 m.0.1 m.0.2) v m.2 (
+      worded (codes "claim") (Claim m.0.0 m.0.1 m.0.2)
+          (p.0.0 ∷ p.0.1 ∷ p.0.2 ∷ []) ws (λ i. codes "claim" ∷ (t0.0) i ∷ (t1.0) i ∷ (t2.0) i ∷ []) ws-are,
+      (t0.1, t1.1, t2.1),
+    )
 
 pub prepare-takes : (ws : List Word) (v : Line) → prepare ws ≡ Ok v → Stands (codes "prepare" ∷ ws) v
 unfolding prepare line_words
@@ -94,7 +120,8 @@ prepare-takes ws v h =
     let ws-are = one-takes ws p.0 p.1 in
     let m = made-takes (λ (t : List ℕ). Prepare t) (name p.0) v p.2 in
     let t0 = name-takes p.0 m.0 m.1 in
-    along (codes "prepare" ∷ ws) (Prepare m.0) v m.2 (worded (codes "prepare") (Prepare m.0) (p.0 ∷ []) ws (λ i. codes "prepare" ∷ (t0.0) i ∷ []) ws-are, t0.1)
+    along (codes "prepare" ∷ ws) (Prepare m.0) v m.2
+    (worded (codes "prepare") (Prepare m.0) (p.0 ∷ []) ws (λ i. codes "prepare" ∷ (t0.0) i ∷ []) ws-are, t0.1)
 
 pub deliver-takes : (ws : List Word) (v : Line) → deliver ws ≡ Ok v → Stands (codes "deliver" ∷ ws) v
 unfolding deliver line_words
@@ -103,7 +130,8 @@ deliver-takes ws v h =
     let ws-are = one-takes ws p.0 p.1 in
     let m = made-takes (λ (t : ℕ). Deliver t) (number p.0) v p.2 in
     let t0 = number-takes p.0 m.0 m.1 in
-    along (codes "deliver" ∷ ws) (Deliver m.0) v m.2 (worded (codes "deliver") (Deliver m.0) (p.0 ∷ []) ws (λ i. codes "deliver" ∷ (t0.0) i ∷ []) ws-are, t0.1)
+    along (codes "deliver" ∷ ws) (Deliver m.0) v m.2
+    (worded (codes "deliver") (Deliver m.0) (p.0 ∷ []) ws (λ i. codes "deliver" ∷ (t0.0) i ∷ []) ws-are, t0.1)
 
 pub lose-takes : (ws : List Word) (v : Line) → lose ws ≡ Ok v → Stands (codes "lose" ∷ ws) v
 unfolding lose line_words
@@ -112,7 +140,8 @@ lose-takes ws v h =
     let ws-are = one-takes ws p.0 p.1 in
     let m = made-takes (λ (t : ℕ). Lose t) (number p.0) v p.2 in
     let t0 = number-takes p.0 m.0 m.1 in
-    along (codes "lose" ∷ ws) (Lose m.0) v m.2 (worded (codes "lose") (Lose m.0) (p.0 ∷ []) ws (λ i. codes "lose" ∷ (t0.0) i ∷ []) ws-are, t0.1)
+    along (codes "lose" ∷ ws) (Lose m.0) v m.2
+    (worded (codes "lose") (Lose m.0) (p.0 ∷ []) ws (λ i. codes "lose" ∷ (t0.0) i ∷ []) ws-are, t0.1)
 
 pub clock-takes : (ws : List Word) (v : Line) → clock ws ≡ Ok v → Stands (codes "clock" ∷ ws) v
 unfolding clock line_words
@@ -123,20 +152,30 @@ clock-takes ws v h =
     let q = both-takes (place p.0.0 p.0.1) (number p.0.2) m.0 m.1 in
     let t0 = place-takes p.0.0 p.0.1 m.0.0 q.0 in
     let t1 = number-takes p.0.2 m.0.1 q.1 in
-    along (codes "clock" ∷ ws) (Clock m.0.0.0 m.0.0.1 m.0.1) v m.2 (worded (codes "clock") (Clock m.0.0.0 m.0.0.1 m.0.1) (p.0.0 ∷ p.0.1 ∷ p.0.2 ∷ []) ws (λ i. codes "clock" ∷ (t0.0) i ∷ (t0.1) i ∷ (t1.0) i ∷ []) ws-are, (t0.2, t1.1))
+    along (codes "clock" ∷ ws) (Clock m.0.0.0 m.0.0.1 m.0.1) v m.2 (
+      worded (codes "clock") (Clock m.0.0.0 m.0.0.1 m.0.1)
+          (p.0.0 ∷ p.0.1 ∷ p.0.2 ∷ []) ws (λ i. codes "clock" ∷ (t0.0) i ∷ (t0.1) i ∷ (t1.0) i ∷ []) ws-are,
+      (t0.2, t1.1),
+    )
 
 pub vote-takes : (ws : List Word) (v : Line) → vote ws ≡ Ok v → Stands (codes "vote" ∷ ws) v
 unfolding vote line_words
 vote-takes ws v h =
-    let p = fields-take (five_of ws) (λ (t : Word × Word × Word × Word × Word). made4 (λ x y z a. Vote x.0 x.1 y z a) (place t.0 t.1) (name t.2) (decision t.3) (client t.4)) v h in
+    let p = fields-take (five_of ws) (λ (t : Word × Word × Word × Word × Word).
+    made4 (λ x y z a. Vote x.0 x.1 y z a) (place t.0 t.1) (name t.2) (decision t.3) (client t.4)) v h in
     let ws-are = five-take ws p.0 p.1 in
-    let m = made-takes (λ (t : (ℕ × ℕ) × List ℕ × Decision × ℕ). Vote t.0.0 t.0.1 t.1 t.2 t.3) (all4 (place p.0.0 p.0.1) (name p.0.2) (decision p.0.3) (client p.0.4)) v p.2 in
+    let m = made-takes (λ (t : (ℕ × ℕ) × List ℕ × Decision × ℕ). Vote t.0.0 t.0.1 t.1 t.2 t.3)
+    (all4 (place p.0.0 p.0.1) (name p.0.2) (decision p.0.3) (client p.0.4)) v p.2 in
     let q = all4-takes (place p.0.0 p.0.1) (name p.0.2) (decision p.0.3) (client p.0.4) m.0 m.1 in
     let t0 = place-takes p.0.0 p.0.1 m.0.0 q.0 in
     let t1 = name-takes p.0.2 m.0.1 q.1 in
     let t2 = decision-takes p.0.3 m.0.2 q.2 in
     let t3 = client-takes p.0.4 m.0.3 q.3 in
-    along (codes "vote" ∷ ws) (Vote m.0.0.0 m.0.0.1 m.0.1 m.0.2 m.0.3) v m.2 (worded (codes "vote") (Vote m.0.0.0 m.0.0.1 m.0.1 m.0.2 m.0.3) (p.0.0 ∷ p.0.1 ∷ p.0.2 ∷ p.0.3 ∷ p.0.4 ∷ []) ws (λ i. codes "vote" ∷ (t0.0) i ∷ (t0.1) i ∷ (t1.0) i ∷ (t2) i ∷ (t3.0) i ∷ []) ws-are, (t0.2, t1.1, t3.1))
+    along (codes "vote" ∷ ws) (Vote m.0.0.0 m.0.0.1 m.0.1 m.0.2 m.0.3) v m.2 (
+      worded (codes "vote") (Vote m.0.0.0 m.0.0.1 m.0.1 m.0.2 m.0.3) (p.0.0 ∷ p.0.1 ∷ p.0.2 ∷ p.0.3 ∷ p.0.4 ∷ []) ws
+          (λ i. codes "vote" ∷ (t0.0) i ∷ (t0.1) i ∷ (t1.0) i ∷ (t2) i ∷ (t3.0) i ∷ []) ws-are,
+      (t0.2, t1.1, t3.1),
+    )
 
 pub second-takes : (ws : List Word) (v : Line) → second ws ≡ Ok v → Stands (codes "second" ∷ ws) v
 unfolding second line_words
@@ -148,48 +187,71 @@ second-takes ws v h =
     let t0 = name-takes p.0.0 m.0.0 q.0 in
     let t1 = decision-takes p.0.1 m.0.1 q.1 in
     let t2 = replica-takes p.0.2 m.0.2 q.2 in
-    along (codes "second" ∷ ws) (Second m.0.0 m.0.1 m.0.2) v m.2 (worded (codes "second") (Second m.0.0 m.0.1 m.0.2) (p.0.0 ∷ p.0.1 ∷ p.0.2 ∷ []) ws (λ i. codes "second" ∷ (t0.0) i ∷ (t1) i ∷ (t2.0) i ∷ []) ws-are, (t0.1, t2.1))
+    along (codes "second" ∷ ws) (Second m.0.0 m.0.1 m.0.2) v m.2 (
+      worded (codes "second") (Second m.0.0 m.0.1 m.0.2)
+          (p.0.0 ∷ p.0.1 ∷ p.0.2 ∷ []) ws (λ i. codes "second" ∷ (t0.0) i ∷ (t1) i ∷ (t2.0) i ∷ []) ws-are,
+      (t0.1, t2.1),
+    )
 
 pub logged-takes : (ws : List Word) (v : Line) → logged ws ≡ Ok v → Stands (codes "logged" ∷ ws) v
 unfolding logged line_words
 logged-takes ws v h =
-    let p = fields-take (seven_of ws) (λ (t : Word × Word × Word × Word × Word × Word × Word). made5 (λ x y z a b. Logged x.0 x.1 y z a.0 a.1 b) (place t.0 t.1) (name t.2) (decision t.3) (views t.4 t.5) (client t.6)) v h in
+    let p = fields-take (seven_of ws) (λ (t : Word × Word × Word × Word × Word × Word × Word).
+    made5 (λ x y z a b. Logged x.0 x.1 y z a.0 a.1 b) (place t.0 t.1) (name t.2) (decision t.3) (views t.4 t.5) (client t.6)) v h in
     let ws-are = seven-take ws p.0 p.1 in
-    let m = made-takes (λ (t : (ℕ × ℕ) × List ℕ × Decision × (ℕ × ℕ) × ℕ). Logged t.0.0 t.0.1 t.1 t.2 t.3.0 t.3.1 t.4) (all5 (place p.0.0 p.0.1) (name p.0.2) (decision p.0.3) (views p.0.4 p.0.5) (client p.0.6)) v p.2 in
+    let m = made-takes (λ (t : (ℕ × ℕ) × List ℕ × Decision × (ℕ × ℕ) × ℕ). Logged t.0.0 t.0.1 t.1 t.2 t.3.0 t.3.1 t.4)
+    (all5 (place p.0.0 p.0.1) (name p.0.2) (decision p.0.3) (views p.0.4 p.0.5) (client p.0.6)) v p.2 in
     let q = all5-takes (place p.0.0 p.0.1) (name p.0.2) (decision p.0.3) (views p.0.4 p.0.5) (client p.0.6) m.0 m.1 in
     let t0 = place-takes p.0.0 p.0.1 m.0.0 q.0 in
     let t1 = name-takes p.0.2 m.0.1 q.1 in
     let t2 = decision-takes p.0.3 m.0.2 q.2 in
     let t3 = views-takes p.0.4 p.0.5 m.0.3 q.3 in
     let t4 = client-takes p.0.6 m.0.4 q.4 in
-    along (codes "logged" ∷ ws) (Logged m.0.0.0 m.0.0.1 m.0.1 m.0.2 m.0.3.0 m.0.3.1 m.0.4) v m.2 (worded (codes "logged") (Logged m.0.0.0 m.0.0.1 m.0.1 m.0.2 m.0.3.0 m.0.3.1 m.0.4) (p.0.0 ∷ p.0.1 ∷ p.0.2 ∷ p.0.3 ∷ p.0.4 ∷ p.0.5 ∷ p.0.6 ∷ []) ws (λ i. codes "logged" ∷ (t0.0) i ∷ (t0.1) i ∷ (t1.0) i ∷ (t2) i ∷ (t3.0) i ∷ (t3.1) i ∷ (t4.0) i ∷ []) ws-are, (t0.2, t1.1, t3.2, t3.3, t4.1))
+    along (codes "logged" ∷ ws) (Logged m.0.0.0 m.0.0.1 m.0.1 m.0.2 m.0.3.0 m.0.3.1 m.0.4) v m.2 (
+      worded (codes "logged") (Logged m.0.0.0
+          m.0.0.1 m.0.1 m.0.2 m.0.3.0 m.0.3.1 m.0.4) (p.0.0 ∷ p.0.1 ∷ p.0.2 ∷ p.0.3 ∷ p.0.4 ∷ p.0.5 ∷ p.0.6 ∷ []) ws (λ i. codes "logged"
+          ∷ (t0.0) i ∷ (t0.1) i ∷ (t1.0) i ∷ (t2) i ∷ (t3.0) i ∷ (t3.1) i ∷ (t4.0) i ∷ []) ws-are,
+      (t0.2, t1.1, t3.2, t3.3, t4.1),
+    )
 
 pub elect-takes : (ws : List Word) (v : Line) → elect ws ≡ Ok v → Stands (codes "elect" ∷ ws) v
 unfolding elect line_words
 elect-takes ws v h =
-    let p = fields-take (five_of ws) (λ (t : Word × Word × Word × Word × Word). made4 (λ x y z a. Elect x.0 x.1 y z a) (place t.0 t.1) (name t.2) (decision t.3) (view t.4)) v h in
+    let p = fields-take (five_of ws) (λ (t : Word × Word × Word × Word × Word).
+    made4 (λ x y z a. Elect x.0 x.1 y z a) (place t.0 t.1) (name t.2) (decision t.3) (view t.4)) v h in
     let ws-are = five-take ws p.0 p.1 in
-    let m = made-takes (λ (t : (ℕ × ℕ) × List ℕ × Decision × ℕ). Elect t.0.0 t.0.1 t.1 t.2 t.3) (all4 (place p.0.0 p.0.1) (name p.0.2) (decision p.0.3) (view p.0.4)) v p.2 in
+    let m = made-takes (λ (t : (ℕ × ℕ) × List ℕ × Decision × ℕ). Elect t.0.0 t.0.1 t.1 t.2 t.3)
+    (all4 (place p.0.0 p.0.1) (name p.0.2) (decision p.0.3) (view p.0.4)) v p.2 in
     let q = all4-takes (place p.0.0 p.0.1) (name p.0.2) (decision p.0.3) (view p.0.4) m.0 m.1 in
     let t0 = place-takes p.0.0 p.0.1 m.0.0 q.0 in
     let t1 = name-takes p.0.2 m.0.1 q.1 in
     let t2 = decision-takes p.0.3 m.0.2 q.2 in
     let t3 = view-takes p.0.4 m.0.3 q.3 in
-    along (codes "elect" ∷ ws) (Elect m.0.0.0 m.0.0.1 m.0.1 m.0.2 m.0.3) v m.2 (worded (codes "elect") (Elect m.0.0.0 m.0.0.1 m.0.1 m.0.2 m.0.3) (p.0.0 ∷ p.0.1 ∷ p.0.2 ∷ p.0.3 ∷ p.0.4 ∷ []) ws (λ i. codes "elect" ∷ (t0.0) i ∷ (t0.1) i ∷ (t1.0) i ∷ (t2) i ∷ (t3.0) i ∷ []) ws-are, (t0.2, t1.1, t3.1, t3.2))
+    along (codes "elect" ∷ ws) (Elect m.0.0.0 m.0.0.1 m.0.1 m.0.2 m.0.3) v m.2 (
+      worded (codes "elect") (Elect m.0.0.0 m.0.0.1 m.0.1 m.0.2 m.0.3) (p.0.0 ∷ p.0.1 ∷ p.0.2 ∷ p.0.3 ∷ p.0.4 ∷ []) ws
+          (λ i. codes "elect" ∷ (t0.0) i ∷ (t0.1) i ∷ (t1.0) i ∷ (t2) i ∷ (t3.0) i ∷ []) ws-are,
+      (t0.2, t1.1, t3.1, t3.2),
+    )
 
 pub decide-takes : (ws : List Word) (v : Line) → decide ws ≡ Ok v → Stands (codes "decide" ∷ ws) v
 unfolding decide line_words
 decide-takes ws v h =
-    let p = fields-take (six_of ws) (λ (t : Word × Word × Word × Word × Word × Word). made5 (λ x y z a b. Decide x.0 x.1 y z a b) (place t.0 t.1) (name t.2) (decision t.3) (view t.4) (replica t.5)) v h in
+    let p = fields-take (six_of ws) (λ (t : Word × Word × Word × Word × Word × Word).
+    made5 (λ x y z a b. Decide x.0 x.1 y z a b) (place t.0 t.1) (name t.2) (decision t.3) (view t.4) (replica t.5)) v h in
     let ws-are = six-take ws p.0 p.1 in
-    let m = made-takes (λ (t : (ℕ × ℕ) × List ℕ × Decision × ℕ × ℕ). Decide t.0.0 t.0.1 t.1 t.2 t.3 t.4) (all5 (place p.0.0 p.0.1) (name p.0.2) (decision p.0.3) (view p.0.4) (replica p.0.5)) v p.2 in
+    let m = made-takes (λ (t : (ℕ × ℕ) × List ℕ × Decision × ℕ × ℕ). Decide t.0.0 t.0.1 t.1 t.2 t.3 t.4)
+    (all5 (place p.0.0 p.0.1) (name p.0.2) (decision p.0.3) (view p.0.4) (replica p.0.5)) v p.2 in
     let q = all5-takes (place p.0.0 p.0.1) (name p.0.2) (decision p.0.3) (view p.0.4) (replica p.0.5) m.0 m.1 in
     let t0 = place-takes p.0.0 p.0.1 m.0.0 q.0 in
     let t1 = name-takes p.0.2 m.0.1 q.1 in
     let t2 = decision-takes p.0.3 m.0.2 q.2 in
     let t3 = view-takes p.0.4 m.0.3 q.3 in
     let t4 = replica-takes p.0.5 m.0.4 q.4 in
-    along (codes "decide" ∷ ws) (Decide m.0.0.0 m.0.0.1 m.0.1 m.0.2 m.0.3 m.0.4) v m.2 (worded (codes "decide") (Decide m.0.0.0 m.0.0.1 m.0.1 m.0.2 m.0.3 m.0.4) (p.0.0 ∷ p.0.1 ∷ p.0.2 ∷ p.0.3 ∷ p.0.4 ∷ p.0.5 ∷ []) ws (λ i. codes "decide" ∷ (t0.0) i ∷ (t0.1) i ∷ (t1.0) i ∷ (t2) i ∷ (t3.0) i ∷ (t4.0) i ∷ []) ws-are, (t0.2, t1.1, t3.1, t3.2, t4.1))
+    along (codes "decide" ∷ ws) (Decide m.0.0.0 m.0.0.1 m.0.1 m.0.2 m.0.3 m.0.4) v m.2 (
+      worded (codes "decide") (Decide m.0.0.0 m.0.0.1 m.0.1 m.0.2 m.0.3 m.0.4) (p.0.0 ∷ p.0.1 ∷ p.0.2 ∷ p.0.3 ∷ p.0.4 ∷ p.0.5 ∷ []) ws
+          (λ i. codes "decide" ∷ (t0.0) i ∷ (t0.1) i ∷ (t1.0) i ∷ (t2) i ∷ (t3.0) i ∷ (t4.0) i ∷ []) ws-are,
+      (t0.2, t1.1, t3.1, t3.2, t4.1),
+    )
 
 pub show-takes : (ws : List Word) (v : Line) → show ws ≡ Ok v → Stands (codes "show" ∷ ws) v
 unfolding show line_words
@@ -198,20 +260,27 @@ show-takes ws v h =
     let ws-are = one-takes ws p.0 p.1 in
     let m = made-takes (λ (t : List ℕ). Show t) (frame p.0) v p.2 in
     let t0 = frame-takes p.0 m.0 m.1 in
-    along (codes "show" ∷ ws) (Show m.0) v m.2 (worded (codes "show") (Show m.0) (p.0 ∷ []) ws (λ i. codes "show" ∷ (t0.0) i ∷ []) ws-are, t0.1)
+    along (codes "show" ∷ ws) (Show m.0) v m.2
+    (worded (codes "show") (Show m.0) (p.0 ∷ []) ws (λ i. codes "show" ∷ (t0.0) i ∷ []) ws-are, t0.1)
 
 pub stop-takes : (ws : List Word) (v : Line) → stop ws ≡ Ok v → Stands (codes "stop" ∷ ws) v
 unfolding stop line_words
 stop-takes ws v h =
-    let p = fields-take (five_of ws) (λ (t : Word × Word × Word × Word × Word). made4 (λ x y z a. Stop x.0 x.1 y z a) (place t.0 t.1) (number t.2) (write t.3) (hex t.4)) v h in
+    let p = fields-take (five_of ws) (λ (t : Word × Word × Word × Word × Word).
+    made4 (λ x y z a. Stop x.0 x.1 y z a) (place t.0 t.1) (number t.2) (write t.3) (hex t.4)) v h in
     let ws-are = five-take ws p.0 p.1 in
-    let m = made-takes (λ (t : (ℕ × ℕ) × ℕ × ℕ × List ℕ). Stop t.0.0 t.0.1 t.1 t.2 t.3) (all4 (place p.0.0 p.0.1) (number p.0.2) (write p.0.3) (hex p.0.4)) v p.2 in
+    let m = made-takes (λ (t : (ℕ × ℕ) × ℕ × ℕ × List ℕ). Stop t.0.0 t.0.1 t.1 t.2 t.3)
+    (all4 (place p.0.0 p.0.1) (number p.0.2) (write p.0.3) (hex p.0.4)) v p.2 in
     let q = all4-takes (place p.0.0 p.0.1) (number p.0.2) (write p.0.3) (hex p.0.4) m.0 m.1 in
     let t0 = place-takes p.0.0 p.0.1 m.0.0 q.0 in
     let t1 = number-takes p.0.2 m.0.1 q.1 in
     let t2 = number_in-takes 1 2 p.0.3 m.0.2 q.2 in
     let t3 = hex-takes p.0.4 m.0.3 q.3 in
-    along (codes "stop" ∷ ws) (Stop m.0.0.0 m.0.0.1 m.0.1 m.0.2 m.0.3) v m.2 (worded (codes "stop") (Stop m.0.0.0 m.0.0.1 m.0.1 m.0.2 m.0.3) (p.0.0 ∷ p.0.1 ∷ p.0.2 ∷ p.0.3 ∷ p.0.4 ∷ []) ws (λ i. codes "stop" ∷ (t0.0) i ∷ (t0.1) i ∷ (t1.0) i ∷ (t2.0) i ∷ (t3.0) i ∷ []) ws-are, (t0.2, t1.1, t2.1, t2.2, t3.1, t3.2))
+    along (codes "stop" ∷ ws) (Stop m.0.0.0 m.0.0.1 m.0.1 m.0.2 m.0.3) v m.2 (
+      worded (codes "stop") (Stop m.0.0.0 m.0.0.1 m.0.1 m.0.2 m.0.3) (p.0.0 ∷ p.0.1 ∷ p.0.2 ∷ p.0.3 ∷ p.0.4 ∷ []) ws
+          (λ i. codes "stop" ∷ (t0.0) i ∷ (t0.1) i ∷ (t1.0) i ∷ (t2.0) i ∷ (t3.0) i ∷ []) ws-are,
+      (t0.2, t1.1, t2.1, t2.2, t3.1, t3.2),
+    )
 
 call-takes : (ws : List Word) (t : List ℕ × ℕ) → call ws ≡ Ok t → (t.0 ∷ decimal t.1 ∷ [] ≡ ws) × IsName t.0 × IsClient t.1
 unfolding call
@@ -270,7 +339,8 @@ pub raw-takes : (ws : List Word) (v : Line) → raw ws ≡ Ok v → Stands (code
 unfolding raw line_words
 raw-takes ws v h =
     let P : Type 0 = Result Party Complaint × List Word in
-    let p = fields-take (party ws) (λ (from : P). fields (party from.1) (λ (to : P). fields (one_of to.1) (λ (t : Word). made3 Raw from.0 to.0 (frame t)))) v h in
+    let p = fields-take (party ws)
+    (λ (from : P). fields (party from.1) (λ (to : P). fields (one_of to.1) (λ (t : Word). made3 Raw from.0 to.0 (frame t)))) v h in
     let q = fields-take (party p.0.1) (λ (to : P). fields (one_of to.1) (λ (t : Word). made3 Raw p.0.0 to.0 (frame t))) v p.2 in
     let o = fields-take (one_of q.0.1) (λ (t : Word). made3 Raw p.0.0 q.0.0 (frame t)) v q.2 in
     let m = made-takes (λ (t : Party × Party × List ℕ). Raw t.0 t.1 t.2) (all3 p.0.0 q.0.0 (frame o.0)) v o.2 in
@@ -281,5 +351,8 @@ raw-takes ws v h =
     let last : q.0.1 ≡ encode_lower m.0.2 ∷ [] = one-takes q.0.1 o.0 o.1 ∙ ap (λ (z : Word). z ∷ []) (sym f.0) in
     let all : ws ≡ party_words m.0.0 ++ (party_words m.0.1 ++ encode_lower m.0.2 ∷ []) =
     from.0 ∙ ap (λ (z : List Word). party_words m.0.0 ++ z) (to.0 ∙ ap (λ (z : List Word). party_words m.0.1 ++ z) last) in
-    along (codes "raw" ∷ ws) (Raw m.0.0 m.0.1 m.0.2) v m.2
-    (ap (λ (z : List Word). codes "raw" ∷ z) (append_assoc (party_words m.0.0) (party_words m.0.1) (encode_lower m.0.2 ∷ []) ∙ sym all), (from.1, to.1, f.1))
+    along (codes "raw" ∷ ws) (Raw m.0.0 m.0.1 m.0.2) v m.2 (
+      ap (λ (z : List Word). codes "raw" ∷ z)
+          (append_assoc (party_words m.0.0) (party_words m.0.1) (encode_lower m.0.2 ∷ []) ∙ sym all),
+      (from.1, to.1, f.1),
+    )

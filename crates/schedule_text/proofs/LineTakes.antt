@@ -1,5 +1,6 @@
 -- What is read as a line's value is that value's spelling.
-use Rattle.std.proofs.Common.{◌≡◌, ◌≤◌, inl, inr, arith, ℕ, ◌==◌, List, [], ◌∷◌, Bool, true, false, refl, sym, ap, ◌∙◌, Result, Ok, Err, Option, Some, None, codes, length, subst, if◌then◌else◌}
+use Rattle.std.proofs.Common.{◌≡◌, ◌≤◌, inl, inr, arith, ℕ, ◌==◌, List, [], ◌∷◌, Bool, true, false, refl, sym}
+use Rattle.std.proofs.Common.{ap, ◌∙◌, Result, Ok, Err, Option, Some, None, codes, length, subst, if◌then◌else◌}
 use Rattle.std.specs.Prelude.{bytes_eq, nat_le, nat_lt, ◌≢◌}
 use Rattle.std.proofs.lemmas.Grind.{common_steps}
 use Rattle.std.specs.List.{join_with_byte}
@@ -25,7 +26,10 @@ use Rattle.schedule_text.proofs.ResultTakes.{ok-is, some-is}
 use Rattle.schedule_text.proofs.FieldTakes.{text-is, le-of}
 use Rattle.schedule_text.proofs.FieldLaws.{le-yes}
 use Rattle.schedule_text.proofs.LineLaws.{value-again, below-limit}
-use Rattle.schedule_text.proofs.KindTakes.{Stands, faulty-takes, begin-takes, read-takes, write_of-takes, delete-takes, claim-takes, prepare-takes, settle-takes, recover-takes, invoke-takes, round-takes, deliver-takes, lose-takes, divert-takes, clock-takes, vote-takes, second-takes, logged-takes, elect-takes, decide-takes, raw-takes, show-takes, stop-takes}
+use Rattle.schedule_text.proofs.KindTakes.{Stands, faulty-takes, begin-takes, read-takes, write_of-takes, delete-takes}
+use Rattle.schedule_text.proofs.KindTakes.{claim-takes, prepare-takes, settle-takes, recover-takes, invoke-takes, round-takes}
+use Rattle.schedule_text.proofs.KindTakes.{deliver-takes, lose-takes, divert-takes, clock-takes, vote-takes, second-takes}
+use Rattle.schedule_text.proofs.KindTakes.{logged-takes, elect-takes, decide-takes, raw-takes, show-takes, stop-takes}
 use Rattle.schedule_text.proofs.HeaderTakes.{header-takes}
 
 abbrev kind_word : Kind → Word
@@ -54,7 +58,8 @@ kind_word kind.Raw = codes "raw"
 kind_word kind.Show = codes "show"
 kind_word kind.Stop = codes "stop"
 
-if-kind : (w word : Word) (k' : Kind) (other : Option Kind) (k : Kind) → word ≡ kind_word k' → (other ≡ Some k → w ≡ kind_word k) → (if bytes_eq w word then Some k' else other) ≡ Some k → w ≡ kind_word k
+if-kind : (w word : Word) (k' : Kind) (other : Option Kind) (k : Kind) →
+    word ≡ kind_word k' → (other ≡ Some k → w ≡ kind_word k) → (if bytes_eq w word then Some k' else other) ≡ Some k → w ≡ kind_word k
 if-kind w word k' other k e next h = tested (bytes_eq w word) refl h
   where
     tested : (b : Bool) → bytes_eq w word ≡ b → (if b then Some k' else other) ≡ Some k → w ≡ kind_word k

@@ -35,10 +35,12 @@ not-true false h = refl
 no-space : (w : List ℕ) → clean w ≡ true → All (λ b. eqb b 32 ≡ false) w
 no-space w h = λ k d l. not-true (eqb (get_or w k d) 32) (AllPass-from_list_all is_other w h k d l)
 
-pub words-again : (first : List ℕ) (rest : List (List ℕ)) → all_clean (first ∷ rest) ≡ true → words (join_with_byte 32 (first ∷ rest)) ≡ first ∷ rest
+pub words-again : (first : List ℕ) (rest : List (List ℕ)) →
+    all_clean (first ∷ rest) ≡ true → words (join_with_byte 32 (first ∷ rest)) ≡ first ∷ rest
 words-again first [] h = slice_split_none (λ b. eqb b 32) first (no-space first (and-left (clean first) true h))
 words-again first (w ∷ rest) h =
-    slice_split_at (λ b. eqb b 32) first 32 (join_with_byte 32 (w ∷ rest)) (no-space first (and-left (clean first) (all_clean (w ∷ rest)) h)) refl
+    slice_split_at (λ b. eqb b 32) first 32
+    (join_with_byte 32 (w ∷ rest)) (no-space first (and-left (clean first) (all_clean (w ∷ rest)) h)) refl
     ∙ ap (λ t. first ∷ t) (words-again w rest (and-right (clean first) (all_clean (w ∷ rest)) h))
 
 -- a test that follows from another

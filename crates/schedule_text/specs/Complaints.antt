@@ -43,24 +43,30 @@ made f (Ok a) = Ok (f a)
 made f (Err c) = Err c
 
 -- the same of more values
-unfoldable pub all3 : {A B C : Type 0} → Result A Complaint → Result B Complaint → Result C Complaint → Result (A × B × C) Complaint
+unfoldable pub all3 : {A B C : Type 0} →
+    Result A Complaint → Result B Complaint → Result C Complaint → Result (A × B × C) Complaint
 all3 a b c = made (λ t. (t.0, t.1.0, t.1.1)) (both a (both b c))
 
-unfoldable pub all4 : {A B C D : Type 0} → Result A Complaint → Result B Complaint → Result C Complaint → Result D Complaint → Result (A × B × C × D) Complaint
+unfoldable pub all4 : {A B C D : Type 0} →
+    Result A Complaint → Result B Complaint → Result C Complaint → Result D Complaint → Result (A × B × C × D) Complaint
 all4 a b c d = made (λ t. (t.0, t.1.0, t.1.1, t.1.2)) (both a (all3 b c d))
 
-unfoldable pub all5 : {A B C D E : Type 0} → Result A Complaint → Result B Complaint → Result C Complaint → Result D Complaint → Result E Complaint → Result (A × B × C × D × E) Complaint
+unfoldable pub all5 : {A B C D E : Type 0} → Result A Complaint → Result B Complaint →
+    Result C Complaint → Result D Complaint → Result E Complaint → Result (A × B × C × D × E) Complaint
 all5 a b c d e = made (λ t. (t.0, t.1.0, t.1.1, t.1.2, t.1.3)) (both a (all4 b c d e))
 
 -- what is made of several fields, where each is read
 abbrev pub made2 : {A B Z : Type 0} → (A → B → Z) → Result A Complaint → Result B Complaint → Result Z Complaint
 made2 f a b = made (λ t. f t.0 t.1) (both a b)
 
-abbrev pub made3 : {A B C Z : Type 0} → (A → B → C → Z) → Result A Complaint → Result B Complaint → Result C Complaint → Result Z Complaint
+abbrev pub made3 : {A B C Z : Type 0} → (A → B → C → Z) →
+    Result A Complaint → Result B Complaint → Result C Complaint → Result Z Complaint
 made3 f a b c = made (λ t. f t.0 t.1 t.2) (all3 a b c)
 
-abbrev pub made4 : {A B C D Z : Type 0} → (A → B → C → D → Z) → Result A Complaint → Result B Complaint → Result C Complaint → Result D Complaint → Result Z Complaint
+abbrev pub made4 : {A B C D Z : Type 0} → (A → B → C → D → Z) →
+    Result A Complaint → Result B Complaint → Result C Complaint → Result D Complaint → Result Z Complaint
 made4 f a b c d = made (λ t. f t.0 t.1 t.2 t.3) (all4 a b c d)
 
-abbrev pub made5 : {A B C D E Z : Type 0} → (A → B → C → D → E → Z) → Result A Complaint → Result B Complaint → Result C Complaint → Result D Complaint → Result E Complaint → Result Z Complaint
+abbrev pub made5 : {A B C D E Z : Type 0} → (A → B → C → D → E → Z) → Result A Complaint →
+    Result B Complaint → Result C Complaint → Result D Complaint → Result E Complaint → Result Z Complaint
 made5 f a b c d e = made (λ t. f t.0 t.1 t.2 t.3 t.4) (all5 a b c d e)

@@ -6,7 +6,10 @@ use Rattle.basil_types.specs.Setting.{IsSetting}
 use Rattle.basil_types.specs.declared.party.Party.{Party}
 use Rattle.basil_types.specs.declared.party.Party.TheVariants.{Replica, Client}
 use Rattle.schedule_text.specs.declared.line.Line.{Line}
-use Rattle.schedule_text.specs.declared.line.Line.TheVariants.{Header, Skipped, Faulty, Begin, Read, Write, Delete, Claim, Prepare, Settle, Recover, Invoke, Round, Deliver, Lose, Divert, Clock, Vote, Second, Logged, Elect, Decide, Raw, Show, Stop}
+use Rattle.schedule_text.specs.declared.line.Line.TheVariants.{Header, Skipped, Faulty, Begin, Read, Write}
+use Rattle.schedule_text.specs.declared.line.Line.TheVariants.{Delete, Claim, Prepare, Settle, Recover, Invoke}
+use Rattle.schedule_text.specs.declared.line.Line.TheVariants.{Round, Deliver, Lose, Divert, Clock, Vote}
+use Rattle.schedule_text.specs.declared.line.Line.TheVariants.{Second, Logged, Elect, Decide, Raw, Show, Stop}
 use Rattle.schedule_text.specs.Fields.{is_name}
 use Rattle.schedule_text.specs.Limits.{longest_line, most_lines}
 use Rattle.schedule_text.specs.Reading.{is_skipped, line_at}
@@ -60,7 +63,8 @@ Fits (Second name decision replica) = IsName name × (replica ≤ 30)
 Fits (Logged shard replica name decision decided current client) =
     IsPlace shard replica × IsName name × (decided ≤ current) × IsU64 current × IsClient client
 Fits (Elect shard replica name decision view) = IsPlace shard replica × IsName name × (1 ≤ view) × IsU64 view
-Fits (Decide shard replica name decision view to) = IsPlace shard replica × IsName name × (1 ≤ view) × IsU64 view × (to ≤ 30)
+Fits (Decide shard replica name decision view to) =
+    IsPlace shard replica × IsName name × (1 ≤ view) × IsU64 view × (to ≤ 30)
 Fits (Raw from to frame) = IsParty from × IsParty to × HasBytes 1 frame_limit frame
 Fits (Show frame) = HasBytes 1 frame_limit frame
 Fits (Stop shard replica message write bytes) =

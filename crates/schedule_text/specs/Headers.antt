@@ -16,7 +16,8 @@ use Rattle.schedule_text.specs.Fields.{labelled, literal, number, keys_kind}
 unfoldable pub cluster_numbers : Word → Word → Word → Word → Result ClusterNumbers Complaint
 cluster_numbers f shards reads delta =
     made4 (λ a b c d. record { f = a; shards = b; reads = c; delta = d }) (labelled (codes "f=") number f)
-    (labelled (codes "shards=") number shards) (labelled (codes "reads=") number reads) (labelled (codes "delta=") number delta)
+    (labelled (codes "shards=") number shards) (labelled (codes "reads=") number reads)
+    (labelled (codes "delta=") number delta)
 
 unfoldable pub header_fields : Bool → Word × Word × Word × Word × Word × Word × Word → Result HeaderFields Complaint
 header_fields journal t =
@@ -25,13 +26,15 @@ header_fields journal t =
 
 -- the eighth word is `journal`
 unfoldable pub journal_fields : Word × Word × Word × Word × Word × Word × Word × Word → Result HeaderFields Complaint
-journal_fields t = made2 (λ last h. h) (literal (codes "journal") t.7) (header_fields true (t.0, t.1, t.2, t.3, t.4, t.5, t.6))
+journal_fields t =
+    made2 (λ last h. h) (literal (codes "journal") t.7) (header_fields true (t.0, t.1, t.2, t.3, t.4, t.5, t.6))
 
 abbrev pub eight_fields : Option (Word × Word × Word × Word × Word × Word × Word × Word) → Result HeaderFields Complaint
 eight_fields None = Err Misspelt
 eight_fields (Some t) = journal_fields t
 
-abbrev pub seven_fields : Result HeaderFields Complaint → Option (Word × Word × Word × Word × Word × Word × Word) → Result HeaderFields Complaint
+abbrev pub seven_fields : Result HeaderFields Complaint →
+    Option (Word × Word × Word × Word × Word × Word × Word) → Result HeaderFields Complaint
 seven_fields other None = other
 seven_fields other (Some t) = header_fields false t
 
@@ -42,7 +45,8 @@ accepted (Some fault) setting = Err Refused
 -- the cluster of these numbers, where it isn't refused
 unfoldable pub cluster_of : ClusterNumbers → Result Setting Complaint
 cluster_of n =
-    accepted (cluster_fault n.f n.shards n.reads) (record { f = n.f; shards = n.shards; reads = n.reads; delta = n.delta })
+    accepted (cluster_fault n.f n.shards n.reads)
+    (record { f = n.f; shards = n.shards; reads = n.reads; delta = n.delta })
 
 abbrev pub with_cluster : Result HeaderFields Complaint → Result Line Complaint
 with_cluster (Ok h) = made (λ cluster. Header cluster h.clock h.keys h.journal) (cluster_of h.numbers)

@@ -1,7 +1,10 @@
 -- The kinds of lines, by their first words.
 use Rattle.std.specs.Prelude.{codes, bytes_eq, if◌then◌else◌, Option, Some, None}
 use Rattle.schedule_text.specs.declared.kinds.Kind.{Kind}
-use Rattle.schedule_text.specs.declared.kinds.Kind.TheVariants.{Basil, Faulty, Begin, Read, Write, Delete, Claim, Prepare, Settle, Recover, Invoke, Round, Deliver, Lose, Divert, Clock, Vote, Second, Logged, Elect, Decide, Raw, Show, Stop}
+use Rattle.schedule_text.specs.declared.kinds.Kind.TheVariants.{Basil, Faulty, Begin, Read, Write, Delete}
+use Rattle.schedule_text.specs.declared.kinds.Kind.TheVariants.{Claim, Prepare, Settle, Recover, Invoke}
+use Rattle.schedule_text.specs.declared.kinds.Kind.TheVariants.{Round, Deliver, Lose, Divert, Clock, Vote}
+use Rattle.schedule_text.specs.declared.kinds.Kind.TheVariants.{Second, Logged, Elect, Decide, Raw, Show, Stop}
 use Rattle.schedule_text.specs.Words.{Word}
 
 -- the kind that a first word names, of those that speak of messages or of faulty replicas

@@ -1,14 +1,18 @@
 -- What the words behind a line's first one say, kind by kind.
 use Rattle.std.specs.Prelude.{ℕ, List, [], ◌∷◌, Option, Some, None, Result, Ok, Err}
 use Rattle.schedule_text.specs.declared.line.Line.{Line}
-use Rattle.schedule_text.specs.declared.line.Line.TheVariants.{Faulty, Begin, Read, Write, Delete, Claim, Prepare, Settle, Recover, Invoke, Round, Deliver, Lose, Divert, Clock, Vote, Second, Logged, Elect, Decide, Raw, Show, Stop}
+use Rattle.schedule_text.specs.declared.line.Line.TheVariants.{Faulty, Begin, Read, Write, Delete, Claim}
+use Rattle.schedule_text.specs.declared.line.Line.TheVariants.{Prepare, Settle, Recover, Invoke, Round}
+use Rattle.schedule_text.specs.declared.line.Line.TheVariants.{Deliver, Lose, Divert, Clock, Vote, Second}
+use Rattle.schedule_text.specs.declared.line.Line.TheVariants.{Logged, Elect, Decide, Raw, Show, Stop}
 use Rattle.schedule_text.specs.declared.kinds.Kind.{Kind}
 use Rattle.schedule_text.specs.declared.kinds.Kind.TheVariants as kind
 use Rattle.schedule_text.specs.declared.complaint.Complaint.{Complaint}
 use Rattle.schedule_text.specs.declared.complaint.Complaint.TheVariants.{Misspelt}
 use Rattle.schedule_text.specs.Words.{Word, one_of, two_of, three_of, five_of, six_of, seven_of}
 use Rattle.schedule_text.specs.Complaints.{both, made, made2, made3, made4, made5}
-use Rattle.schedule_text.specs.Fields.{name, key, value, writer, client, replica, number, decision, views, view, frame, hex, write}
+use Rattle.schedule_text.specs.Fields.{name, key, value, writer, client, replica}
+use Rattle.schedule_text.specs.Fields.{number, decision, views, view, frame, hex, write}
 use Rattle.schedule_text.specs.Parties.{party, only_party, place}
 use Rattle.schedule_text.specs.Headers.{header}
 
@@ -86,7 +90,8 @@ clock words = fields (three_of words) (λ t. made2 (λ at moment. Clock at.0 at.
 -- `vote S R NAME D C`
 unfoldable pub vote : List Word → Result Line Complaint
 vote words =
-    fields (five_of words) (λ t. made4 (λ at n d c. Vote at.0 at.1 n d c) (place t.0 t.1) (name t.2) (decision t.3) (client t.4))
+    fields (five_of words)
+    (λ t. made4 (λ at n d c. Vote at.0 at.1 n d c) (place t.0 t.1) (name t.2) (decision t.3) (client t.4))
 
 -- `second NAME D R`
 unfoldable pub second : List Word → Result Line Complaint
@@ -95,22 +100,28 @@ second words = fields (three_of words) (λ t. made3 Second (name t.0) (decision 
 -- `logged S R NAME D DECIDED CURRENT C`
 unfoldable pub logged : List Word → Result Line Complaint
 logged words =
-    fields (seven_of words) (λ t. made5 (λ at n d v c. Logged at.0 at.1 n d v.0 v.1 c) (place t.0 t.1) (name t.2) (decision t.3) (views t.4 t.5) (client t.6))
+    fields (seven_of words)
+    (λ t. made5 (λ at n d v c. Logged at.0 at.1 n d v.0 v.1 c)
+    (place t.0 t.1) (name t.2) (decision t.3) (views t.4 t.5) (client t.6))
 
 -- `elect S R NAME D VIEW`
 unfoldable pub elect : List Word → Result Line Complaint
 elect words =
-    fields (five_of words) (λ t. made4 (λ at n d v. Elect at.0 at.1 n d v) (place t.0 t.1) (name t.2) (decision t.3) (view t.4))
+    fields (five_of words)
+    (λ t. made4 (λ at n d v. Elect at.0 at.1 n d v) (place t.0 t.1) (name t.2) (decision t.3) (view t.4))
 
 -- `decide S R NAME D VIEW Q`
 unfoldable pub decide : List Word → Result Line Complaint
 decide words =
-    fields (six_of words) (λ t. made5 (λ at n d v q. Decide at.0 at.1 n d v q) (place t.0 t.1) (name t.2) (decision t.3) (view t.4) (replica t.5))
+    fields (six_of words)
+    (λ t. made5 (λ at n d v q. Decide at.0 at.1 n d v q)
+    (place t.0 t.1) (name t.2) (decision t.3) (view t.4) (replica t.5))
 
 -- `raw PARTY PARTY HEX`
 unfoldable pub raw : List Word → Result Line Complaint
 raw words =
-    fields (party words) (λ from. fields (party from.1) (λ to. fields (one_of to.1) (λ t. made3 Raw from.0 to.0 (frame t))))
+    fields (party words)
+    (λ from. fields (party from.1) (λ to. fields (one_of to.1) (λ t. made3 Raw from.0 to.0 (frame t))))
 
 -- `show HEX`
 unfoldable pub show : List Word → Result Line Complaint
@@ -119,7 +130,8 @@ show words = fields (one_of words) (λ t. made Show (frame t))
 -- `stop S R I W HEX`
 unfoldable pub stop : List Word → Result Line Complaint
 stop words =
-    fields (five_of words) (λ t. made4 (λ at i w b. Stop at.0 at.1 i w b) (place t.0 t.1) (number t.2) (write t.3) (hex t.4))
+    fields (five_of words)
+    (λ t. made4 (λ at i w b. Stop at.0 at.1 i w b) (place t.0 t.1) (number t.2) (write t.3) (hex t.4))
 
 -- what the words behind the first one say
 unfoldable pub line_of : Kind → List Word → Result Line Complaint

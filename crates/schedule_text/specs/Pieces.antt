@@ -3,9 +3,12 @@ use Rattle.std.specs.Prelude.{ℕ, List, [], ◌∷◌, ◌++◌, codes, decimal
 use Rattle.std.specs.List.{flat_map}
 use Rattle.hex.specs.Hex.{encode_lower}
 use Rattle.schedule_text.specs.declared.writing.pieces.Piece.{Piece}
-use Rattle.schedule_text.specs.declared.writing.pieces.Piece.TheVariants.{Text, Name, Writer, Number, Small, Labelled, Keys, Journal, Named, Decided, Key, Value, Hex}
+use Rattle.schedule_text.specs.declared.writing.pieces.Piece.TheVariants.{Text, Name, Writer, Number}
+use Rattle.schedule_text.specs.declared.writing.pieces.Piece.TheVariants.{Small, Labelled, Keys, Journal}
+use Rattle.schedule_text.specs.declared.writing.pieces.Piece.TheVariants.{Named, Decided, Key, Value, Hex}
 use Rattle.schedule_text.specs.Words.{Word}
-use Rattle.schedule_text.specs.Spelling.{keys_word, decision_word, key_word, value_word, writer_word, party_words, journal_words}
+use Rattle.schedule_text.specs.Spelling.{keys_word, decision_word, key_word, value_word}
+use Rattle.schedule_text.specs.Spelling.{writer_word, party_words, journal_words}
 
 abbrev pub piece_words : Piece → List Word
 piece_words (Text text) = text.now ∷ []

@@ -1,5 +1,6 @@
 -- The one spelling of a line.
-use Rattle.std.specs.Prelude.{ℕ, ◌/◌, ◌%◌, ◌==◌, length, List, [], ◌∷◌, ◌++◌, codes, decimal, slice_index, Bool, true, false, if◌then◌else◌, Option, Some, None}
+use Rattle.std.specs.Prelude.{ℕ, ◌/◌, ◌%◌, ◌==◌, length, List, [], ◌∷◌, ◌++◌, codes, decimal}
+use Rattle.std.specs.Prelude.{slice_index, Bool, true, false, if◌then◌else◌, Option, Some, None}
 use Rattle.std.specs.List.{flat_map, join_with_byte}
 use Rattle.hex.specs.Hex.{lower_digits, encode_lower}
 use Rattle.basil_types.specs.declared.party.Party.{Party}
@@ -9,7 +10,10 @@ use Rattle.basil_types.specs.declared.party.Decision.TheVariants.{Commit, Abort}
 use Rattle.schedule_text.specs.declared.line.KeysKind.{KeysKind}
 use Rattle.schedule_text.specs.declared.line.KeysKind.TheVariants.{Plain, W4H5, W4H10, W8H5, W8H10, Batch}
 use Rattle.schedule_text.specs.declared.line.Line.{Line}
-use Rattle.schedule_text.specs.declared.line.Line.TheVariants.{Header, Skipped, Faulty, Begin, Read, Write, Delete, Claim, Prepare, Settle, Recover, Invoke, Round, Deliver, Lose, Divert, Clock, Vote, Second, Logged, Elect, Decide, Raw, Show, Stop}
+use Rattle.schedule_text.specs.declared.line.Line.TheVariants.{Header, Skipped, Faulty, Begin, Read, Write}
+use Rattle.schedule_text.specs.declared.line.Line.TheVariants.{Delete, Claim, Prepare, Settle, Recover, Invoke}
+use Rattle.schedule_text.specs.declared.line.Line.TheVariants.{Round, Deliver, Lose, Divert, Clock, Vote}
+use Rattle.schedule_text.specs.declared.line.Line.TheVariants.{Second, Logged, Elect, Decide, Raw, Show, Stop}
 use Rattle.schedule_text.specs.Words.{Word}
 use Rattle.schedule_text.specs.Fields.{is_plain}
 
@@ -27,7 +31,8 @@ decision_word Abort = codes "abort"
 
 -- a byte that stands for itself, or its escape
 abbrev pub spelled_byte : ℕ → List ℕ
-spelled_byte b = if is_plain b then b ∷ [] else 37 ∷ slice_index lower_digits (b / 16) ∷ slice_index lower_digits (b % 16) ∷ []
+spelled_byte b =
+    if is_plain b then b ∷ [] else 37 ∷ slice_index lower_digits (b / 16) ∷ slice_index lower_digits (b % 16) ∷ []
 
 abbrev pub key_word : List ℕ → Word
 key_word bytes = flat_map spelled_byte bytes
@@ -51,8 +56,10 @@ journal_words false = []
 -- the words of a line; a skipped line has one empty word
 unfoldable pub line_words : Line → List Word
 line_words (Header cluster clock keys journal) =
-    codes "basil" ∷ codes "1" ∷ (codes "f=" ++ decimal cluster.f) ∷ (codes "shards=" ++ decimal cluster.shards) ∷ (codes "reads=" ++ decimal cluster.reads)
-    ∷ (codes "delta=" ++ decimal cluster.delta) ∷ (codes "clock=" ++ decimal clock) ∷ (codes "keys=" ++ keys_word keys) ∷ journal_words journal
+    codes "basil" ∷ codes "1"
+    ∷ (codes "f=" ++ decimal cluster.f) ∷ (codes "shards=" ++ decimal cluster.shards)
+    ∷ (codes "reads=" ++ decimal cluster.reads) ∷ (codes "delta=" ++ decimal cluster.delta)
+    ∷ (codes "clock=" ++ decimal clock) ∷ (codes "keys=" ++ keys_word keys) ∷ journal_words journal
 line_words Skipped = [] ∷ []
 line_words (Faulty party) = codes "faulty" ∷ party_words party
 line_words (Begin name client time) = codes "begin" ∷ name ∷ decimal client ∷ decimal time ∷ []
@@ -73,7 +80,8 @@ line_words (Vote shard replica name decision client) =
     codes "vote" ∷ decimal shard ∷ decimal replica ∷ name ∷ decision_word decision ∷ decimal client ∷ []
 line_words (Second name decision replica) = codes "second" ∷ name ∷ decision_word decision ∷ decimal replica ∷ []
 line_words (Logged shard replica name decision decided current client) =
-    codes "logged" ∷ decimal shard ∷ decimal replica ∷ name ∷ decision_word decision ∷ decimal decided ∷ decimal current ∷ decimal client ∷ []
+    codes "logged" ∷ decimal shard ∷ decimal replica ∷ name ∷ decision_word decision
+    ∷ decimal decided ∷ decimal current ∷ decimal client ∷ []
 line_words (Elect shard replica name decision view) =
     codes "elect" ∷ decimal shard ∷ decimal replica ∷ name ∷ decision_word decision ∷ decimal view ∷ []
 line_words (Decide shard replica name decision view to) =

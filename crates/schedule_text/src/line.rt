@@ -23,8 +23,8 @@ pub enum KeysKind {
 }
 
 /// What one line of a schedule says. Names are a lower-case letter and up to 15 lower-case letters or digits, keys
-/// have 1 to 64 bytes, values up to 256 and frames up to `FRAME_LIMIT`. A shard is 0 to 7, a replica's index 0 to 30 and a
-/// client 1 to 16: the widest ranges that any cluster gives.
+/// have 1 to 64 bytes, values up to 256 and frames up to `FRAME_LIMIT`. A shard is 0 to 7, a replica's index 0 to 30
+/// and a client 1 to 16: the widest ranges that any cluster gives.
 #[derive(Drop)]
 pub enum Line {
     /// `basil 1 f=F shards=N reads=Q delta=D clock=T keys=K`, and after it the word `journal` or nothing.

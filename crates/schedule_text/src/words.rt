@@ -1,7 +1,9 @@
-//! Cutting a line into its words, which are parted by one space. No call takes memory, and each looks at each byte once.
+//! Cutting a line into its words, which are parted by one space. No call takes memory, and each looks at each byte
+//! once.
 
 ghost use Rattle.std.specs.Prelude.{◌≡◌, ◌∷◌, ◌+◌, [], position, ◌==◌, option_copied, List, ℕ, MatchOption, None, Some};
-ghost use Rattle.schedule_text.specs.Words.{words, words_after, one_of, two_of, three_of, four_of, five_of, six_of, seven_of, eight_of};
+ghost use Rattle.schedule_text.specs.Words.{words, words_after, one_of, two_of, three_of};
+ghost use Rattle.schedule_text.specs.Words.{four_of, five_of, six_of, seven_of, eight_of};
 
 /// Where the first word ends.
 fn space(bytes: &[u8]) -> Option<usize>
@@ -23,7 +25,8 @@ pub fn cut(line: &[u8]) -> (&[u8], Option<&[u8]>)
 #[tactic(auto, unfolding(crate::specs::Words::words_after))]
 /// The next word, and what stands behind its space.
 pub fn next(rest: Option<&[u8]>) -> Option<(&[u8], Option<&[u8]>)>
-    ensures { MatchOption result (words_after (option_copied rest.entry) ≡ []) (λ t. words_after (option_copied rest.entry) ≡ t.0.now ∷ words_after (option_copied t.1)) }
+    ensures { MatchOption result (words_after (option_copied rest.entry) ≡ [])
+        (λ t. words_after (option_copied rest.entry) ≡ t.0.now ∷ words_after (option_copied t.1)) }
 {
     Some(cut(rest?))
 }
@@ -31,7 +34,8 @@ pub fn next(rest: Option<&[u8]>) -> Option<(&[u8], Option<&[u8]>)>
 #[tactic(auto, unfolding(crate::specs::Words::one_of, crate::specs::Words::words_after))]
 /// The only word.
 pub fn one(rest: Option<&[u8]>) -> Option<&[u8]>
-    ensures { MatchOption result (one_of (words_after (option_copied rest.entry)) ≡ None) (λ a. one_of (words_after (option_copied rest.entry)) ≡ Some a.now) }
+    ensures { MatchOption result (one_of (words_after (option_copied rest.entry)) ≡ None)
+        (λ a. one_of (words_after (option_copied rest.entry)) ≡ Some a.now) }
 {
     let (a, rest) = next(rest)?;
     match rest {
@@ -43,7 +47,8 @@ pub fn one(rest: Option<&[u8]>) -> Option<&[u8]>
 #[tactic(auto, unfolding(crate::specs::Words::two_of))]
 /// The only two words.
 pub fn two(rest: Option<&[u8]>) -> Option<(&[u8], &[u8])>
-    ensures { MatchOption result (two_of (words_after (option_copied rest.entry)) ≡ None) (λ t. two_of (words_after (option_copied rest.entry)) ≡ Some (t.0.now, t.1.now)) }
+    ensures { MatchOption result (two_of (words_after (option_copied rest.entry)) ≡ None)
+        (λ t. two_of (words_after (option_copied rest.entry)) ≡ Some (t.0.now, t.1.now)) }
 {
     let (a, rest) = next(rest)?;
     let b = one(rest)?;
@@ -53,7 +58,8 @@ pub fn two(rest: Option<&[u8]>) -> Option<(&[u8], &[u8])>
 #[tactic(auto, unfolding(crate::specs::Words::three_of))]
 /// The only three words.
 pub fn three(rest: Option<&[u8]>) -> Option<(&[u8], &[u8], &[u8])>
-    ensures { MatchOption result (three_of (words_after (option_copied rest.entry)) ≡ None) (λ t. three_of (words_after (option_copied rest.entry)) ≡ Some (t.0.now, t.1.now, t.2.now)) }
+    ensures { MatchOption result (three_of (words_after (option_copied rest.entry)) ≡ None)
+        (λ t. three_of (words_after (option_copied rest.entry)) ≡ Some (t.0.now, t.1.now, t.2.now)) }
 {
     let (a, rest) = next(rest)?;
     let (b, c) = two(rest)?;
@@ -63,7 +69,8 @@ pub fn three(rest: Option<&[u8]>) -> Option<(&[u8], &[u8], &[u8])>
 #[tactic(auto, unfolding(crate::specs::Words::four_of))]
 /// The only four words.
 pub fn four(rest: Option<&[u8]>) -> Option<(&[u8], &[u8], &[u8], &[u8])>
-    ensures { MatchOption result (four_of (words_after (option_copied rest.entry)) ≡ None) (λ t. four_of (words_after (option_copied rest.entry)) ≡ Some (t.0.now, t.1.now, t.2.now, t.3.now)) }
+    ensures { MatchOption result (four_of (words_after (option_copied rest.entry)) ≡ None)
+        (λ t. four_of (words_after (option_copied rest.entry)) ≡ Some (t.0.now, t.1.now, t.2.now, t.3.now)) }
 {
     let (a, rest) = next(rest)?;
     let (b, c, d) = three(rest)?;
@@ -73,7 +80,8 @@ pub fn four(rest: Option<&[u8]>) -> Option<(&[u8], &[u8], &[u8], &[u8])>
 #[tactic(auto, unfolding(crate::specs::Words::five_of))]
 /// The only five words.
 pub fn five(rest: Option<&[u8]>) -> Option<(&[u8], &[u8], &[u8], &[u8], &[u8])>
-    ensures { MatchOption result (five_of (words_after (option_copied rest.entry)) ≡ None) (λ t. five_of (words_after (option_copied rest.entry)) ≡ Some (t.0.now, t.1.now, t.2.now, t.3.now, t.4.now)) }
+    ensures { MatchOption result (five_of (words_after (option_copied rest.entry)) ≡ None)
+        (λ t. five_of (words_after (option_copied rest.entry)) ≡ Some (t.0.now, t.1.now, t.2.now, t.3.now, t.4.now)) }
 {
     let (a, rest) = next(rest)?;
     let (b, c, d, e) = four(rest)?;
@@ -83,7 +91,9 @@ pub fn five(rest: Option<&[u8]>) -> Option<(&[u8], &[u8], &[u8], &[u8], &[u8])>
 #[tactic(auto, unfolding(crate::specs::Words::six_of))]
 /// The only six words.
 pub fn six(rest: Option<&[u8]>) -> Option<(&[u8], &[u8], &[u8], &[u8], &[u8], &[u8])>
-    ensures { MatchOption result (six_of (words_after (option_copied rest.entry)) ≡ None) (λ t. six_of (words_after (option_copied rest.entry)) ≡ Some (t.0.now, t.1.now, t.2.now, t.3.now, t.4.now, t.5.now)) }
+    ensures { MatchOption result (six_of (words_after (option_copied rest.entry)) ≡ None)
+        (λ t. six_of (words_after (option_copied rest.entry))
+        ≡ Some (t.0.now, t.1.now, t.2.now, t.3.now, t.4.now, t.5.now)) }
 {
     let (a, rest) = next(rest)?;
     let (b, c, d, e, f) = five(rest)?;
@@ -93,7 +103,9 @@ pub fn six(rest: Option<&[u8]>) -> Option<(&[u8], &[u8], &[u8], &[u8], &[u8], &[
 #[tactic(auto, unfolding(crate::specs::Words::seven_of))]
 /// The only seven words.
 pub fn seven(rest: Option<&[u8]>) -> Option<(&[u8], &[u8], &[u8], &[u8], &[u8], &[u8], &[u8])>
-    ensures { MatchOption result (seven_of (words_after (option_copied rest.entry)) ≡ None) (λ t. seven_of (words_after (option_copied rest.entry)) ≡ Some (t.0.now, t.1.now, t.2.now, t.3.now, t.4.now, t.5.now, t.6.now)) }
+    ensures { MatchOption result (seven_of (words_after (option_copied rest.entry)) ≡ None)
+        (λ t. seven_of (words_after (option_copied rest.entry))
+        ≡ Some (t.0.now, t.1.now, t.2.now, t.3.now, t.4.now, t.5.now, t.6.now)) }
 {
     let (a, rest) = next(rest)?;
     let (b, c, d, e, f, g) = six(rest)?;
@@ -105,7 +117,9 @@ pub fn seven(rest: Option<&[u8]>) -> Option<(&[u8], &[u8], &[u8], &[u8], &[u8], 
 pub fn eight(
     rest: Option<&[u8]>,
 ) -> Option<(&[u8], &[u8], &[u8], &[u8], &[u8], &[u8], &[u8], &[u8])>
-    ensures { MatchOption result (eight_of (words_after (option_copied rest.entry)) ≡ None) (λ t. eight_of (words_after (option_copied rest.entry)) ≡ Some (t.0.now, t.1.now, t.2.now, t.3.now, t.4.now, t.5.now, t.6.now, t.7.now)) }
+    ensures { MatchOption result (eight_of (words_after (option_copied rest.entry)) ≡ None)
+        (λ t. eight_of (words_after (option_copied rest.entry))
+        ≡ Some (t.0.now, t.1.now, t.2.now, t.3.now, t.4.now, t.5.now, t.6.now, t.7.now)) }
 {
     let (a, rest) = next(rest)?;
     let (b, c, d, e, f, g, h) = seven(rest)?;

@@ -1,5 +1,6 @@
 -- The first stray, one read after the other.
-use Rattle.std.proofs.Common.{◌≡◌, ℕ, suc, ◌+◌, ◌<◌, Bool, true, false, cond, List, [], ◌∷◌, ◌++◌, length, drop, get_or, Option, Some, None, refl, ap, sym, ◌∙◌, add-one}
+use Rattle.std.proofs.Common.{◌≡◌, ℕ, suc, ◌+◌, ◌<◌, Bool, true, false, cond, List, [], ◌∷◌, ◌++◌}
+use Rattle.std.proofs.Common.{length, drop, get_or, Option, Some, None, refl, ap, sym, ◌∙◌, add-one}
 use Rattle.std.proofs.Math.Seq.{drop-cons}
 use Rattle.std.specs.Prelude.{filter, flat_map, fold, map, not, option_to_list}
 use Rattle.std.specs.List.{enumerate_from}
@@ -24,7 +25,8 @@ pub strays_of_first : (ts : List TransactionValue) (reader : Version) (place : �
     → strays_among ts reader place (r ∷ rs) ≡ strays_among ts reader place (r ∷ []) ++ strays_among ts reader place rs
 strays_of_first ts reader place r rs = by (not (is_right ts reader r))
   where
-    by : (c : Bool) → map (stray_of ts reader place) (cond c (r ∷ filter (λ x. not (is_right ts reader x)) rs) (filter (λ x. not (is_right ts reader x)) rs))
+    by : (c : Bool) → map (stray_of ts reader place)
+        (cond c (r ∷ filter (λ x. not (is_right ts reader x)) rs) (filter (λ x. not (is_right ts reader x)) rs))
         ≡ map (stray_of ts reader place) (cond c (r ∷ []) []) ++ strays_among ts reader place rs
     by true = refl
     by false = refl

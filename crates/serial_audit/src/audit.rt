@@ -26,8 +26,9 @@ pub enum Verdict {
     },
 }
 
-/// Whether each read of these transactions is of the version that the map before its reader has at the key, or of genesis
-/// where that map has none; else the first that isn't, by its reader's version, then by key, then by its reader's place.
+/// Whether each read of these transactions is of the version that the map before its reader has at the key, or of
+/// genesis where that map has none; else the first that isn't, by its reader's version, then by key, then by its
+/// reader's place.
 pub fn audit(alloc: Global, list: &[Transaction]) -> Result<Verdict, NoMemory>
     requires { length list.now < 2 ^ 32 }
     ensures { IfOk result (λ v. v ≡ verdict_of list.now) }

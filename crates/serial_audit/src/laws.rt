@@ -2,8 +2,8 @@
 
 ghost use Rattle.serial_audit.specs.Laws.{SerialIsRight, StrayIsFirst};
 
-/// A list is serial exactly where each listed read is of the version that the map before its reader has at the key, or of
-/// genesis where that map has none.
+/// A list is serial exactly where each listed read is of the version that the map before its reader has at the key, or
+/// of genesis where that map has none.
 pub fn serial_is_right()
     ensures { SerialIsRight }
 {}

@@ -51,7 +51,8 @@ fn versions_under<'a>(
     list: &'a [Transaction],
     bound: Option<&Version>,
 ) -> Result<BTreeMap<Version, &'a Transaction>, NoMemory>
-    ensures { IfOk result (λ m. lent_by_version m.entries ≡ put_versions [] (those_under (option_copied bound.entry) list.now)) }
+    ensures { IfOk result
+        (λ m. lent_by_version m.entries ≡ put_versions [] (those_under (option_copied bound.entry) list.now)) }
 {
     let mut versions = BTreeMap::new(alloc);
     for t in list {
@@ -76,7 +77,8 @@ pub(crate) fn by_version<'a>(
     list: &'a [Transaction],
     bound: Option<&Version>,
 ) -> Result<Vec<&'a Transaction>, NoMemory>
-    ensures { IfOk result (λ ts. lent ts.items ≡ replayed.by_version (those_under (option_copied bound.entry) list.now)) }
+    ensures { IfOk result
+        (λ ts. lent ts.items ≡ replayed.by_version (those_under (option_copied bound.entry) list.now)) }
 {
     let versions = versions_under(alloc, list, bound)?;
     let ordered = values_of(alloc, versions)?;

@@ -63,7 +63,8 @@ fn stray_in<'a>(
     item: &ReadItem<'a>,
 ) -> Option<Found<'a>>
     ensures { (ts : List TransactionValue) → Stands writers.now (all_told (replayed.by_version ts)) [] →
-        option_to_list (option_map stray_found result) ≡ strays.strays_among ts reader.now place (read_of item.now ∷ []) }
+        option_to_list (option_map stray_found result)
+        ≡ strays.strays_among ts reader.now place (read_of item.now ∷ []) }
 {
     let expected = expected(writers, reader, item.key);
     if item.version.is_same(&expected) {

@@ -1,5 +1,6 @@
 -- A message of 55 bytes is one block, and the words of a step's block.
-use Rattle.std.proofs.Common.{◌≡◌, ℕ, ◌<◌, ◌+◌, ◌*◌, ◌/◌, ◌%◌, ◌^◌, List, [], ◌∷◌, ◌++◌, length, take, slice_index, bit_or, arith, ap, ◌∙◌, length-append}
+use Rattle.std.proofs.Common.{◌≡◌, ℕ, ◌<◌, ◌+◌, ◌*◌, ◌/◌, ◌%◌, ◌^◌, List, [], ◌∷◌, ◌++◌}
+use Rattle.std.proofs.Common.{length, take, slice_index, bit_or, arith, ap, ◌∙◌, length-append}
 use Rattle.std.specs.Int.{w16, w32, to_be_bytes, from_be_bytes}
 use Rattle.std.proofs.lemmas.Nat.{or_shifted}
 use Rattle.std.proofs.lemmas.List.{take_all}
@@ -21,7 +22,8 @@ one_block m len =
 -- a word a byte further on
 pub shifted_word : (x y : ℕ) → x < 2 ^ 32 → y < 2 ^ 32
     → bit_or (x * 2 ^ 8 % 2 ^ 32) (y / 2 ^ 24)
-    ≡ from_be_bytes w32 (slice_index (to_be_bytes w32 x) 1 ∷ slice_index (to_be_bytes w32 x) 2 ∷ slice_index (to_be_bytes w32 x) 3 ∷ slice_index (to_be_bytes w32 y) 0 ∷ [])
+    ≡ from_be_bytes w32 (slice_index (to_be_bytes w32 x) 1
+    ∷ slice_index (to_be_bytes w32 x) 2 ∷ slice_index (to_be_bytes w32 x) 3 ∷ slice_index (to_be_bytes w32 y) 0 ∷ [])
 shifted_word x y hx hy =
     let up : x * 2 ^ 8 % 2 ^ 32 ≡ x % 2 ^ 24 * 2 ^ 8 = omega arith in
     rw up (or_shifted (x % 2 ^ 24) 8 (y / 2 ^ 24) (omega arith) ∙ omega arith)
@@ -29,7 +31,8 @@ shifted_word x y hx hy =
 -- the last word of the message
 pub last_word : (x : ℕ) → x < 2 ^ 32
     → bit_or (x * 2 ^ 8 % 2 ^ 32) 0x80
-    ≡ from_be_bytes w32 (slice_index (to_be_bytes w32 x) 1 ∷ slice_index (to_be_bytes w32 x) 2 ∷ slice_index (to_be_bytes w32 x) 3 ∷ 0x80 ∷ [])
+    ≡ from_be_bytes w32
+    (slice_index (to_be_bytes w32 x) 1 ∷ slice_index (to_be_bytes w32 x) 2 ∷ slice_index (to_be_bytes w32 x) 3 ∷ 0x80 ∷ [])
 last_word x hx =
     let up : x * 2 ^ 8 % 2 ^ 32 ≡ x % 2 ^ 24 * 2 ^ 8 = omega arith in
     rw up (or_shifted (x % 2 ^ 24) 8 0x80 (omega arith) ∙ omega arith)

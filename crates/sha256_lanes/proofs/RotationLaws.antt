@@ -1,9 +1,11 @@
 -- Rotations of words of 32 bits, each inside of the one before, bit by bit.
-use Rattle.std.proofs.Common.{◌≡◌, ℕ, ◌+◌, ◌-◌, ◌*◌, ◌/◌, ◌%◌, ◌^◌, ◌<◌, max, bit_or, bit_xor, arith, ap, sym, ◌∙◌, add-zero, mod-lt, pow_pos, shr-shr, inl, inr}
+use Rattle.std.proofs.Common.{◌≡◌, ℕ, ◌+◌, ◌-◌, ◌*◌, ◌/◌, ◌%◌, ◌^◌, ◌<◌, max, bit_or, bit_xor}
+use Rattle.std.proofs.Common.{arith, ap, sym, ◌∙◌, add-zero, mod-lt, pow_pos, shr-shr, inl, inr}
 use Rattle.std.specs.Int.{w32, rotate_right, bit_at}
 use Rattle.std.proofs.lemmas.Bool.{cases_lt}
 use Rattle.std.proofs.lemmas.Nat.{or_lt, xor_lt, shr_le}
-use Rattle.std.proofs.lemmas.Nat.Bits.{bit_at-zero, bit_at_above, bit_at_cat_low, bit_at_cat_high, bit_at_or, bit_at_xor, same_from_bits_below}
+use Rattle.std.proofs.lemmas.Nat.Bits.{bit_at-zero, bit_at_above, bit_at_cat_low, bit_at_cat_high}
+use Rattle.std.proofs.lemmas.Nat.Bits.{bit_at_or, bit_at_xor, same_from_bits_below}
 
 abbrev turned : ℕ → ℕ → ℕ
 turned x k = rotate_right w32 x k
@@ -21,10 +23,12 @@ max-zero : (n : ℕ) → max n 0 ≡ n
 max-zero n = omega arith
 
 -- two shifts by numbers that are 32 together
-shifted-bit : (x k j i : ℕ) → k + j ≡ 32 → x < 2 ^ 32 → i < 32 → bit_at (bit_or (x / 2 ^ k) (x * 2 ^ j % 2 ^ 32)) i ≡ bit_at x ((i + k) % 32)
+shifted-bit : (x k j i : ℕ) → k + j ≡ 32 →
+    x < 2 ^ 32 → i < 32 → bit_at (bit_or (x / 2 ^ k) (x * 2 ^ j % 2 ^ 32)) i ≡ bit_at x ((i + k) % 32)
 shifted-bit x k j i both fits lt =
     let right : bit_at (x / 2 ^ k) i ≡ bit_at x (k + i) = ap (λ (n : ℕ). n % 2) (shr-shr x k i) in
-    let left : bit_at (x * 2 ^ j % 2 ^ 32) i ≡ bit_at (x * 2 ^ j + 0) i = low-bit (x * 2 ^ j) i lt ∙ ap (λ (n : ℕ). bit_at n i) (sym (add-zero _)) in
+    let left : bit_at (x * 2 ^ j % 2 ^ 32) i ≡ bit_at (x * 2 ^ j + 0) i =
+    low-bit (x * 2 ^ j) i lt ∙ ap (λ (n : ℕ). bit_at n i) (sym (add-zero _)) in
     let split : bit_at (bit_or (x / 2 ^ k) (x * 2 ^ j % 2 ^ 32)) i ≡ max (bit_at x (k + i)) (bit_at (x * 2 ^ j + 0) i) =
     bit_at_or (x / 2 ^ k) (x * 2 ^ j % 2 ^ 32) i ∙ (λ t. max (right t) (left t)) in
     elim (cases_lt i j) [
@@ -35,7 +39,8 @@ shifted-bit x k j i both fits lt =
       | inr past ↦
           let none : bit_at x (k + i) ≡ 0 = bit_at_above x 32 (k + i) fits (omega arith) in
           let at : i - j ≡ (i + k) % 32 = omega arith in
-          split ∙ ap (λ (n : ℕ). max n (bit_at (x * 2 ^ j + 0) i)) none ∙ zero-max (bit_at (x * 2 ^ j + 0) i) ∙ bit_at_cat_high x j 0 i (pow_pos j) past ∙ ap (bit_at x) at
+          split ∙ ap (λ (n : ℕ). max n (bit_at (x * 2 ^ j + 0) i)) none
+          ∙ zero-max (bit_at (x * 2 ^ j + 0) i) ∙ bit_at_cat_high x j 0 i (pow_pos j) past ∙ ap (bit_at x) at
     ]
 
 -- bit i of a rotation by k is bit i + k
@@ -86,9 +91,12 @@ turned_three x a b c pa pb pc low fits =
     let at_third : (p + (b + c)) % 32 ≡ (i + (a + (b + c))) % 32 = omega arith in
     let one : bit_at x p ≡ bit_at first i = sym (turned-bit x a i pa (omega arith) fits lt) in
     let two : bit_at near p ≡ bit_at second i =
-    turned-bit x b p pb (omega arith) fits (omega arith) ∙ ap (bit_at x) at_second ∙ sym (turned-bit x (a + b) i (omega arith) (omega arith) fits lt) in
+    turned-bit x b p pb (omega arith) fits (omega arith)
+    ∙ ap (bit_at x) at_second ∙ sym (turned-bit x (a + b) i (omega arith) (omega arith) fits lt) in
     let three : bit_at far p ≡ bit_at third i =
-    turned-bit x (b + c) p (omega arith) (omega arith) fits (omega arith) ∙ ap (bit_at x) at_third ∙ sym (turned-bit x (a + (b + c)) i (omega arith) low fits lt) in
-    turned-bit _ a i pa (omega arith) all lt ∙ bit_at_xor x (bit_xor near far) p ∙ ap (λ (n : ℕ). (bit_at x p + n) % 2) (bit_at_xor near far p)
+    turned-bit x (b + c) p (omega arith) (omega arith) fits (omega arith)
+    ∙ ap (bit_at x) at_third ∙ sym (turned-bit x (a + (b + c)) i (omega arith) low fits lt) in
+    turned-bit _ a i pa (omega arith) all lt
+    ∙ bit_at_xor x (bit_xor near far) p ∙ ap (λ (n : ℕ). (bit_at x p + n) % 2) (bit_at_xor near far p)
     ∙ (λ t. (one t + (two t + three t) % 2) % 2) ∙ flip (bit_at first i) (bit_at second i) (bit_at third i)
     ∙ sym (bit_at_xor (bit_xor first second) third i ∙ ap (λ (n : ℕ). (n + bit_at third i) % 2) (bit_at_xor first second i)))

@@ -1,4 +1,5 @@
--- Hash chains: each value is the hash of the one before it, with the chain's number and the place (RFC 8554, section 4.3).
+-- Hash chains: each value is the hash of the one before it, with the chain's number and the place (RFC 8554, section
+-- 4.3).
 use Rattle.std.specs.Prelude.{ℕ, zero, suc, ◌+◌, ◌-◌, List, [], ◌∷◌, ◌++◌, slice_index_or}
 use Rattle.std.specs.Int.{w16, w32, to_be_bytes}
 use Rattle.sha2.specs.Sha256.{sha256}

@@ -29,6 +29,7 @@ HoldsBlock k words b = (i : ℕ) → i < 16 → lane_at words i k ≡ word_at b 
 abbrev pub byte_of : ℕ → ℕ → ℕ
 byte_of x i = slice_index (to_be_bytes w32 x) i
 
--- the padding of a message of 55 bytes: the byte 1000 0000, and its 440 bits as 8 bytes, high first (FIPS 180-4, section 5.1.1)
+-- the padding of a message of 55 bytes: the byte 1000 0000, and its 440 bits as 8 bytes, high first (FIPS 180-4,
+-- section 5.1.1)
 abbrev pub padding_55 : List ℕ
 padding_55 = 0x80 ∷ 0 ∷ 0 ∷ 0 ∷ 0 ∷ 0 ∷ 0 ∷ 1 ∷ 0xb8 ∷ []

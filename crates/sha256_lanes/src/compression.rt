@@ -1,6 +1,7 @@
 //! The hash computation of one block in each lane (section 6.2.2).
 ghost use Rattle.std.specs.Prelude.{◌≡◌, ℕ, ◌+◌, ◌<◌, ◌≤◌, ◌*◌, slice_index, slice_set, List};
-ghost use Rattle.sha2.specs.Sha256.{round, rounds, schedule, window_word, compress, initial_hash_256, IsWindow, IsRoundsAt};
+ghost use Rattle.sha2.specs.Sha256.{round, rounds, schedule, window_word, compress};
+ghost use Rattle.sha2.specs.Sha256.{initial_hash_256, IsWindow, IsRoundsAt};
 ghost use Rattle.sha256_lanes.specs.Lanes.{state_of, block_of, HoldsBlock};
 
 use crate::constants::{INITIAL_HASH, ROUND_CONSTANTS};

@@ -1,5 +1,6 @@
 //! Eight chains side by side.
-ghost use Rattle.std.specs.Prelude.{◌≡◌, ℕ, ◌+◌, ◌<◌, ◌≤◌, ◌^◌, [], if◌then◌else◌, nat_lt, length, slice_index, slice_index_or};
+ghost use Rattle.std.specs.Prelude.{◌≡◌, ℕ, ◌+◌, ◌<◌, ◌≤◌, ◌^◌, [], if◌then◌else◌};
+ghost use Rattle.std.specs.Prelude.{nat_lt, length, slice_index, slice_index_or};
 ghost use Rattle.sha2.specs.Sha256.{digest_bytes, sha256, word_at};
 ghost use Rattle.sha256_lanes.specs.Chains.{head_of, end_of_lane, message_of_lane, lane_of};
 ghost use Rattle.sha256_lanes.specs.Lanes.{state_of};
@@ -210,7 +211,8 @@ fn highest(lanes: &[Lane; 8]) -> u8
 /// The values in which eight chains end, as words. Takes as many steps as there are places from the lowest at which a
 /// lane is to the highest to which one goes.
 fn ends_of(head: &[u32; 5], lanes: &[Lane; 8]) -> [Words; 8]
-    ensures { (k : ℕ) → k < 8 → digest_bytes (state_of k result) 8 ≡ end_of_lane (digest_bytes head.now 5) (lane_of lanes.now k) }
+    ensures { (k : ℕ) → k < 8 → digest_bytes (state_of k result) 8
+        ≡ end_of_lane (digest_bytes head.now 5) (lane_of lanes.now k) }
 {
     let chains = chains_in(lanes);
     let from = places_in(lanes);
@@ -226,7 +228,8 @@ fn ends_of(head: &[u32; 5], lanes: &[Lane; 8]) -> [Words; 8]
 }
 
 /// The values in which eight chains of leaf `q` end, in the order of the lanes. Takes as many steps as there are places
-/// from the lowest at which a lane is to the highest to which one goes: lanes do best that are side by side on their way.
+/// from the lowest at which a lane is to the highest to which one goes: lanes do best that are side by side on their
+/// way.
 pub fn run_chains(ident: &[u8; 16], q: u32, lanes: &[Lane; 8]) -> [[u8; 32]; 8]
     ensures ends { (k : ℕ) → k < 8
         → slice_index_or result k [] ≡ end_of_lane (head_of ident.now q) (lane_of lanes.now k) }

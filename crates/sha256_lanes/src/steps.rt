@@ -45,7 +45,8 @@ fn place_word(chains: Words, places: Words, first: Words) -> Words
     requires chains { (k : ℕ) → k < 8 → slice_index chains k < 2 ^ 16 }
     requires places { (k : ℕ) → k < 8 → slice_index places k < 2 ^ 8 }
     ensures { (k : ℕ) → k < 8 → slice_index result k
-        ≡ from_be_bytes w32 (slice_index (to_be_bytes w16 (slice_index chains k)) 0 ∷ slice_index (to_be_bytes w16 (slice_index chains k)) 1
+        ≡ from_be_bytes w32 (slice_index (to_be_bytes w16 (slice_index chains k)) 0
+        ∷ slice_index (to_be_bytes w16 (slice_index chains k)) 1
         ∷ slice_index places k ∷ byte_of (slice_index first k) 0 ∷ []) }
 {
     or(
@@ -58,8 +59,8 @@ fn place_word(chains: Words, places: Words, first: Words) -> Words
 #[inline(always)]
 fn shifted_word(word: Words, next: Words) -> Words
     ensures { (k : ℕ) → k < 8 → slice_index result k
-        ≡ from_be_bytes w32 (byte_of (slice_index word k) 1 ∷ byte_of (slice_index word k) 2 ∷ byte_of (slice_index word k) 3
-        ∷ byte_of (slice_index next k) 0 ∷ []) }
+        ≡ from_be_bytes w32 (byte_of (slice_index word k) 1 ∷ byte_of (slice_index word k) 2
+        ∷ byte_of (slice_index word k) 3 ∷ byte_of (slice_index next k) 0 ∷ []) }
 {
     or(shift_left(word, 8), shift_right(next, 24))
 }
@@ -68,7 +69,8 @@ fn shifted_word(word: Words, next: Words) -> Words
 #[inline(always)]
 fn last_word(word: Words) -> Words
     ensures { (k : ℕ) → k < 8 → slice_index result k
-        ≡ from_be_bytes w32 (byte_of (slice_index word k) 1 ∷ byte_of (slice_index word k) 2 ∷ byte_of (slice_index word k) 3 ∷ 0x80 ∷ []) }
+        ≡ from_be_bytes w32 (byte_of (slice_index word k) 1 ∷ byte_of (slice_index word k) 2
+        ∷ byte_of (slice_index word k) 3 ∷ 0x80 ∷ []) }
 {
     or(shift_left(word, 8), splat(0x80))
 }
@@ -80,7 +82,8 @@ fn step_blocks(head: &[u32; 5], chains: Words, places: Words, values: [Words; 8]
     requires chains { (k : ℕ) → k < 8 → slice_index chains k < 2 ^ 16 }
     requires places { (k : ℕ) → k < 8 → slice_index places k < 2 ^ 8 }
     ensures { (k : ℕ) → k < 8 → HoldsBlock k result
-        (message_of (digest_bytes head.now 5) (slice_index chains k) (slice_index places k) (digest_bytes (state_of k values) 8) ++ padding_55) }
+        (message_of (digest_bytes head.now 5) (slice_index chains k) (slice_index places k)
+        (digest_bytes (state_of k values) 8) ++ padding_55) }
 {
     let [v0, v1, v2, v3, v4, v5, v6, v7] = values;
     [
@@ -114,7 +117,8 @@ pub(crate) fn step_each(
     requires chains { (k : ℕ) → k < 8 → slice_index chains k < 2 ^ 16 }
     requires places { (k : ℕ) → k < 8 → slice_index places k < 2 ^ 8 }
     ensures { (k : ℕ) → k < 8 → digest_bytes (state_of k result) 8
-        ≡ step_of (digest_bytes head.now 5) (slice_index chains k) (slice_index places k) (digest_bytes (state_of k values) 8) }
+        ≡ step_of (digest_bytes head.now 5) (slice_index chains k) (slice_index places k)
+        (digest_bytes (state_of k values) 8) }
 {
     compress(&step_blocks(head, chains, places, values))
 }

@@ -1,5 +1,6 @@
 //! Operations on one word in each lane (section 3.2).
-ghost use Rattle.std.specs.Prelude.{◌≡◌, ℕ, ◌-◌, ◌<◌, ◌*◌, ◌/◌, ◌%◌, ◌^◌, slice_index, bit_and, bit_or, bit_xor, if◌then◌else◌, nat_lt};
+ghost use Rattle.std.specs.Prelude.{◌≡◌, ℕ, ◌-◌, ◌<◌, ◌*◌, ◌/◌, ◌%◌, ◌^◌, slice_index};
+ghost use Rattle.std.specs.Prelude.{bit_and, bit_or, bit_xor, if◌then◌else◌, nat_lt};
 ghost use Rattle.std.specs.Int.{w32, rotate_right};
 ghost use Rattle.sha2.specs.Sha256.{add32};
 

@@ -14,7 +14,8 @@ use Rattle.basil_types.specs.Version.{is_between, below}
 use Rattle.basil_types.proofs.MemberLaws.{hit_of, hit_from, in_none}
 use Rattle.basil_types.proofs.TransactionLaws.{canonical-is}
 use Rattle.basil_types.proofs.VersionLaws.{below_itself, below_trans}
-use Rattle.txn_meta.specs.Conflicts.{differ, crosses, is_crossed, conflict, crosses_in, is_crossed_in, conflict_in, ShardConflicts, ConflictsAreOfShards}
+use Rattle.txn_meta.specs.Conflicts.{differ, crosses, is_crossed, conflict, crosses_in}
+use Rattle.txn_meta.specs.Conflicts.{is_crossed_in, conflict_in, ShardConflicts, ConflictsAreOfShards}
 use Rattle.txn_meta.specs.Places.{shard_of, involves}
 
 or_turned : (a b : Bool) → (a || b) ≡ (b || a)

@@ -12,8 +12,8 @@ use Rattle.txn_meta.specs.Places.{shard_of, involves}
 abbrev pub differ : TransactionValue → TransactionValue → Bool
 differ t u = not (bytes_eq (canonical t) (canonical u))
 
--- whether a read of the reader is crossed by the writer: the writer wrote or deleted the key at its version, which stands
--- between the version that was read and the reader's own
+-- whether a read of the reader is crossed by the writer: the writer wrote or deleted the key at its version, which
+-- stands between the version that was read and the reader's own
 abbrev pub crosses : (writer reader : TransactionValue) → ReadPart → Bool
 crosses writer reader r = writes_key writer r.key && is_between r.version (version_of writer) (version_of reader)
 
@@ -47,7 +47,8 @@ NoConflictWithItself = (t : TransactionValue) → conflict t t ≡ false
 pub record ShardConflicts : Type 0 where
   pub symmetric : (c : Setting) (shard : ℕ) (t u : TransactionValue) → conflict_in c shard t u ≡ conflict_in c shard u t
   pub not_itself : (c : Setting) (shard : ℕ) (t : TransactionValue) → conflict_in c shard t t ≡ false
-  pub involved : (c : Setting) (shard : ℕ) (t u : TransactionValue) → conflict_in c shard t u ≡ true → involves c t shard ≡ true
+  pub involved : (c : Setting) (shard : ℕ) (t u : TransactionValue) →
+      conflict_in c shard t u ≡ true → involves c t shard ≡ true
 
 -- two transactions conflict exactly where they do on the keys of some shard
 abbrev pub ConflictsAreOfShards : Type 0

@@ -1,5 +1,6 @@
 -- The form of a transaction.
-use Rattle.std.specs.Prelude.{ℕ, List, Bool, not, ◌==◌, ◌&&◌, length, Option, Some, is_none, option_map, position, if◌then◌else◌}
+use Rattle.std.specs.Prelude.{ℕ, List, Bool, not, ◌==◌, ◌&&◌, length, Option}
+use Rattle.std.specs.Prelude.{Some, is_none, option_map, position, if◌then◌else◌}
 use Rattle.basil_types.specs.declared.version.Version.{Version}
 use Rattle.basil_types.specs.declared.transaction.parts.ReadPart.{ReadPart}
 use Rattle.basil_types.specs.Version.{below}

@@ -1,5 +1,6 @@
 -- Where the keys of a transaction lie.
-use Rattle.std.specs.Prelude.{ℕ, ◌+◌, ◌%◌, List, [], ◌∷◌, Bool, ◌==◌, ◌||◌, length, map, slice_index, slice_index_or, false, sum, if◌then◌else◌}
+use Rattle.std.specs.Prelude.{ℕ, ◌+◌, ◌%◌, List, [], ◌∷◌, Bool, ◌==◌, ◌||◌, length, map}
+use Rattle.std.specs.Prelude.{slice_index, slice_index_or, false, sum, if◌then◌else◌}
 use Rattle.std.specs.List.{list_any}
 use Rattle.quorum_laws.specs.Numbers.{replicas}
 use Rattle.basil_types.specs.Setting.{Setting}
@@ -30,7 +31,8 @@ is_marked marks shard = slice_index_or marks shard false
 -- the marked numbers from this one on, ascending
 abbrev pub members_from : ℕ → List Bool → List ℕ
 members_from shard [] = []
-members_from shard (mark ∷ marks) = if mark then shard ∷ members_from (shard + 1) marks else members_from (shard + 1) marks
+members_from shard (mark ∷ marks) =
+    if mark then shard ∷ members_from (shard + 1) marks else members_from (shard + 1) marks
 
 abbrev pub members : List Bool → List ℕ
 members marks = members_from 0 marks
@@ -39,7 +41,8 @@ members marks = members_from 0 marks
 abbrev pub involved : Setting → TransactionValue → List ℕ
 involved c t = members (marks_of c t)
 
--- the shard that logs the decision: of the involved shards, ascending, the one at the place of the time modulo their number
+-- the shard that logs the decision: of the involved shards, ascending, the one at the place of the time modulo their
+-- number
 abbrev pub log_shard : Setting → TransactionValue → ℕ
 log_shard c t = slice_index (involved c t) (t.time % length (involved c t))
 

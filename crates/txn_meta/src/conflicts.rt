@@ -8,7 +8,8 @@ ghost use Rattle.basil_types.specs.Transaction.{version_of};
 ghost use Rattle.basil_types.specs.declared.transaction.lists.WritesIter.{WritesIter};
 ghost use Rattle.txn_meta.specs.Conflicts as conflicts;
 ghost use Rattle.txn_meta.specs.Merging.{ahead, from_key, begins_at};
-ghost use Rattle.txn_meta.specs.Conflicts.{ConflictIsSymmetric, NoConflictWithItself, ShardConflicts, ConflictsAreOfShards};
+ghost use Rattle.txn_meta.specs.Conflicts.{ConflictIsSymmetric, NoConflictWithItself};
+ghost use Rattle.txn_meta.specs.Conflicts.{ShardConflicts, ConflictsAreOfShards};
 
 use crate::form::version_of;
 use crate::shards::shard_of;
@@ -57,8 +58,8 @@ pub fn writes_key(t: TransactionView<'_>, key: &[u8]) -> bool
     false
 }
 
-/// Whether some read of the reader is crossed by the writer, at these versions of theirs: one walk along both lists, whose
-/// keys ascend.
+/// Whether some read of the reader is crossed by the writer, at these versions of theirs: one walk along both lists,
+/// whose keys ascend.
 fn is_crossed(
     reader: TransactionView<'_>,
     own: &Version,
@@ -98,7 +99,8 @@ fn passed<'a>(
     None
 }
 
-/// Whether the next write is of the key that was read, and stands between the version that was read and the reader's own.
+/// Whether the next write is of the key that was read, and stands between the version that was read and the reader's
+/// own.
 fn meets(next: Option<WriteItem<'_>>, item: ReadItem<'_>, own: &Version, written: &Version) -> bool
     ensures { (writes : WritesIter) → result ≡ (begins_at (read_of item.entry).key (ahead next.entry writes)
         && is_between (read_of item.entry).version written.now own.now) }
@@ -120,7 +122,8 @@ fn is_crossed_in(
 ) -> bool
     requires own { own.now ≡ version_of (transaction_of reader) }
     requires written { written.now ≡ version_of (transaction_of writer) }
-    ensures { result ≡ conflicts.is_crossed_in cluster.now shard (transaction_of reader.entry) (transaction_of writer.entry) }
+    ensures { result ≡ conflicts.is_crossed_in cluster.now shard
+        (transaction_of reader.entry) (transaction_of writer.entry) }
 {
     for item in reader.reads() {
         if shard_of(item.key, cluster) == shard && crosses(item, own, writer, written) {

@@ -50,7 +50,8 @@ pub fn involved(t: TransactionView<'_>, cluster: &Cluster) -> Shards
 
 /// Marks the shards of the keys that the transaction read.
 fn mark_reads(marks: &mut [bool; 8], t: TransactionView<'_>, cluster: &Cluster)
-    ensures { (shard : ℕ) → is_marked marks.new shard ≡ (reads_of cluster.now (transaction_of t.entry) shard || is_marked marks.old shard) }
+    ensures { (shard : ℕ) → is_marked marks.new shard
+        ≡ (reads_of cluster.now (transaction_of t.entry) shard || is_marked marks.old shard) }
 {
     let _ = cluster.n();
     for item in t.reads() {
@@ -60,7 +61,8 @@ fn mark_reads(marks: &mut [bool; 8], t: TransactionView<'_>, cluster: &Cluster)
 
 /// Marks the shards of the keys that the transaction wrote or deleted.
 fn mark_writes(marks: &mut [bool; 8], t: TransactionView<'_>, cluster: &Cluster)
-    ensures { (shard : ℕ) → is_marked marks.new shard ≡ (writes_of cluster.now (transaction_of t.entry) shard || is_marked marks.old shard) }
+    ensures { (shard : ℕ) → is_marked marks.new shard
+        ≡ (writes_of cluster.now (transaction_of t.entry) shard || is_marked marks.old shard) }
 {
     let _ = cluster.n();
     for item in t.writes() {

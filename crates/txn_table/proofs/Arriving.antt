@@ -1,5 +1,6 @@
 -- What a table keeps, when a transaction arrives.
-use Rattle.std.proofs.Common.{◌≡◌, ℕ, ◌+◌, true, cond, List, [], ◌∷◌, ◌++◌, length, length-append, map, Option, Some, refl, sym, ap, subst, ◌∙◌, arith}
+use Rattle.std.proofs.Common.{◌≡◌, ℕ, ◌+◌, true, cond, List, [], ◌∷◌, ◌++◌, length}
+use Rattle.std.proofs.Common.{length-append, map, Option, Some, refl, sym, ap, subst, ◌∙◌, arith}
 use Rattle.std.specs.Prelude.{All, position, slice_get}
 use Rattle.std.specs.Str.{bytes_eq}
 use Rattle.std.specs.Map.{keys_of, values_of}
@@ -38,7 +39,8 @@ module _ {S : Type 0} (m m' : IndexMap (List ℕ) Entry S) (e : Entry) (pushed :
   ids-pushed : ids_of (shown m') ≡ ids_of (shown m) ++ id_of (entry_of e) ∷ []
   ids-pushed = ap ids_of shown-pushed ∙ map-append id_of (shown m) (entry_of e ∷ [])
 
-  pub kept-pushed : (ws ws' : Waiters) → Adds (waits_on e.transaction) ws ws' (length (shown m)) → (askers askers' : Spare Party) (room : Option (List ℕ)) → askers'.items ≡ [] → has_room e ≡ true
+  pub kept-pushed : (ws ws' : Waiters) → Adds (waits_on e.transaction) ws ws' (length (shown m)) →
+      (askers askers' : Spare Party) (room : Option (List ℕ)) → askers'.items ≡ [] → has_room e ≡ true
       → ((n : ℕ) → IsProofBelow n (entry_of e)) → room ≡ Some (id_of (entry_of e)) → CanInsert m askers → IsKept m askers ws room
       → IsKept m' askers' ws' room
   kept-pushed ws ws' adds askers askers' room none asks unproved is can h =
@@ -49,7 +51,8 @@ module _ {S : Type 0} (m m' : IndexMap (List ℕ) Entry S) (e : Entry) (pushed :
         proofs =
             subst (All (IsProofBelow (length (shown m')))) (sym shown-pushed)
             (All-push (IsProofBelow (length (shown m'))) (shown m) (entry_of e)
-            (All-weaker (IsProofBelow (length (shown m))) (IsProofBelow (length (shown m'))) (shown m) (λ x below place at. omega (arith, below place at, n)) h.proofs)
+            (All-weaker (IsProofBelow (length (shown m)))
+            (IsProofBelow (length (shown m'))) (shown m) (λ x below place at. omega (arith, below place at, n)) h.proofs)
             (unproved (length (shown m'))));
         none = none;
         made =
@@ -57,7 +60,8 @@ module _ {S : Type 0} (m m' : IndexMap (List ℕ) Entry S) (e : Entry) (pushed :
             let same : id_of (entry_of e) ≡ id = same_Some _ id (sym is ∙ at) in
             subst (HasRoom m' askers') same
             (record {
-              entry = λ absent. absurd (last_placed (ids_of (shown m)) (id_of (entry_of e)) (ap (position (bytes_eq (id_of (entry_of e)))) (sym ids-pushed) ∙ absent));
+              entry = λ absent. absurd (last_placed (ids_of (shown m))
+                  (id_of (entry_of e)) (ap (position (bytes_eq (id_of (entry_of e)))) (sym ids-pushed) ∙ absent));
               asker =
                   subst (All (λ (x : Entry). id_of (entry_of x) ≡ id_of (entry_of e) → has_room x ≡ true)) (sym values-pushed)
                   (All-push (λ (x : Entry). id_of (entry_of x) ≡ id_of (entry_of e)

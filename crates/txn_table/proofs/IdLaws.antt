@@ -1,5 +1,6 @@
 -- Ids and places, through each change.
-use Rattle.std.proofs.Common.{◌≡◌, ℕ, zero, suc, ◌+◌, Bool, true, false, cond, List, [], ◌∷◌, ◌++◌, length, Option, Some, None, refl, sym, ap, ◌∙◌, arith}
+use Rattle.std.proofs.Common.{◌≡◌, ℕ, zero, suc, ◌+◌, Bool, true, false, cond, List, [], ◌∷◌}
+use Rattle.std.proofs.Common.{◌++◌, length, Option, Some, None, refl, sym, ap, ◌∙◌, arith}
 use Rattle.std.specs.Prelude.{option_map, position, slice_get, slice_set}
 use Rattle.std.specs.List.{IsDistinct}
 use Rattle.std.specs.Option.{option_map_or, option_and_then}
@@ -23,8 +24,10 @@ placed es place e distinct h = by (place_of es (id_of e)) refl
     got = slice_get-map id_of es place ∙ ap (option_map id_of) h
 
     by : (o : Option ℕ) → place_of es (id_of e) ≡ o → place_of es (id_of e) ≡ Some place
-    by None p = absurd (absent (ids_of es) (id_of e) p place (id_of e) (slice_get_within (ids_of es) place (id_of e) got) (get_or_from_slice_get (ids_of es) place (id_of e) (id_of e) got))
-    by (Some j) p = p ∙ ap Some (sym (one_place (ids_of es) (id_of e) j distinct p place (id_of e) (slice_get_within (ids_of es) place (id_of e) got) (get_or_from_slice_get (ids_of es) place (id_of e) (id_of e) got)))
+    by None p = absurd (absent (ids_of es) (id_of e) p place
+        (id_of e) (slice_get_within (ids_of es) place (id_of e) got) (get_or_from_slice_get (ids_of es) place (id_of e) (id_of e) got))
+    by (Some j) p = p ∙ ap Some (sym (one_place (ids_of es) (id_of e) j distinct p place
+        (id_of e) (slice_get_within (ids_of es) place (id_of e) got) (get_or_from_slice_get (ids_of es) place (id_of e) (id_of e) got)))
 
 -- ---- one more
 

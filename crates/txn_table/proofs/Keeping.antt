@@ -1,5 +1,6 @@
 -- What a table keeps, when an entry changes.
-use Rattle.std.proofs.Common.{◌≡◌, ℕ, zero, suc, ◌+◌, ◌<◌, true, cond, List, [], ◌∷◌, length, get_or, set, map, Option, Some, None, refl, sym, ap, subst, ◌∙◌, arith, ◌≢◌, ◌⊎◌, inl, inr}
+use Rattle.std.proofs.Common.{◌≡◌, ℕ, zero, suc, ◌+◌, ◌<◌, true, cond, List, [], ◌∷◌, length, get_or, set}
+use Rattle.std.proofs.Common.{map, Option, Some, None, refl, sym, ap, subst, ◌∙◌, arith, ◌≢◌, ◌⊎◌, inl, inr}
 use Rattle.std.specs.Prelude.{slice_get, position, option_map, All}
 use Rattle.std.specs.Option.{ForSome, option_map_or}
 use Rattle.std.specs.List.{IsDistinct}
@@ -62,7 +63,8 @@ All-at : {X : Type 0} (P : X → Type 0) (xs : List X) (i : ℕ) (x : X) → sli
 All-at P xs i x at all = subst P (get_or_from_slice_get xs i x x at) (all i x (slice_get_within xs i x at))
 
 -- an entry at a place
-module _ {S : Type 0} (m : IndexMap (List ℕ) Entry S) (askers : Spare Party) (room : Option (List ℕ)) (i : ℕ) (e : Entry) (at : slice_get (values m) i ≡ Some e) where
+module _ {S : Type 0} (m : IndexMap (List ℕ) Entry S)
+    (askers : Spare Party) (room : Option (List ℕ)) (i : ℕ) (e : Entry) (at : slice_get (values m) i ≡ Some e) where
   pub shown-at : slice_get (shown m) i ≡ Some (entry_of e)
   shown-at = slice_get-map entry_of (values m) i ∙ ap (option_map entry_of) at
 
@@ -103,7 +105,8 @@ module _ {S : Type 0} (m : IndexMap (List ℕ) Entry S) (askers : Spare Party) (
             record { few = omega (arith, can.few, length-set_value_at m.entries i w); entry = can.entry; asker = can.asker };
         asker =
             subst (All P) (sym (values-set_value_at m.entries i w))
-            (All-set P (values m) i w (λ is. more (All-at P (values m) i e at h.asker (ap (λ (t : TransactionValue). transactions.id t) (sym same) ∙ is))) h.asker);
+            (All-set P (values m) i w (λ is.
+            more (All-at P (values m) i e at h.asker (ap (λ (t : TransactionValue). transactions.id t) (sym same) ∙ is))) h.asker);
       }
 
   places-changed : (id : List ℕ) → places_on id (shown (with_value_at m i w)) ≡ places_on id (shown m)
@@ -121,7 +124,8 @@ module _ {S : Type 0} (m : IndexMap (List ℕ) Entry S) (askers : Spare Party) (
         few = omega (arith, h.few, length-set_value_at m.entries i w);
         proofs =
             subst (λ k. All (IsProofBelow k) (shown (with_value_at m i w))) (sym n)
-            (subst (All (IsProofBelow (length (shown m)))) (sym after) (All-set (IsProofBelow (length (shown m))) (shown m) i (entry_of w) proof h.proofs));
+            (subst (All (IsProofBelow (length (shown m))))
+            (sym after) (All-set (IsProofBelow (length (shown m))) (shown m) i (entry_of w) proof h.proofs));
         none = h.none;
         made = made;
         waits = λ whole id. h.waits whole id ∙ sym (places-changed id);

@@ -1,5 +1,6 @@
 -- The places of the entries that depend on an id.
-use Rattle.std.proofs.Common.{◌≡◌, ℕ, zero, suc, ◌+◌, ◌-◌, ◌<◌, Bool, true, false, cond, List, [], ◌∷◌, ◌++◌, length, filter, Option, Some, None, refl, sym, ap, ◌∙◌, arith, Vec, Global, Bor, length-append, if◌then◌else◌}
+use Rattle.std.proofs.Common.{◌≡◌, ℕ, zero, suc, ◌+◌, ◌-◌, ◌<◌, Bool, true, false, cond, List, [], ◌∷◌, ◌++◌, length, filter}
+use Rattle.std.proofs.Common.{Option, Some, None, refl, sym, ap, ◌∙◌, arith, Vec, Global, Bor, length-append, if◌then◌else◌}
 use Rattle.std.specs.Prelude.{option_map, slice_get, filter_map, is_none, IfSome, ◌&&◌, ◌||◌, ◌==◌}
 use Rattle.std.specs.List.{list_any, enumerate_from, cons_option}
 use Rattle.std.specs.Option.{option_map_or, option_and_then}
@@ -17,7 +18,8 @@ use Rattle.txn_table.specs.declared.waiters.Waiters.{Waiters}
 use Rattle.txn_table.specs.declared.released.Home.{Home}
 use Rattle.txn_table.specs.declared.released.Supposed.{Supposed}
 use Rattle.txn_table.specs.Entries.{EntryValue, is_waiting}
-use Rattle.txn_table.specs.Released.{released, released_among, released_vote, placed_vote, is_dependency, dependencies, depends, some_aborted, all_committed, is_place, outcome_at, vote_after}
+use Rattle.txn_table.specs.Released.{released, released_among, released_vote, placed_vote, is_dependency, dependencies}
+use Rattle.txn_table.specs.Released.{depends, some_aborted, all_committed, is_place, outcome_at, vote_after}
 use Rattle.txn_table.specs.Tables.{id_of, place_of}
 use Rattle.txn_table.specs.Waiters.{reads_on, waits_on, places_from, places_on, ends_with, with_place, listed, SamePlaces, Adds, AreListed}
 use Rattle.basil_types.proofs.KeyLaws.{lookup-set_value}
@@ -73,7 +75,8 @@ pub one-more : (id : List ℕ) (es : List EntryValue) (e : EntryValue)
     → cond (waits_on e.transaction id) (with_place (length es) (places_on id es)) (places_on id es) ≡ places_on id (es ++ e ∷ [])
 one-more id es e =
     let n : 0 + length es ≡ length es = omega arith in
-    chosen (waits_on e.transaction id) (length es) (places_on id es) (not_last (length es) (places_on id es) (λ i x h. let b : x < 0 + length es = below id 0 es i x h in omega (arith, b, n)))
+    chosen (waits_on e.transaction id) (length es) (places_on id es)
+    (not_last (length es) (places_on id es) (λ i x h. let b : x < 0 + length es = below id 0 es i x h in omega (arith, b, n)))
     ∙ sym (pushed id 0 es e ∙ ap (λ (j : ℕ). places_on id es ++ cond (waits_on e.transaction id) (j ∷ []) []) n)
 
 -- ---- lists at ids
@@ -174,7 +177,8 @@ none-listed w entries none is whole id = is id ∙ sym (ap (places_on id) none)
 
 -- what is found where the lists are whole
 pub listed-found : (w : Waiters) (entries : List EntryValue) (id : List ℕ) (o : Option (Bor (List ℕ))) → AreListed w entries
-    → IfSome o (λ places. w.whole ≡ true) → IfSome o (λ places. places.now ≡ listed w id) → IfSome o (λ places. places.now ≡ places_on id entries)
+    → IfSome o (λ places. w.whole ≡ true) →
+    IfSome o (λ places. places.now ≡ listed w id) → IfSome o (λ places. places.now ≡ places_on id entries)
 listed-found w entries id None are whole is = is
 listed-found w entries id (Some places) are whole is = is ∙ are whole id
 
@@ -198,7 +202,8 @@ module _ (home : Home) (s : Supposed) (all : List EntryValue) (x : EntryValue) (
     where
       by : (b : Bool) → (j == s.place) ≡ b → (j == s.place) ≡ false
       by true e =
-          let found : option_map id_of (slice_get all s.place) ≡ Some r.version.id = entry_placed all r.version.id s.place (at ∙ ap Some (eqb-true j s.place e)) in
+          let found : option_map id_of (slice_get all s.place) ≡ Some r.version.id =
+          entry_placed all r.version.id s.place (at ∙ ap Some (eqb-true j s.place e)) in
           let own : id_of x ≡ r.version.id = same_Some (id_of x) r.version.id (sym (ap (option_map id_of) held) ∙ found) in
           absurd (false≢true (sym other ∙ (bytes_decides r.version.id (id_of x)).1 (sym own)))
       by false e = e
@@ -230,7 +235,8 @@ module _ (home : Home) (s : Supposed) (all : List EntryValue) (x : EntryValue) (
     where
       after : (reads : List ReadPart) → depends s all reads ≡ false → vote_after s all reads ≡ None
       after reads h =
-          ap (λ (c : Bool). if c then (if some_aborted s all reads then Some Abort else (if all_committed s all reads then Some Commit else None)) else None) h
+          ap (λ (c : Bool). if c then
+          (if some_aborted s all reads then Some Abort else (if all_committed s all reads then Some Commit else None)) else None) h
 
   pub among_from : (k : ℕ) (es : List EntryValue) → ((i : ℕ) (e : EntryValue) → slice_get es i ≡ Some e → slice_get all (k + i) ≡ Some e)
       → filter_map (placed_vote home s all) (places_from (id_of x) k es)
@@ -247,12 +253,14 @@ module _ (home : Home) (s : Supposed) (all : List EntryValue) (x : EntryValue) (
           → placed_vote home s all k ≡ placed k (released_vote home s all k e)
           → (b : Bool) → waits_on e.transaction (id_of x) ≡ b
           → filter_map (placed_vote home s all) (cond b (k ∷ places_from (id_of x) (k + 1) es) (places_from (id_of x) (k + 1) es))
-          ≡ cons_option (placed k (released_vote home s all k e)) (filter_map (λ y. option_map (λ vote. (y.0, vote)) (released_vote home s all y.0 y.1)) (enumerate_from (k + 1) es))
+          ≡ cons_option (placed k (released_vote home s all k e))
+          (filter_map (λ y. option_map (λ vote. (y.0, vote)) (released_vote home s all y.0 y.1)) (enumerate_from (k + 1) es))
       by rest this true w =
           ap (λ (o : Option (ℕ × Decision)). cons_option o (filter_map (placed_vote home s all) (places_from (id_of x) (k + 1) es))) this
           ∙ ap (cons_option (placed k (released_vote home s all k e))) rest
       by rest this false w =
-          rest ∙ sym (ap (λ (o : Option Decision). cons_option (placed k o) (filter_map (λ y. option_map (λ vote. (y.0, vote)) (released_vote home s all y.0 y.1)) (enumerate_from (k + 1) es))) (unlisted k e w))
+          rest ∙ sym (ap (λ (o : Option Decision). cons_option (placed k o) (filter_map
+          (λ y. option_map (λ vote. (y.0, vote)) (released_vote home s all y.0 y.1)) (enumerate_from (k + 1) es))) (unlisted k e w))
 
   -- those listed at the id of the supposed place are all that can be released
   pub among : released_among home s all (places_on (id_of x) all) ≡ released home s all

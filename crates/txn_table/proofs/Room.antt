@@ -1,5 +1,6 @@
 -- What a table keeps, when room is made.
-use Rattle.std.proofs.Common.{◌≡◌, ℕ, zero, suc, ◌≤◌, true, List, [], ◌∷◌, length, get_or, map, Option, None, refl, sym, ap, subst, ◌∙◌, arith}
+use Rattle.std.proofs.Common.{◌≡◌, ℕ, zero, suc, ◌≤◌, true, List, [], ◌∷◌, length}
+use Rattle.std.proofs.Common.{get_or, map, Option, None, refl, sym, ap, subst, ◌∙◌, arith}
 use Rattle.std.specs.Prelude.{All}
 use Rattle.std.specs.Option.{ForSome}
 use Rattle.std.specs.Map.{keys_of, values_of}
@@ -45,14 +46,22 @@ module _ {S : Type 0} (m m' : IndexMap (List ℕ) Entry S) (same : m'.entries �
         entry =
             λ none.
             let can = h.entry (ap (λ es. place_of (map entry_of (values_of es)) id) (sym same) ∙ none) in
-            record { few = omega (arith, can.few, ap length same); entry = omega (arith, can.entry, more); asker = omega (arith, can.asker, ap (λ (s : Spare Party). s.room) same_askers) };
+            record {
+              few = omega (arith, can.few, ap length same);
+              entry = omega (arith, can.entry, more);
+              asker = omega (arith, can.asker, ap (λ (s : Spare Party). s.room) same_askers);
+            };
         asker = subst (λ es. All (λ e. id_of (entry_of e) ≡ id → has_room e ≡ true) (values_of es)) (sym same) h.asker;
       }
 
 -- room for the entry of an id that isn't held
 pub room-new : {S : Type 0} (m : IndexMap (List ℕ) Entry S) (askers : Spare Party) (id : List ℕ) → CanInsert m askers
     → place_of (shown m) id ≡ None → HasRoom m askers id
-room-new m askers id can none = record { entry = λ _. can; asker = λ k d h is. absurd (absent (ids_of (shown m)) id none k (id_of (entry_of d)) (omega (arith, h, length-ids (values m))) (id-at (values m) k d ∙ is)) }
+room-new m askers id can none = record {
+  entry = λ _. can;
+  asker = λ k d h is. absurd
+      (absent (ids_of (shown m)) id none k (id_of (entry_of d)) (omega (arith, h, length-ids (values m))) (id-at (values m) k d ∙ is));
+}
 
 -- room for places alone
 pub kept-room : {S : Type 0} (m : IndexMap (List ℕ) Entry S) (askers : Spare Party) (ws ws' : Waiters) (room : Option (List ℕ))

@@ -50,9 +50,11 @@ module _ (signature certificate : List ℕ → Bool) where
     arrives = arrives;
     asks = λ es p asker k. change (asked asker) es p k (λ e. asks asker e.vote (is_outcome_stored certificate e.outcome));
     votes = λ es p vote bytes proof k s.
-        change (voted vote bytes proof) es p k (λ e h. and_from (signature bytes) (is_outcome_stored certificate e.outcome) s (and_parts (is_vote_stored signature e.vote) (is_outcome_stored certificate e.outcome) h).1);
+        change (voted vote bytes proof) es p k (λ e h. and_from (signature bytes) (is_outcome_stored certificate e.outcome) s
+        (and_parts (is_vote_stored signature e.vote) (is_outcome_stored certificate e.outcome) h).1);
     decides = λ es p outcome bytes k s.
-        change (decided outcome bytes) es p k (λ e h. and_from (is_vote_stored signature e.vote) (certificate bytes) (and_parts (is_vote_stored signature e.vote) (is_outcome_stored certificate e.outcome) h).0 s);
+        change (decided outcome bytes) es p k (λ e h. and_from (is_vote_stored signature e.vote)
+        (certificate bytes) (and_parts (is_vote_stored signature e.vote) (is_outcome_stored certificate e.outcome) h).0 s);
     signed = λ es p e vote bytes proof k h is.
         sym (ap (is_vote_stored signature) is)
         ∙ (and_parts (is_vote_stored signature e.vote) (is_outcome_stored certificate e.outcome) (got es p e k h)).0;

@@ -1,5 +1,6 @@
 -- What tables promise of ids, of what is stored, and of released votes.
-use Rattle.std.specs.Prelude.{◌≡◌, ℕ, ◌+◌, ◌≤◌, ◌++◌, ◌∷◌, [], List, Bool, true, Option, Some, None, option_map, slice_get, length, ⊤}
+use Rattle.std.specs.Prelude.{◌≡◌, ℕ, ◌+◌, ◌≤◌, ◌++◌, ◌∷◌, [], List, Bool, true}
+use Rattle.std.specs.Prelude.{Option, Some, None, option_map, slice_get, length, ⊤}
 use Rattle.std.specs.List.{IsDistinct}
 use Rattle.std.specs.Str.{bytes_eq}
 use Rattle.basil_types.specs.declared.party.Party.{Party}
@@ -8,7 +9,8 @@ use Rattle.basil_types.specs.Transaction.{TransactionValue}
 use Rattle.basil_types.specs.Transaction as transactions
 use Rattle.txn_table.specs.declared.released.Home.{Home}
 use Rattle.txn_table.specs.declared.released.Supposed.{Supposed}
-use Rattle.txn_table.specs.Entries.{Voted, OutcomeValue, EntryValue, arrived, asked, voted, decided, is_waiting, decision_of}
+use Rattle.txn_table.specs.Entries.{Voted, OutcomeValue, EntryValue, arrived}
+use Rattle.txn_table.specs.Entries.{asked, voted, decided, is_waiting, decision_of}
 use Rattle.txn_table.specs.Released.{released}
 use Rattle.txn_table.specs.Stored.{are_stored}
 use Rattle.txn_table.specs.Tables.{id_of, ids_of, place_of, entry_with, changed}

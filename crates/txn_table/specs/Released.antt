@@ -1,5 +1,6 @@
 -- Which votes an outcome releases.
-use Rattle.std.specs.Prelude.{ℕ, List, Bool, true, false, ◌&&◌, ◌==◌, Option, Some, None, option_map, is_none, filter, filter_map, slice_get, if◌then◌else◌}
+use Rattle.std.specs.Prelude.{ℕ, List, Bool, true, false, ◌&&◌, ◌==◌, Option, Some, None}
+use Rattle.std.specs.Prelude.{option_map, is_none, filter, filter_map, slice_get, if◌then◌else◌}
 use Rattle.std.specs.List.{list_any, list_all, enumerate_from}
 use Rattle.std.specs.Option.{option_and_then}
 use Rattle.basil_types.specs.declared.party.Decision.{Decision}

@@ -1,5 +1,6 @@
 -- A table as callers see it.
-use Rattle.std.specs.Prelude.{◌≡◌, ℕ, ◌<◌, List, Bool, false, Option, option_map, position, map, length, slice_get, slice_set, All}
+use Rattle.std.specs.Prelude.{◌≡◌, ℕ, ◌<◌, List, Bool, false, Option, option_map}
+use Rattle.std.specs.Prelude.{position, map, length, slice_get, slice_set, All}
 use Rattle.std.specs.List.{IsDistinct}
 use Rattle.std.specs.Option.{option_map_or, option_and_then, ForSome}
 use Rattle.std.specs.Str.{bytes_eq}

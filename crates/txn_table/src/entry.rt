@@ -2,7 +2,8 @@
 
 ghost use Rattle.std.specs.Prelude.{◌≡◌, ◌<◌, [], None, Some, OnOk, OnErr, option_map, true, false};
 ghost use Rattle.basil_types.specs.Shown.{transaction_of};
-ghost use Rattle.txn_table.specs.Entries.{arrived, asked, voted, decided, is_waiting, askers_of, decision_of, outcome_of};
+ghost use Rattle.txn_table.specs.Entries.{arrived, asked, voted, decided, is_waiting};
+ghost use Rattle.txn_table.specs.Entries.{askers_of, decision_of, outcome_of};
 ghost use Rattle.txn_table.specs.Shown.{entry_of, has_room, Tells};
 ghost use Rattle.txn_table.specs.Tables as tables;
 

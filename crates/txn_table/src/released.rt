@@ -1,6 +1,7 @@
 //! Votes that an outcome releases (Basil, first stage: a replica votes once a transaction's dependencies are decided).
 
-ghost use Rattle.std.specs.Prelude.{◌≡◌, ◌<◌, ◌≤◌, ◌&&◌, ◌||◌, None, Some, IfOk, length, slice_get, option_map, true, false};
+ghost use Rattle.std.specs.Prelude.{◌≡◌, ◌<◌, ◌≤◌, ◌&&◌, ◌||◌, None, Some, IfOk};
+ghost use Rattle.std.specs.Prelude.{length, slice_get, option_map, true, false};
 ghost use Rattle.std.specs.Option.{option_and_then};
 ghost use Rattle.basil_types.specs.Shown.{transaction_of, read_of};
 ghost use Rattle.txn_table.specs.Tables.{decision_at};

@@ -1,6 +1,7 @@
 //! The table of the transactions that a replica knows.
 
-ghost use Rattle.std.specs.Prelude.{◌≡◌, ◌<◌, ◌≤◌, ◌+◌, ◌-◌, ◌^◌, ◌++◌, ◌∷◌, [], None, Some, OnOk, OnErr, IsErr, IfSome, length, option_map, slice_get, false};
+ghost use Rattle.std.specs.Prelude.{◌≡◌, ◌<◌, ◌≤◌, ◌+◌, ◌-◌, ◌^◌, ◌++◌, ◌∷◌, [], None, Some, OnOk};
+ghost use Rattle.std.specs.Prelude.{OnErr, IsErr, IfSome, length, option_map, slice_get, false};
 ghost use Rattle.std.specs.Option.{ForSome};
 ghost use Rattle.basil_types.specs.Shown.{transaction_of};
 ghost use Rattle.basil_types.specs.Transaction as transactions;

@@ -1,5 +1,6 @@
 -- The marks of voters, and the votes, after one more.
-use Rattle.std.proofs.Common.{◌≡◌, ◌≢◌, ℕ, zero, suc, ◌+◌, ◌*◌, ◌<◌, ◌⊎◌, inl, inr, Bool, true, false, cond, List, [], ◌∷◌, ◌++◌, length, get_or, set, refl, sym, ap, ◌∙◌, arith}
+use Rattle.std.proofs.Common.{◌≡◌, ◌≢◌, ℕ, zero, suc, ◌+◌, ◌*◌, ◌<◌, ◌⊎◌, inl, inr, Bool, true, false}
+use Rattle.std.proofs.Common.{cond, List, [], ◌∷◌, ◌++◌, length, get_or, set, refl, sym, ap, ◌∙◌, arith}
 use Rattle.std.specs.Prelude.{count_by, not, ◌||◌, ◌==◌}
 use Rattle.std.specs.List.{list_any, list_all, IsDistinct}
 use Rattle.std.specs.Cmp.{on_equiv, nat_eq_equiv}
@@ -74,7 +75,8 @@ pub added_is : (c : Setting) (old new : List FirstVote) (v : FirstVote) → has_
     (let t : TallyValue = record { cluster = c; votes = new } in t) ≡ added (record { cluster = c; votes = old }) v
 added_is c old new v h e =
     ap (λ (votes : List FirstVote). let t : TallyValue = record { cluster = c; votes = votes } in t) e
-    ∙ sym (ap (λ b. cond b (let t : TallyValue = record { cluster = c; votes = old } in t) (record { cluster = c; votes = old ++ v ∷ [] })) h)
+    ∙ sym (ap (λ b. cond b (let t : TallyValue = record { cluster = c; votes = old } in t)
+    (record { cluster = c; votes = old ++ v ∷ [] })) h)
 
 turned : (votes : List FirstVote) (v : FirstVote) → list_any (λ w. v.replica == w.replica) votes ≡ has_voted votes v.replica
 turned [] v = refl

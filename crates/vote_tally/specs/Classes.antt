@@ -4,7 +4,8 @@ use Rattle.basil_types.specs.Setting.{Setting}
 use Rattle.quorum_laws.specs.Numbers.{fast_commit, fast_abort, commit_tally, abort_tally}
 use Rattle.vote_tally.specs.declared.votes.FirstVote.{FirstVote}
 use Rattle.vote_tally.specs.declared.classes.Class.{Class}
-use Rattle.vote_tally.specs.declared.classes.Class.TheVariants.{FastCommit, FastAbort, ConflictAbort, Both, CommitTally, AbortTally, Open}
+use Rattle.vote_tally.specs.declared.classes.Class.TheVariants.{FastCommit, FastAbort, ConflictAbort}
+use Rattle.vote_tally.specs.declared.classes.Class.TheVariants.{Both, CommitTally, AbortTally, Open}
 use Rattle.vote_tally.specs.Votes.{commits_of, aborts_of, has_proof}
 
 -- whether a class holds of votes of distinct replicas, whatever other does

@@ -15,8 +15,8 @@ use std::marker::Model;
 /// The replicas of a shard where f is 6, the greatest that a cluster takes.
 const MOST_REPLICAS: usize = 31;
 
-/// The first votes of a shard's replicas, in order. Contracts see the cluster and the list of these votes; beside them it
-/// keeps who has voted and the counts. It takes no memory.
+/// The first votes of a shard's replicas, in order. Contracts see the cluster and the list of these votes; beside them
+/// it keeps who has voted and the counts. It takes no memory.
 #[derive(Drop)]
 pub struct Tally {
     cluster: Cluster,
@@ -60,8 +60,8 @@ impl Tally {
         }
     }
 
-    /// Counts the vote of a replica of the shard, unless that replica has voted before. True exactly for its first vote.
-    /// A proof is what shows that the transaction conflicts with a committed one; only that of an abort counts.
+    /// Counts the vote of a replica of the shard, unless that replica has voted before. True exactly for its first
+    /// vote. A proof is what shows that the transaction conflicts with a committed one; only that of an abort counts.
     pub fn add(&mut self, replica: u8, vote: Decision, proof: bool) -> bool
         requires { replica < replicas self.old.cluster.f }
         ensures first { result ≡ not (has_voted self.old.votes replica) }

@@ -13,8 +13,8 @@ use std::alloc::Global;
 use std::marker::Model;
 use std::vec::IntoIter;
 
-/// Connections in memory, taken one after another, with what is written to them, and lists of what was asked of them and
-/// carried.
+/// Connections in memory, taken one after another, with what is written to them, and lists of what was asked of them
+/// and carried.
 #[derive(Drop)]
 pub(crate) struct Connections {
     alloc: Global,

@@ -2,7 +2,8 @@
 
 ghost use Rattle.std.specs.Prelude.{◌≡◌, []};
 ghost use Rattle.basil_types.specs.Lists.{items_at};
-ghost use Rattle.basil_types.specs.Parsed.{head_at, read_at, write_at, reads_at, writes_at, before_writes_at, transaction_at};
+ghost use Rattle.basil_types.specs.Parsed.{head_at, read_at, write_at, reads_at};
+ghost use Rattle.basil_types.specs.Parsed.{writes_at, before_writes_at, transaction_at};
 ghost use Rattle.basil_types.specs.Transaction.{key_of_read, key_of_write};
 ghost use Rattle.basil_types.specs.Inner.{head_of, reads_of, writes_of, whole_of};
 ghost use Rattle.basil_types.specs.Shown.{transaction_of};

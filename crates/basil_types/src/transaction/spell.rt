@@ -1,11 +1,14 @@
 //! The faults and the canonical bytes of owned parts.
 
-ghost use Rattle.std.specs.Prelude.{◌≡◌, ◌+◌, ◌++◌, ◌≤◌, ◌<◌, ◌^◌, ◌∷◌, IfOk, IfNone, IfSome, OnOk, All, length, map, not, position, ℕ};
+ghost use Rattle.std.specs.Prelude.{◌≡◌, ◌+◌, ◌++◌, ◌≤◌, ◌<◌, ◌^◌, ◌∷◌, IfOk, IfNone};
+ghost use Rattle.std.specs.Prelude.{IfSome, OnOk, All, length, map, not, position, ℕ};
 ghost use Rattle.std.specs.List.{flat_map, list_any};
 ghost use Rattle.basil_types.specs.Built as built_of;
-ghost use Rattle.basil_types.specs.Built.{built, build_fault, read_fits, write_fits, order_fault, ReadInRange, WriteInRange};
+ghost use Rattle.basil_types.specs.Built.{built, build_fault, read_fits, write_fits};
+ghost use Rattle.basil_types.specs.Built.{order_fault, ReadInRange, WriteInRange};
 ghost use Rattle.basil_types.specs.Texts.{IsBytes, IsVersion};
-ghost use Rattle.basil_types.specs.Transaction.{canonical, short_text, long_text, version_bytes, read_bytes, written_bytes, write_bytes, key_of_read, key_of_write};
+ghost use Rattle.basil_types.specs.Transaction.{canonical, short_text, long_text, version_bytes, read_bytes};
+ghost use Rattle.basil_types.specs.Transaction.{written_bytes, write_bytes, key_of_read, key_of_write};
 
 use super::fault::BuildFault;
 use super::parts::{ReadPart, WritePart};

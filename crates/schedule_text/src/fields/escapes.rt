@@ -48,7 +48,8 @@ fn escape(percent: u8, high: u8, low: u8) -> Option<u8>
 /// The first byte that a word spells, and what is left of the word.
 fn next_byte(word: &[u8]) -> Option<(u8, &[u8])>
     requires { 0 < length word.now }
-    ensures value { MatchOption result (unescaped word.entry.now ≡ None) (λ t. unescaped word.entry.now ≡ onto (Some t.0) (unescaped t.1.now)) }
+    ensures value { MatchOption result (unescaped word.entry.now ≡ None)
+        (λ t. unescaped word.entry.now ≡ onto (Some t.0) (unescaped t.1.now)) }
     ensures shorter { IfSome result (λ t. length t.1.now < length word.entry.now) }
 {
     match word {

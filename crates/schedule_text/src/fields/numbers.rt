@@ -1,6 +1,7 @@
 //! Numbers in decimal digits.
 
-ghost use Rattle.std.specs.Prelude.{◌≡◌, ◌-◌, ◌==◌, ◌^◌, ◌<◌, ◌||◌, not, true, length, if◌then◌else◌, nat_lt, slice_index, Some, None};
+ghost use Rattle.std.specs.Prelude.{◌≡◌, ◌-◌, ◌==◌, ◌^◌, ◌<◌, ◌||◌, not, true, length};
+ghost use Rattle.std.specs.Prelude.{if◌then◌else◌, nat_lt, slice_index, Some, None};
 ghost use Rattle.std.specs.List.{list_all};
 ghost use Rattle.std.specs.Str.Parse.{digits_value};
 ghost use Rattle.schedule_text.specs.Fields.{number, number_in, is_canonical, is_digit, views};
@@ -25,7 +26,8 @@ fn is_digits(word: &[u8]) -> bool
 fn value_of(digits: &[u8]) -> Option<u64>
     requires some { 0 < length digits.now }
     requires digits { list_all is_digit digits.now ≡ true }
-    ensures { result ≡ (if nat_lt (digits_value 10 digits.now) (2 ^ 64) then Some (digits_value 10 digits.now) else None) }
+    ensures { result
+        ≡ (if nat_lt (digits_value 10 digits.now) (2 ^ 64) then Some (digits_value 10 digits.now) else None) }
 {
     match str::from_utf8(digits) {
         Ok(text) => text.parse::<u64>().ok(),

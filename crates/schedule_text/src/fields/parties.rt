@@ -19,7 +19,8 @@ pub fn read_place(shard: &[u8], replica: &[u8]) -> Result<(u8, u8), Complaint>
 
 /// `S R`, and what stands behind.
 fn read_replica_party(rest: Option<&[u8]>) -> Option<(Result<Party, Complaint>, Option<&[u8]>)>
-    ensures { MatchOption result (replica_party (words_after (option_copied rest.entry)) ≡ None) (λ t. replica_party (words_after (option_copied rest.entry)) ≡ Some (t.0, words_after (option_copied t.1))) }
+    ensures { MatchOption result (replica_party (words_after (option_copied rest.entry)) ≡ None)
+        (λ t. replica_party (words_after (option_copied rest.entry)) ≡ Some (t.0, words_after (option_copied t.1))) }
 {
     let (shard, rest) = next(rest)?;
     let (replica, rest) = next(rest)?;
@@ -32,7 +33,8 @@ fn read_replica_party(rest: Option<&[u8]>) -> Option<(Result<Party, Complaint>, 
 
 /// `C`, and what stands behind.
 fn read_client_party(rest: Option<&[u8]>) -> Option<(Result<Party, Complaint>, Option<&[u8]>)>
-    ensures { MatchOption result (client_party (words_after (option_copied rest.entry)) ≡ None) (λ t. client_party (words_after (option_copied rest.entry)) ≡ Some (t.0, words_after (option_copied t.1))) }
+    ensures { MatchOption result (client_party (words_after (option_copied rest.entry)) ≡ None)
+        (λ t. client_party (words_after (option_copied rest.entry)) ≡ Some (t.0, words_after (option_copied t.1))) }
 {
     let (client, rest) = next(rest)?;
     let party = match read_client(client) {
@@ -45,7 +47,8 @@ fn read_client_party(rest: Option<&[u8]>) -> Option<(Result<Party, Complaint>, O
 #[tactic(auto, unfolding(crate::specs::Parties::party))]
 /// `replica S R` or `client C`, and what stands behind; none where the words begin otherwise.
 pub fn read_party(rest: Option<&[u8]>) -> Option<(Result<Party, Complaint>, Option<&[u8]>)>
-    ensures { MatchOption result (party (words_after (option_copied rest.entry)) ≡ None) (λ t. party (words_after (option_copied rest.entry)) ≡ Some (t.0, words_after (option_copied t.1))) }
+    ensures { MatchOption result (party (words_after (option_copied rest.entry)) ≡ None)
+        (λ t. party (words_after (option_copied rest.entry)) ≡ Some (t.0, words_after (option_copied t.1))) }
 {
     let (kind, rest) = next(rest)?;
     if is_text(kind, b"replica") {

@@ -66,7 +66,8 @@ pub fn read_keys_kind(word: &[u8]) -> Result<KeysKind, Complaint>
 #[tactic(auto, unfolding(crate::specs::Fields::behind))]
 /// What stands behind the label in a word that begins with it.
 fn behind<'a>(word: &'a [u8], label: &[u8]) -> Option<&'a [u8]>
-    ensures { MatchOption result (Rattle.schedule_text.specs.Fields.behind label.now word.entry.now ≡ None) (λ rest. Rattle.schedule_text.specs.Fields.behind label.now word.entry.now ≡ Some rest.now) }
+    ensures { MatchOption result (Rattle.schedule_text.specs.Fields.behind label.now word.entry.now ≡ None)
+        (λ rest. Rattle.schedule_text.specs.Fields.behind label.now word.entry.now ≡ Some rest.now) }
 {
     word.strip_prefix(label)
 }

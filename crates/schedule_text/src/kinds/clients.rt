@@ -2,7 +2,8 @@
 
 ghost use Rattle.std.specs.Prelude.{◌≡◌, IfOk, option_copied, List, ℕ};
 ghost use Rattle.schedule_text.specs.Words.{words_after};
-ghost use Rattle.schedule_text.specs.Lines.{begin, read, write_of, delete, claim, prepare, call, settle, recover, invoke};
+ghost use Rattle.schedule_text.specs.Lines.{begin, read, write_of, delete, claim};
+ghost use Rattle.schedule_text.specs.Lines.{prepare, call, settle, recover, invoke};
 
 use crate::complaint::{Complaint, read_all3, read_both};
 use crate::fields::escapes::{read_key, read_value};

@@ -2,7 +2,8 @@
 
 ghost use Rattle.std.specs.Prelude.{◌≡◌, option_copied, true, false};
 ghost use Rattle.schedule_text.specs.Words.{words_after};
-ghost use Rattle.schedule_text.specs.Headers.{cluster_numbers, header_fields, journal_fields, seven_fields, eight_fields, cluster_of, header};
+ghost use Rattle.schedule_text.specs.Headers.{cluster_numbers, header_fields, journal_fields};
+ghost use Rattle.schedule_text.specs.Headers.{seven_fields, eight_fields, cluster_of, header};
 ghost use Rattle.schedule_text.specs.Words.{seven_of, eight_of};
 
 use crate::complaint::{Complaint, read_all4, read_both};
@@ -62,7 +63,15 @@ fn read_fields(
     words: (&[u8], &[u8], &[u8], &[u8], &[u8], &[u8], &[u8]),
     journal: bool,
 ) -> Result<HeaderFields, Complaint>
-    ensures { result ≡ header_fields journal (words.entry.0.now, words.entry.1.now, words.entry.2.now, words.entry.3.now, words.entry.4.now, words.entry.5.now, words.entry.6.now) }
+    ensures { result ≡ header_fields journal (
+      words.entry.0.now,
+      words.entry.1.now,
+      words.entry.2.now,
+      words.entry.3.now,
+      words.entry.4.now,
+      words.entry.5.now,
+      words.entry.6.now,
+    ) }
 {
     let (version, f, shards, reads, delta, clock, keys) = words;
     let fields = read_all4(
@@ -87,7 +96,16 @@ fn read_fields(
 fn read_journal_fields(
     words: (&[u8], &[u8], &[u8], &[u8], &[u8], &[u8], &[u8], &[u8]),
 ) -> Result<HeaderFields, Complaint>
-    ensures { result ≡ journal_fields (words.entry.0.now, words.entry.1.now, words.entry.2.now, words.entry.3.now, words.entry.4.now, words.entry.5.now, words.entry.6.now, words.entry.7.now) }
+    ensures { result ≡ journal_fields (
+      words.entry.0.now,
+      words.entry.1.now,
+      words.entry.2.now,
+      words.entry.3.now,
+      words.entry.4.now,
+      words.entry.5.now,
+      words.entry.6.now,
+      words.entry.7.now,
+    ) }
 {
     let (version, f, shards, reads, delta, clock, keys, last) = words;
     let fields = read_fields((version, f, shards, reads, delta, clock, keys), true);
@@ -117,7 +135,8 @@ fn read_cluster(numbers: ClusterNumbers) -> Result<Cluster, Complaint>
 
 /// The seven words of a header, or the eight of one with `journal`.
 fn read_words(rest: Option<&[u8]>) -> Result<HeaderFields, Complaint>
-    ensures { result ≡ seven_fields (eight_fields (eight_of (words_after (option_copied rest.entry)))) (seven_of (words_after (option_copied rest.entry))) }
+    ensures { result ≡ seven_fields (eight_fields (eight_of (words_after (option_copied rest.entry))))
+        (seven_of (words_after (option_copied rest.entry))) }
 {
     if let Some(words) = seven(rest) {
         return read_fields(words, false);

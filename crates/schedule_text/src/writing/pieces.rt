@@ -3,7 +3,8 @@
 ghost use Rattle.std.specs.Prelude.{◌≡◌, ◌++◌, ◌∷◌, [], decimal, OnOk, codes};
 ghost use Rattle.std.specs.List.{flat_map};
 ghost use Rattle.hex.specs.Hex.{encode_lower};
-ghost use Rattle.schedule_text.specs.Spelling.{keys_word, decision_word, key_word, value_word, spelled_byte, party_words, journal_words};
+ghost use Rattle.schedule_text.specs.Spelling.{keys_word, decision_word, key_word, value_word};
+ghost use Rattle.schedule_text.specs.Spelling.{spelled_byte, party_words, journal_words};
 ghost use Rattle.schedule_text.specs.Pieces.{piece_words, spaced};
 
 use crate::fields::escapes::is_plain;

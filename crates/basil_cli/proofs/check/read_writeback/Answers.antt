@@ -6,4 +6,5 @@ use Rattle.basil_cli.proofs.check.read_writeback.Goals as goal
 
 pub returns-in-Ok-Writeback-clause-fits : goal.returns-in-Ok-Writeback-clause-fits
 returns-in-Ok-Writeback-clause-fits c =
-    subst (λ (v : MessageView). FitsMessage (bounds_of c.args.cluster.now) (message_of v)) c.in-Ok-Writeback.field-0-is c.in-Ok-Writeback.ensures.found.fits
+    subst (λ (v : MessageView). FitsMessage (bounds_of c.args.cluster.now) (message_of v))
+    c.in-Ok-Writeback.field-0-is c.in-Ok-Writeback.ensures.found.fits

@@ -15,14 +15,16 @@ returns-then-len-gt-LONGEST_INPUT-clause-through g c =
     (g.S.Source.left c.args.source.now)
     (g.S.Source.left c.read.new.self)
     c.extend_from_slice.new.self.items
-    (consumes-more (g.S.Source.left c.args.source.now) (g.S.Source.left c.turns.source) (g.S.Source.left c.read.new.self) c.turns.all.items piece c.extend_from_slice.new.self.items more c.turns.invariant.consumed c.in-Ok.ensures.bytes.0)
+    (consumes-more (g.S.Source.left c.args.source.now) (g.S.Source.left c.turns.source) (g.S.Source.left c.read.new.self)
+    c.turns.all.items piece c.extend_from_slice.new.self.items more c.turns.invariant.consumed c.in-Ok.ensures.bytes.0)
     (too-long c.extend_from_slice.new.self.items long)
 
 pub returns-in-Ok-eq0-clause-soon : goal.returns-in-Ok-eq0-clause-soon
 returns-in-Ok-eq0-clause-soon g c =
     let fits : length c.read.new.buf ≤ longest_piece = search rules in
     stops_behind is_too_long (g.S.Source.left c.args.source.now) (g.S.Source.left c.turns.source) (g.S.Source.left c.read.new.self)
-    c.turns.all.items c.read.new.buf c.in-Ok-eq0.field-0 (short c.turns.all.items c.turns.invariant.short) fits c.turns.invariant.consumed c.in-Ok-eq0.ensures.bytes.0
+    c.turns.all.items c.read.new.buf c.in-Ok-eq0.field-0
+    (short c.turns.all.items c.turns.invariant.short) fits c.turns.invariant.consumed c.in-Ok-eq0.ensures.bytes.0
 
 pub returns-in-Err-clause-soon : goal.returns-in-Err-clause-soon
 returns-in-Err-clause-soon g c =
@@ -33,14 +35,16 @@ pub returns-then-is_err-clause-soon : goal.returns-then-is_err-clause-soon
 returns-then-is_err-clause-soon g c =
     let fits : length c.read.new.buf ≤ longest_piece = search rules in
     stops_behind is_too_long (g.S.Source.left c.args.source.now) (g.S.Source.left c.turns.source) (g.S.Source.left c.read.new.self)
-    c.turns.all.items c.read.new.buf c.in-Ok.count (short c.turns.all.items c.turns.invariant.short) fits c.turns.invariant.consumed c.in-Ok.ensures.bytes.0
+    c.turns.all.items c.read.new.buf c.in-Ok.count
+    (short c.turns.all.items c.turns.invariant.short) fits c.turns.invariant.consumed c.in-Ok.ensures.bytes.0
 
 pub returns-then-len-gt-LONGEST_INPUT-clause-soon :
     goal.returns-then-len-gt-LONGEST_INPUT-clause-soon
 returns-then-len-gt-LONGEST_INPUT-clause-soon g c =
     let fits : length c.read.new.buf ≤ longest_piece = search rules in
     stops_behind is_too_long (g.S.Source.left c.args.source.now) (g.S.Source.left c.turns.source) (g.S.Source.left c.read.new.self)
-    c.turns.all.items c.read.new.buf c.in-Ok.count (short c.turns.all.items c.turns.invariant.short) fits c.turns.invariant.consumed c.in-Ok.ensures.bytes.0
+    c.turns.all.items c.read.new.buf c.in-Ok.count
+    (short c.turns.all.items c.turns.invariant.short) fits c.turns.invariant.consumed c.in-Ok.ensures.bytes.0
 
 pub returns-clause-soon : goal.returns-clause-soon
 returns-clause-soon g c =

@@ -4,7 +4,8 @@ use Rattle.schedule_replay.proofs.RoadLaws.{carries_as, carries_both, carries_no
 use Rattle.schedule_replay.specs.Roads.{road_with}
 use Rattle.basil_cli.specs.Reading.{is_settled, longest_piece}
 use Rattle.basil_cli.specs.declared.input.InputFail.TheVariants as input
-use Rattle.basil_cli.proofs.Behind.{can_end, fault_told, fault_through, later_on, nothing_taken, outcomes, soons, throughs, unread, untold, whole_through, whole_told}
+use Rattle.basil_cli.proofs.Behind.{can_end, fault_told, fault_through, later_on, nothing_taken}
+use Rattle.basil_cli.proofs.Behind.{outcomes, soons, throughs, unread, untold, whole_through, whole_told}
 use Rattle.basil_cli.proofs.Stopping.{consumes-more, nothing_read, stops_behind, stops_failed, stops_there}
 use Rattle.basil_cli.proofs.replay.replay.Goals as goal
 
@@ -43,7 +44,8 @@ returns-in-Ok-eq0-clause-through g c =
     let s = c.turns.invariant.so_far in
     let old = g.S.Source.left c.args.source.now in
     let new = g.S.Source.left c.read.new.self in
-    throughs c.args.carried (g.L.Links.told c.args.links.now) (g.L.Links.told c.ended.new.links) old c.ended.result (g.S.Source.left c.read.new.self)
+    throughs c.args.carried (g.L.Links.told c.args.links.now)
+    (g.L.Links.told c.ended.new.links) old c.ended.result (g.S.Source.left c.read.new.self)
     (carries_both c.args.carried s.behind c.ended.ensures.outcome
     (λ gave more has outcome later.
     whole_through (road_with c.args.carried ((gave ++ more) ++ later)) (road_with c.args.carried later) c.ended.result old new s.read
@@ -55,7 +57,8 @@ pub returns-in-Ok-eq0-clause-soon : goal.returns-in-Ok-eq0-clause-soon
 returns-in-Ok-eq0-clause-soon g c =
     let s = c.turns.invariant.so_far in
     let fits : length c.read.new.buf ≤ longest_piece = search rules in
-    soons c.args.carried (g.L.Links.told c.args.links.now) (g.L.Links.told c.ended.new.links) (g.S.Source.left c.args.source.now) (g.S.Source.left c.read.new.self)
+    soons c.args.carried (g.L.Links.told c.args.links.now)
+    (g.L.Links.told c.ended.new.links) (g.S.Source.left c.args.source.now) (g.S.Source.left c.read.new.self)
     (carries_both c.args.carried s.behind c.ended.ensures.outcome
     (λ gave more has outcome later.
     let road = road_with c.args.carried ((gave ++ more) ++ later) in
@@ -75,13 +78,15 @@ returns-in-Err-clause-outcome g c =
 pub returns-in-Err-clause-through : goal.returns-in-Err-clause-through
 returns-in-Err-clause-through g c =
     let old = g.S.Source.left c.args.source.now in
-    throughs c.args.carried (g.L.Links.told c.args.links.now) (g.L.Links.told c.turns.links) old (Err input.Failed) (g.S.Source.left c.read.new.self)
+    throughs c.args.carried (g.L.Links.told c.args.links.now)
+    (g.L.Links.told c.turns.links) old (Err input.Failed) (g.S.Source.left c.read.new.self)
     (carries_as c.args.carried c.turns.invariant.so_far.behind (λ gave has later. untold old))
 
 pub returns-in-Err-clause-soon : goal.returns-in-Err-clause-soon
 returns-in-Err-clause-soon g c =
     let s = c.turns.invariant.so_far in
-    soons c.args.carried (g.L.Links.told c.args.links.now) (g.L.Links.told c.turns.links) (g.S.Source.left c.args.source.now) (g.S.Source.left c.read.new.self)
+    soons c.args.carried (g.L.Links.told c.args.links.now)
+    (g.L.Links.told c.turns.links) (g.S.Source.left c.args.source.now) (g.S.Source.left c.read.new.self)
     (carries_as c.args.carried s.behind
     (λ gave has later.
     let road = road_with c.args.carried (gave ++ later) in
@@ -116,7 +121,8 @@ ending_of-requires g c =
 pub returns-in-Err-take-clause-outcome : goal.returns-in-Err-take-clause-outcome
 returns-in-Err-take-clause-outcome g c =
     let s = c.turns.invariant.so_far in
-    outcomes c.args.carried (g.L.Links.told c.args.links.now) (g.L.Links.told c.take.new.links) (g.S.Source.left c.args.source.now) c.ending_of.result
+    outcomes c.args.carried (g.L.Links.told c.args.links.now)
+    (g.L.Links.told c.take.new.links) (g.S.Source.left c.args.source.now) c.ending_of.result
     (carries_both c.args.carried s.behind c.in-Err-take.ensures.reads
     (λ gave more has reads later.
     fault_told (road_with c.args.carried ((gave ++ more) ++ later)) (road_with c.args.carried later) c.ending_of.result _ _
@@ -127,7 +133,8 @@ returns-in-Err-take-clause-outcome g c =
 pub returns-in-Err-take-clause-through : goal.returns-in-Err-take-clause-through
 returns-in-Err-take-clause-through g c =
     let s = c.turns.invariant.so_far in
-    throughs c.args.carried (g.L.Links.told c.args.links.now) (g.L.Links.told c.take.new.links) (g.S.Source.left c.args.source.now) c.ending_of.result (g.S.Source.left c.read.new.self)
+    throughs c.args.carried (g.L.Links.told c.args.links.now)
+    (g.L.Links.told c.take.new.links) (g.S.Source.left c.args.source.now) c.ending_of.result (g.S.Source.left c.read.new.self)
     (carries_both c.args.carried s.behind c.in-Err-take.ensures.reads
     (λ gave more has reads later.
     fault_through (road_with c.args.carried ((gave ++ more) ++ later)) (road_with c.args.carried later) c.ending_of.result _ _
@@ -139,7 +146,8 @@ pub returns-in-Err-take-clause-soon : goal.returns-in-Err-take-clause-soon
 returns-in-Err-take-clause-soon g c =
     let s = c.turns.invariant.so_far in
     let fits : length c.read.new.buf ≤ longest_piece = search rules in
-    soons c.args.carried (g.L.Links.told c.args.links.now) (g.L.Links.told c.take.new.links) (g.S.Source.left c.args.source.now) (g.S.Source.left c.read.new.self)
+    soons c.args.carried (g.L.Links.told c.args.links.now)
+    (g.L.Links.told c.take.new.links) (g.S.Source.left c.args.source.now) (g.S.Source.left c.read.new.self)
     (carries_both c.args.carried s.behind c.in-Err-take.ensures.reads
     (λ gave more has reads later.
     let road = road_with c.args.carried ((gave ++ more) ++ later) in
@@ -159,13 +167,15 @@ returns-clause-outcome g c =
 pub returns-clause-through : goal.returns-clause-through
 returns-clause-through g c =
     let old = g.S.Source.left c.args.source.now in
-    throughs c.args.carried (g.L.Links.told c.args.links.now) (g.L.Links.told c.turns.links) old (Err input.NoMemory) (g.S.Source.left c.turns.source)
+    throughs c.args.carried (g.L.Links.told c.args.links.now)
+    (g.L.Links.told c.turns.links) old (Err input.NoMemory) (g.S.Source.left c.turns.source)
     (carries_as c.args.carried c.turns.invariant.so_far.behind (λ gave has later. untold old))
 
 pub returns-clause-soon : goal.returns-clause-soon
 returns-clause-soon g c =
     let s = c.turns.invariant.so_far in
-    soons c.args.carried (g.L.Links.told c.args.links.now) (g.L.Links.told c.turns.links) (g.S.Source.left c.args.source.now) (g.S.Source.left c.turns.source)
+    soons c.args.carried (g.L.Links.told c.args.links.now)
+    (g.L.Links.told c.turns.links) (g.S.Source.left c.args.source.now) (g.S.Source.left c.turns.source)
     (carries_as c.args.carried s.behind
     (λ gave has later.
     let road = road_with c.args.carried (gave ++ later) in

@@ -22,6 +22,7 @@ returns-in_default g c =
       failed = e.failed;
       told = e.told;
       links =
-          unused_by (is_carried c.args.command.now) c.args.links.now (g.L.Links.faults c.args.links.now) (is_link_fail c.ending_alone.result)
+          unused_by (is_carried c.args.command.now) c.args.links.now
+          (g.L.Links.faults c.args.links.now) (is_link_fail c.ending_alone.result)
           e.unlinked;
     }

@@ -7,4 +7,5 @@ use Rattle.certificates.proofs.proof.check_proof.Goals as goal
 pub returns-clause-accepted : goal.returns-clause-accepted
 returns-clause-accepted g c =
     ok_exactly c.refuse_proof.result _ _ c.refuse_proof.ensures
-    (conflicts_exactly (g.V.Verifier.accepted c.args.keys.now) c.args.cluster.now (transaction_of c.args.t) (committed_of c.args.proof.now) c.n.ensures.in_range c.requires)
+    (conflicts_exactly (g.V.Verifier.accepted c.args.keys.now) c.args.cluster.now
+    (transaction_of c.args.t) (committed_of c.args.proof.now) c.n.ensures.in_range c.requires)

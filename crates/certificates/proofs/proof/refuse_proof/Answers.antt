@@ -11,7 +11,8 @@ use Rattle.certificates.proofs.proof.refuse_proof.Goals as goal
 
 pub refuse_rival-requires-clause-bounded : goal.refuse_rival-requires-clause-bounded
 refuse_rival-requires-clause-bounded g c =
-    subst (λ (s : List SignedBy). length s < 2 ^ 64) (sym c.signatures.ensures) (few_signatures c.args.cluster.now (committed_of c.args.proof.now).certificate c.requires)
+    subst (λ (s : List SignedBy). length s < 2 ^ 64)
+    (sym c.signatures.ensures) (few_signatures c.args.cluster.now (committed_of c.args.proof.now).certificate c.requires)
 
 pub returns : goal.returns
 returns g c =

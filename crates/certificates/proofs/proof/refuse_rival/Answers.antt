@@ -13,4 +13,5 @@ returns g c =
     (passed_on r _ _ c.in_ok-decides.ensures
     (passed_on r _ _ c.in_ok-from_its_shards.ensures
     (passed_on r _ _ c.in_ok-enough_of.ensures
-    (subst (λ (s : List SignedBy). Refuses r (no_rival_signed (g.V.Verifier.accepted c.args.keys.now) (transaction_of c.args.t) (pair_of c.args.rival.now) s)) c.requires.signed c.conflicts_and_signed.ensures))))
+    (subst (λ (s : List SignedBy). Refuses r (no_rival_signed (g.V.Verifier.accepted c.args.keys.now)
+    (transaction_of c.args.t) (pair_of c.args.rival.now) s)) c.requires.signed c.conflicts_and_signed.ensures))))

@@ -10,7 +10,8 @@ use Rattle.client_core.proofs.invoking.invoke_frames.Goals as goal
 
 pub log_shard_frames-requires : goal.log_shard_frames-requires
 log_shard_frames-requires c =
-    subst (λ (o : Option Message). IfSome o (λ (m : Message). FitsMessage widest (message_value m))) c.in-Some.is c.in_ok-invoke.ensures.fits
+    subst (λ (o : Option Message). IfSome o (λ (m : Message). FitsMessage widest (message_value m)))
+    c.in-Some.is c.in_ok-invoke.ensures.fits
 
 pub returns-in_ok-out-in-Some-clause-sends : goal.returns-in_ok-out-in-Some-clause-sends
 returns-in_ok-out-in-Some-clause-sends c = λ p h.

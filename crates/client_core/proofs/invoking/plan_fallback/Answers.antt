@@ -31,7 +31,8 @@ returns-in_ok-plan-in-Some-clause-answer c = λ me held v p h shows cluster.
     let going =
     ap (λ (k : Setting). is_some (outcome k p)) (sym equal)
     ∙ sym (c.has_outcome.ensures p shows) ∙ c.if-has_outcome.false in
-    let some = subst (SendsInvoke f.pursuit.cluster p) c.in-Some.is (c.in_ok-frames.ensures.sends p (shown_stands f p c.requires.none shows)) in (
+    let some =
+    subst (SendsInvoke f.pursuit.cluster p) c.in-Some.is (c.in_ok-frames.ensures.sends p (shown_stands f p c.requires.none shows)) in (
       invoke_done me v p,
       invoke_logged me v p false going some.0,
       invoke_planned me held v p c.in-Some.out c.in_ok-plan-in-Some.plan h c.in_ok-plan-in-Some.ensures.plan

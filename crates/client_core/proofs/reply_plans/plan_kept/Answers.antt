@@ -17,7 +17,13 @@ pub returns-in-Some-clause-planned : goal.returns-in-Some-clause-planned
 returns-in-Some-clause-planned c = λ signing held v s r h within at room tells. record {
   leaves = (
     h,
-    (s, r, at, refl, subst (λ (o : Option KeptReply). ForSome (slice_get held.slots.items c.args.slot) (TellsAt c.args.read o r)) c.in-Some.is tells),
+    (
+      s,
+      r,
+      at,
+      refl,
+      subst (λ (o : Option KeptReply). ForSome (slice_get held.slots.items c.args.slot) (TellsAt c.args.read o r)) c.in-Some.is tells,
+    ),
   );
   words = refl;
   messages = ap (λ (l : List Envelope). l ++ []) c.outbox.ensures.messages;

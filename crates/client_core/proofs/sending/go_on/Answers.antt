@@ -14,8 +14,10 @@ returns-then-second-clause-sends c = λ p h same none.
 pub returns-then-not-all_voted-clause-sends : goal.returns-then-not-all_voted-clause-sends
 returns-then-not-all_voted-clause-sends c = λ p h same none.
     let k = c.args.pursuit.now.cluster in
-    nothing_sent c.nothing-then-not-all_voted.result c.args.second _ p (votes_missing k p none (sym (c.all_voted.ensures p h) ∙ c.if-not-all_voted.true))
-    c.nothing-then-not-all_voted.ensures.messages c.nothing-then-not-all_voted.ensures.signed c.nothing-then-not-all_voted.ensures.starts same
+    nothing_sent c.nothing-then-not-all_voted.result c.args.second _ p
+    (votes_missing k p none (sym (c.all_voted.ensures p h) ∙ c.if-not-all_voted.true))
+    c.nothing-then-not-all_voted.ensures.messages
+    c.nothing-then-not-all_voted.ensures.signed c.nothing-then-not-all_voted.ensures.starts same
 
 pub returns-in-Some-clause-sends : goal.returns-in-Some-clause-sends
 returns-in-Some-clause-sends c = λ p h same none.

@@ -23,7 +23,8 @@ returns-in_ok-out-in-Some-clause-sends c = λ p x was second h.
     let is : Some d ≡ outcome k (took p x) = c.in-Some.ensures.value (took p x) stands in
     let s : Sending = record { out = c.in_ok-out-in-Some.out; starts = false } in
     subst (IsSending s c.args.second) (sym (take_open k p x undecided ∙ ap (then_told k (took p x)) (sym is)))
-    (told s k (took p x) u.transaction d.certificate d stands.transaction refl c.in_ok-out-in-Some.ensures.messages c.in_ok-out-in-Some.ensures.signed refl
+    (told s k (took p x) u.transaction d.certificate
+    d stands.transaction refl c.in_ok-out-in-Some.ensures.messages c.in_ok-out-in-Some.ensures.signed refl
     c.args.second second)
 
 pub returns-in-None-clause-sends : goal.returns-in-None-clause-sends

@@ -28,7 +28,8 @@ returns-in_ok-plan-in-Some-clause-planned c = λ me held v s p h at is shows clu
     let going =
     ap (λ (k : Setting). is_some (outcome k p) || p.second) (sym equal)
     ∙ sym (c.is_over.ensures p shows) ∙ c.if-is_over.false in
-    let some = subst (SendsSecond f.pursuit.cluster p) c.in-Some.is (c.in_ok-frames.ensures.sends p (shown_stands f p c.requires.none shows)) in
+    let some =
+    subst (SendsSecond f.pursuit.cluster p) c.in-Some.is (c.in_ok-frames.ensures.sends p (shown_stands f p c.requires.none shows)) in
     start_planned me held v c.args.slot s p h at is c.in_ok-plan-in-Some.plan some.0 c.in-Some.out
     (settle_starts me.cluster p some.0 going
     (ap (λ (k : Setting). settled k p.transaction p.taken) (sym equal) ∙ some.1))
@@ -42,7 +43,8 @@ returns-in-None-clause-planned c = λ me held v s p h at is shows cluster.
     let going =
     ap (λ (k : Setting). is_some (outcome k p) || p.second) (sym equal)
     ∙ sym (c.is_over.ensures p shows) ∙ c.if-is_over.false in
-    let none = subst (SendsSecond f.pursuit.cluster p) c.in-None.is (c.in_ok-frames.ensures.sends p (shown_stands f p c.requires.none shows)) in
+    let none =
+    subst (SendsSecond f.pursuit.cluster p) c.in-None.is (c.in_ok-frames.ensures.sends p (shown_stands f p c.requires.none shows)) in
     still_planned me held v c.args.slot s p h at is c.plan_nothing-in-None.result
     (settle_none me.cluster p going (ap (λ (k : Setting). settled k p.transaction p.taken) (sym equal) ∙ none))
     c.plan_nothing-in-None.ensures.work c.plan_nothing-in-None.ensures.messages

@@ -12,7 +12,8 @@ use Rattle.client_core.proofs.taking.plan_formed.Goals as goal
 
 pub hold_back-requires-clause-fits : goal.hold_back-requires-clause-fits
 hold_back-requires-clause-fits g c =
-    subst (λ (k : Setting). FitsMessage (bounds_of k) (message_of c.args.m.now)) (sym (c.let_go.ensures.cluster ∙ c.requires.cluster)) c.requires.fits
+    subst (λ (k : Setting). FitsMessage (bounds_of k) (message_of c.args.m.now))
+    (sym (c.let_go.ensures.cluster ∙ c.requires.cluster)) c.requires.fits
 
 pub returns-in-Ok-send_taken-clause-planned : goal.returns-in-Ok-send_taken-clause-planned
 returns-in-Ok-send_taken-clause-planned g c = λ p h.
@@ -27,12 +28,14 @@ returns-in-Ok-send_taken-clause-planned g c = λ p h.
     let sends = c.in-Ok-send_taken.ensures.sends p x decided (c.in-Ok.ensures.second ∙ h_before.second)
     (subst (λ (k : Setting). StandsFor now.pursuit (take_frame k p x).pursuit) (sym same) taken.2) in
     sent_taken (g.V.Verifier.accepted c.args.keys.now) c.args.seat.now.cluster before.pursuit.cluster now.pursuit.cluster p
-    (message_of c.args.m.now) x now c.args.slot c.in-Ok-send_taken.sent c.plan_sent.result c.plan_sent.ensures.plan c.plan_sent.ensures.wanting
+    (message_of c.args.m.now) x now c.args.slot
+    c.in-Ok-send_taken.sent c.plan_sent.result c.plan_sent.ensures.plan c.plan_sent.ensures.wanting
     (c.let_go.ensures.cluster ∙ c.requires.cluster) same taken.1 taken.2 sends
 
 pub returns-in-Ok-send_taken-clause-ready : goal.returns-in-Ok-send_taken-clause-ready
 returns-in-Ok-send_taken-clause-ready g c = λ size left held within.
-    sent_ready size left c.args.slot held c.in-Ok-send_taken.sent c.plan_sent.result c.plan_sent.ensures.plan within c.in-Ok-send_taken.ensures.signed
+    sent_ready size left c.args.slot held
+    c.in-Ok-send_taken.sent c.plan_sent.result c.plan_sent.ensures.plan within c.in-Ok-send_taken.ensures.signed
 
 pub returns-in-Err-clause-planned : goal.returns-in-Err-clause-planned
 returns-in-Err-clause-planned g c = λ p h wanting.

@@ -13,7 +13,8 @@ pub plan_formed-requires-clause-cluster : goal.plan_formed-requires-clause-clust
 plan_formed-requires-clause-cluster g c =
     let old = c.args.held.now in
     let x = c.index_mut-place.result.now in
-    old.clusters c.args.slot x (got old.slots.items c.args.slot x c.requires.held c.index_mut-place.ensures.value) c.in-Some.formed c.in-Some.is
+    old.clusters c.args.slot x (got old.slots.items c.args.slot x c.requires.held c.index_mut-place.ensures.value)
+    c.in-Some.formed c.in-Some.is
     ∙ c.requires.cluster
 
 pub returns-in-Some-clause-answer : goal.returns-in-Some-clause-answer
@@ -24,7 +25,8 @@ returns-in-Some-clause-answer g c = λ signing v s h at.
     let x = c.index_mut-place.result.now in
     let f = c.plan_formed.new.formed in
     let changed : Slot = record x { formed = Some f } in
-    taken_planned old _ i x changed c.in-Some.formed f (got old.slots.items i x c.requires.held c.index_mut-place.ensures.value) c.in-Some.is refl refl refl
+    taken_planned old _ i x changed c.in-Some.formed f
+    (got old.slots.items i x c.requires.held c.index_mut-place.ensures.value) c.in-Some.is refl refl refl
     c.plan_formed.ensures.shown signing me v s (message_of c.args.m.now) c.plan_formed.result c.plan_formed.ensures.planned h at
 
 pub returns-in-Some-clause-shown : goal.returns-in-Some-clause-shown
@@ -34,7 +36,8 @@ returns-in-Some-clause-shown g c = λ v h.
     let x = c.index_mut-place.result.now in
     let f = c.plan_formed.new.formed in
     let changed : Slot = record x { formed = Some f } in
-    taken_shows old _ i x changed c.in-Some.formed f (got old.slots.items i x c.requires.held c.index_mut-place.ensures.value) c.in-Some.is refl refl refl
+    taken_shows old _ i x changed c.in-Some.formed f
+    (got old.slots.items i x c.requires.held c.index_mut-place.ensures.value) c.in-Some.is refl refl refl
     c.plan_formed.ensures.shown v h
 
 pub returns-in-None-clause-answer : goal.returns-in-None-clause-answer

@@ -14,5 +14,7 @@ returns-clause-ascend c =
     let words = words_of c.args.kept.now c.args.id.now c.args.view in
     let last = c.args.last.now in
     let is : c.from_vec.result.items ≡ values_of es = search rules in
-    let put : es ≡ by_replica (words ++ last ∷ []) = c.in_ok-put_copy.ensures.entries ∙ ap (λ es. insert_entry nat_cmp es last.replica last) c.in_ok-copies.ensures ∙ sym (by_replica_push words last) in
-    subst (λ (words : List ElectPart). IsStrictlyIncreasing (map (λ w. w.replica) words)) (sym is) (replicas_ascend es (words ++ last ∷ []) put c.in_ok-put_copy.ensures.ordered)
+    let put : es ≡ by_replica (words ++ last ∷ []) = c.in_ok-put_copy.ensures.entries
+    ∙ ap (λ es. insert_entry nat_cmp es last.replica last) c.in_ok-copies.ensures ∙ sym (by_replica_push words last) in
+    subst (λ (words : List ElectPart). IsStrictlyIncreasing (map (λ w. w.replica) words))
+    (sym is) (replicas_ascend es (words ++ last ∷ []) put c.in_ok-put_copy.ensures.ordered)

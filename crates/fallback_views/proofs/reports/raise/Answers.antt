@@ -7,7 +7,13 @@ pub returns-in-Some-clause-backed : goal.returns-in-Some-clause-backed
 returns-in-Some-clause-backed c up =
     let f = ap (λ s. s.f) c.cluster.view_is in
     let is = c.max.ensures ∙ ap (λ n. max n c.args.current) c.saturating_add.ensures in
-    omega (arith, f, c.from-faulty.ensures, over-backed (3 * c.from-faulty.result + 1) 18446744073709551615 c.args.views.now c.args.current c.in-Some.over c.max.result (sym c.in-Some.ensures) is up)
+    omega (
+      arith,
+      f,
+      c.from-faulty.ensures,
+      over-backed (3 * c.from-faulty.result + 1)
+          18446744073709551615 c.args.views.now c.args.current c.in-Some.over c.max.result (sym c.in-Some.ensures) is up,
+    )
 
 pub returns-clause-never_falls : goal.returns-clause-never_falls
 returns-clause-never_falls c =

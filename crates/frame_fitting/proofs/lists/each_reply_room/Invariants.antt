@@ -5,4 +5,5 @@ use Rattle.frame_fitting.specs.Room.{items_room, reply_room}
 use Rattle.frame_fitting.proofs.lists.each_reply_room.Given as goal
 
 abbrev pub invariant-loop-part : goal.invariant-loop-part
-invariant-loop-part l = items_room (reply_room (bounds_of l.cluster)) after_reply l.floor (map reply_value (drop l.part-index l.replies)) l.left ≡ items_room (reply_room (bounds_of l.cluster)) after_reply 0 (map reply_value l.replies) l.fn.room
+invariant-loop-part l = items_room (reply_room (bounds_of l.cluster)) after_reply l.floor (map reply_value (drop l.part-index l.replies))
+    l.left ≡ items_room (reply_room (bounds_of l.cluster)) after_reply 0 (map reply_value l.replies) l.fn.room

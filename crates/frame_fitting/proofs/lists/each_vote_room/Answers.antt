@@ -6,10 +6,14 @@ use Rattle.frame_fitting.proofs.RoomWalks.{goes_on, stops, ends}
 use Rattle.frame_fitting.proofs.lists.each_vote_room.Goals as goal
 
 pub loop-part-preserved : goal.loop-part-preserved
-loop-part-preserved c = goes_on (vote_room (bounds_of c.args.cluster.now)) after_vote vote_value c.args.votes.now _ c.loop-part.part-index c.loop-part.floor c.loop-part.left c.in-Some.after c.part-item.result c.loop-part-test.true c.part-item.is (sym c.in-Some.ensures) c.loop-part.invariant
+loop-part-preserved c =
+    goes_on (vote_room (bounds_of c.args.cluster.now)) after_vote vote_value c.args.votes.now _ c.loop-part.part-index c.loop-part.floor
+    c.loop-part.left c.in-Some.after c.part-item.result c.loop-part-test.true c.part-item.is (sym c.in-Some.ensures) c.loop-part.invariant
 
 pub returns-in-None : goal.returns-in-None
-returns-in-None c = stops (vote_room (bounds_of c.args.cluster.now)) after_vote vote_value c.args.votes.now _ c.loop-part.part-index c.loop-part.floor c.loop-part.left c.part-item.result c.loop-part-test.true c.part-item.is (sym c.in-None.ensures) c.loop-part.invariant
+returns-in-None c = stops (vote_room (bounds_of c.args.cluster.now)) after_vote vote_value c.args.votes.now _ c.loop-part.part-index
+    c.loop-part.floor c.loop-part.left c.part-item.result c.loop-part-test.true c.part-item.is (sym c.in-None.ensures) c.loop-part.invariant
 
 pub returns : goal.returns
-returns c = ends (vote_room (bounds_of c.args.cluster.now)) after_vote vote_value c.args.votes.now _ c.loop-part.part-index c.loop-part.floor c.loop-part.left (omega arith) c.loop-part.invariant
+returns c = ends (vote_room (bounds_of c.args.cluster.now))
+    after_vote vote_value c.args.votes.now _ c.loop-part.part-index c.loop-part.floor c.loop-part.left (omega arith) c.loop-part.invariant

@@ -6,10 +6,14 @@ use Rattle.frame_fitting.proofs.RoomWalks.{goes_on, stops, ends}
 use Rattle.frame_fitting.proofs.lists.each_word_room.Goals as goal
 
 pub loop-part-preserved : goal.loop-part-preserved
-loop-part-preserved c = goes_on (word_room (bounds_of c.args.cluster.now)) after_word word_value c.args.words.now _ c.loop-part.part-index c.loop-part.floor c.loop-part.left c.in-Some.after c.part-item.result c.loop-part-test.true c.part-item.is (sym c.in-Some.ensures) c.loop-part.invariant
+loop-part-preserved c =
+    goes_on (word_room (bounds_of c.args.cluster.now)) after_word word_value c.args.words.now _ c.loop-part.part-index c.loop-part.floor
+    c.loop-part.left c.in-Some.after c.part-item.result c.loop-part-test.true c.part-item.is (sym c.in-Some.ensures) c.loop-part.invariant
 
 pub returns-in-None : goal.returns-in-None
-returns-in-None c = stops (word_room (bounds_of c.args.cluster.now)) after_word word_value c.args.words.now _ c.loop-part.part-index c.loop-part.floor c.loop-part.left c.part-item.result c.loop-part-test.true c.part-item.is (sym c.in-None.ensures) c.loop-part.invariant
+returns-in-None c = stops (word_room (bounds_of c.args.cluster.now)) after_word word_value c.args.words.now _ c.loop-part.part-index
+    c.loop-part.floor c.loop-part.left c.part-item.result c.loop-part-test.true c.part-item.is (sym c.in-None.ensures) c.loop-part.invariant
 
 pub returns : goal.returns
-returns c = ends (word_room (bounds_of c.args.cluster.now)) after_word word_value c.args.words.now _ c.loop-part.part-index c.loop-part.floor c.loop-part.left (omega arith) c.loop-part.invariant
+returns c = ends (word_room (bounds_of c.args.cluster.now))
+    after_word word_value c.args.words.now _ c.loop-part.part-index c.loop-part.floor c.loop-part.left (omega arith) c.loop-part.invariant

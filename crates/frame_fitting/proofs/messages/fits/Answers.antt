@@ -10,6 +10,8 @@ use Rattle.frame_fitting.proofs.messages.fits.Goals as goal
 pub returns : goal.returns
 returns c =
     let b = bounds_of c.args.cluster.now in
-    let given = room_tells b (message_parts c.lent.result) c.message_room.result c.message_room.ensures.value c.message_room.ensures.known in
-    let of : IsTrue (is_some c.message_room.result) ↔ Fitting b (message_value c.args.m.now) = subst (λ (v : MessageValue). IsTrue (is_some c.message_room.result) ↔ Fitting b v) c.lent.ensures given in
+    let given =
+    room_tells b (message_parts c.lent.result) c.message_room.result c.message_room.ensures.value c.message_room.ensures.known in
+    let of : IsTrue (is_some c.message_room.result) ↔ Fitting b (message_value c.args.m.now) =
+    subst (λ (v : MessageValue). IsTrue (is_some c.message_room.result) ↔ Fitting b v) c.lent.ensures given in
     subst (λ (t : Bool). IsTrue t ↔ Fitting b (message_value c.args.m.now)) (sym c.is_some.ensures) of

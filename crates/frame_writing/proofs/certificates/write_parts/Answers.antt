@@ -23,5 +23,7 @@ returns-in_ok-write_pair-in-ConflictAbort-clause-writes c =
           as_commit proof;
     }) =
     rw is at c.requires.body in
-    rw is (conflict-joined-of c.args.out.now.written c.args.certificate.now.id signature transaction (certificate_bytes proof) signature transaction (commit_bytes (as_commit proof)) _ _ c.in-ConflictAbort.shard c.in-ConflictAbort.replica
-    c.in_ok-write_conflict-in-ConflictAbort.ensures.writes c.in_ok-write_pair-in-ConflictAbort.ensures.writes refl refl (commit-spelled proof fits.proof))
+    rw is (conflict-joined-of c.args.out.now.written c.args.certificate.now.id signature transaction (certificate_bytes proof)
+    signature transaction (commit_bytes (as_commit proof)) _ _ c.in-ConflictAbort.shard c.in-ConflictAbort.replica
+    c.in_ok-write_conflict-in-ConflictAbort.ensures.writes c.in_ok-write_pair-in-ConflictAbort.ensures.writes refl refl
+    (commit-spelled proof fits.proof))

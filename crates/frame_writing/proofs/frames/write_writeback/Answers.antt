@@ -7,4 +7,6 @@ use Rattle.frame_writing.proofs.frames.write_writeback.Goals as goal
 
 pub returns-clause-writes : goal.returns-clause-writes
 returns-clause-writes c =
-    headed_joined c.args.out.now.written (canonical (transaction_of c.args.m.now.transaction)) (certificate_bytes (certificate_of c.args.m.now.certificate)) _ _ _ 7 c.in_ok-push.ensures.writes c.in_ok-write_transaction.ensures.writes c.in_ok-write_stored.ensures.writes
+    headed_joined c.args.out.now.written
+    (canonical (transaction_of c.args.m.now.transaction)) (certificate_bytes (certificate_of c.args.m.now.certificate))
+    _ _ _ 7 c.in_ok-push.ensures.writes c.in_ok-write_transaction.ensures.writes c.in_ok-write_stored.ensures.writes

@@ -7,4 +7,5 @@ use Rattle.frame_writing.proofs.parts.write_unsigned_decide.Goals as goal
 
 pub returns-clause-writes : goal.returns-clause-writes
 returns-clause-writes c =
-    headed_joined c.args.out.now.written (canonical (transaction_of c.args.m.now.transaction)) (proposal_front (decide_parts c.args.m.now)) _ _ _ 11 c.in_ok-push.ensures.writes c.in_ok-write_transaction.ensures.writes c.in_ok-write_proposal.ensures.writes
+    headed_joined c.args.out.now.written (canonical (transaction_of c.args.m.now.transaction)) (proposal_front (decide_parts c.args.m.now))
+    _ _ _ 11 c.in_ok-push.ensures.writes c.in_ok-write_transaction.ensures.writes c.in_ok-write_proposal.ensures.writes

@@ -7,4 +7,5 @@ use Rattle.frame_writing.proofs.unsigned.write_unsigned_elect.Goals as goal
 
 pub returns-clause-writes : goal.returns-clause-writes
 returns-clause-writes c =
-    headed_joined c.args.out.now.written (canonical (transaction_of c.args.m.now.transaction)) (word_front (elect_message_of c.args.m.now)) _ _ _ 10 c.in_ok-push.ensures.writes c.in_ok-write_transaction.ensures.writes c.in_ok-write_word.ensures.writes
+    headed_joined c.args.out.now.written (canonical (transaction_of c.args.m.now.transaction)) (word_front (elect_message_of c.args.m.now))
+    _ _ _ 10 c.in_ok-push.ensures.writes c.in_ok-write_transaction.ensures.writes c.in_ok-write_word.ensures.writes

@@ -14,4 +14,5 @@ returns-clause-heading c =
     let whole : length c.put-2.new.out ≤ end + length c.args.bottom.now = omega arith in
     let middle = take-put_mid 4 _ c.put.new.out part end (omega arith) (omega arith) in
     sym (take_all (end + length c.args.bottom.now) c.put-2.new.out whole) ∙ c.put-2.ensures
-    ∙ ap (λ (t : List ℕ). t ++ c.args.bottom.now) (middle ∙ ap (λ (t : List ℕ). t ++ part) count ∙ ap (λ (t : List ℕ). to_be_bytes w32 1 ++ t) signed)
+    ∙ ap (λ (t : List ℕ). t ++ c.args.bottom.now)
+    (middle ∙ ap (λ (t : List ℕ). t ++ part) count ∙ ap (λ (t : List ℕ). to_be_bytes w32 1 ++ t) signed)

@@ -14,4 +14,5 @@ returns-in_err-check_signature-clause-refused c =
     let set : is_some (set_in key) ≡ true = search rules in
     let size : c.size-size.result ≡ size_under key = search rules in
     let room : c.size-size.result + 56 ≤ length rest = search rules in
-    rw (p.1, p.2) (above_refused c.args.level key rest c.size-size.result c.in_err-check_signature.field-0.0 set size room c.in_err-check_signature.ensures.refused)
+    rw (p.1, p.2) (above_refused c.args.level
+    key rest c.size-size.result c.in_err-check_signature.field-0.0 set size room c.in_err-check_signature.ensures.refused)

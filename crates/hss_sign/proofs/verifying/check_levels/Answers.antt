@@ -6,7 +6,8 @@ use Rattle.hss_sign.proofs.verifying.check_levels.Goals as goal
 pub returns-in_err-size-clause-refused : goal.returns-in_err-size-clause-refused
 returns-in_err-size-clause-refused c =
     let p = err_from_is_err_and c.from_residual.result c.from_residual.ensures.1 in
-    let here = refuses_here c.args.below c.loop-level.level c.loop-level.key c.args.message.now c.loop-level.rest.now c.in_err-size.field-0.0 (omega arith) c.in_err-size.ensures.refused in
+    let here = refuses_here c.args.below c.loop-level.level
+    c.loop-level.key c.args.message.now c.loop-level.rest.now c.in_err-size.field-0.0 (omega arith) c.in_err-size.ensures.refused in
     rw (p.1, p.2) (c.loop-level.invariant ∙ here)
 
 pub loop-level-preserved : goal.loop-level-preserved

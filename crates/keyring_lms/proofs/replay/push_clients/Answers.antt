@@ -10,7 +10,8 @@ loop-number-preserved c =
     let from : 1 ≤ k = c.loop-number.auto.number in
     let next : k + 1 - 1 ≡ k - 1 + 1 = omega (arith, from) in
     let more = map-range_with_len_more (λ number. Client number) 1 (k - 1) k (omega (arith, from)) in
-    rw (c.in_ok-push.ensures.items, c.loop-number.invariant, next, more) (append_assoc c.args.parties.now.items (map (λ number. Client number) (range_with_len 1 (k - 1))) (Client k ∷ []))
+    rw (c.in_ok-push.ensures.items, c.loop-number.invariant, next, more)
+    (append_assoc c.args.parties.now.items (map (λ number. Client number) (range_with_len 1 (k - 1))) (Client k ∷ []))
 
 pub returns : goal.returns
 returns c =

@@ -7,4 +7,5 @@ use Rattle.keyring_lms.proofs.replay.push_replicas.Goals as goal
 pub loop-index-preserved : goal.loop-index-preserved
 loop-index-preserved c =
     let more = map-range_with_len_more (λ index. Replica c.args.shard index) 0 c.loop-index.index c.loop-index.index (omega arith) in
-    rw (c.in_ok-push.ensures.items, c.loop-index.invariant, more) (append_assoc c.args.parties.now.items (map (λ index. Replica c.args.shard index) (range_with_len 0 c.loop-index.index)) (Replica c.args.shard c.loop-index.index ∷ []))
+    rw (c.in_ok-push.ensures.items, c.loop-index.invariant, more) (append_assoc c.args.parties.now.items
+    (map (λ index. Replica c.args.shard index) (range_with_len 0 c.loop-index.index)) (Replica c.args.shard c.loop-index.index ∷ []))

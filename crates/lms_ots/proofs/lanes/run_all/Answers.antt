@@ -17,7 +17,8 @@ lanes-preserved c =
     let E : ℕ → List ℕ = λ i. end_of_lane leaf (lane_of c.args.lanes.now i) in
     let v : List ℕ = slice_index_or c.ends_at-next.result (n % 8) [] in
     let low : n < 72 = omega arith in
-    let in_lane : v ≡ end_of_lane leaf (lane_of order n) = subst (λ (p : ℕ). v ≡ end_of_lane leaf (lane_of order p)) here (group (n % 8) (omega arith)) in
+    let in_lane : v ≡ end_of_lane leaf (lane_of order n) =
+    subst (λ (p : ℕ). v ≡ end_of_lane leaf (lane_of order p)) here (group (n % 8) (omega arith)) in
     let right : v ≡ E at = in_lane ∙ ap (end_of_lane leaf) (sym (given.same n low)) in
     record {
       size = search rules;

@@ -8,5 +8,6 @@ abbrev pub invariant-lanes : goal.invariant-lanes
 invariant-lanes l = record {
   size : length l.ends ≡ 72;
   group : l.n % 8 ≢ 0 → HoldsEnds (leaf_of l.ident l.q) l.order (l.n - l.n % 8) l.group;
-  written : (m : ℕ) → m < l.n → slice_index_or l.ends (lane_of l.order m).chain [] ≡ end_of_lane (leaf_of l.ident l.q) (lane_of l.lanes (lane_of l.order m).chain);
+  written : (m : ℕ) → m < l.n → slice_index_or l.ends (lane_of l.order m).chain []
+      ≡ end_of_lane (leaf_of l.ident l.q) (lane_of l.lanes (lane_of l.order m).chain);
 }

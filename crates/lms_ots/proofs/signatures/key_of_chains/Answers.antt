@@ -19,7 +19,8 @@ loop-i-preserved c =
     let i = c.loop-i.i in
     let given = c.update-in-loop-i.ensures _ c.loop-i.invariant in
     subst (λ m. Holds256 c.update-in-loop-i.new.self m)
-    (append_assoc (head leaf ++ 0x80 ∷ 0x80 ∷ []) (joined y i) (y i) ∙ ap (λ (t : List ℕ). (head leaf ++ 0x80 ∷ 0x80 ∷ []) ++ t) (sym (joined_more y i)))
+    (append_assoc (head leaf ++ 0x80 ∷ 0x80 ∷ []) (joined y i) (y i)
+    ∙ ap (λ (t : List ℕ). (head leaf ++ 0x80 ∷ 0x80 ∷ []) ++ t) (sym (joined_more y i)))
     given
 
 pub returns : goal.returns

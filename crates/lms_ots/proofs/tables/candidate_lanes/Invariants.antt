@@ -10,5 +10,6 @@ abbrev pub invariant-lanes : goal.invariant-lanes
 invariant-lanes l = record {
   size : length l.lanes ≡ 72;
   numbered : (k : ℕ) → k < l.i → (lane_of l.lanes k).chain ≡ k;
-  ends : (leaf : Leaf) (k : ℕ) → k < l.i → k < chains_of l.set → end_of_lane leaf (lane_of l.lanes k) ≡ end_from l.set leaf l.string l.signature k;
+  ends : (leaf : Leaf) (k : ℕ) → k < l.i →
+      k < chains_of l.set → end_of_lane leaf (lane_of l.lanes k) ≡ end_from l.set leaf l.string l.signature k;
 }

@@ -10,5 +10,6 @@ abbrev pub invariant-lanes : goal.invariant-lanes
 invariant-lanes l = record {
   size : length l.lanes ≡ 72;
   numbered : (k : ℕ) → k < l.i → (lane_of l.lanes k).chain ≡ k;
-  ends : (k : ℕ) → k < l.i → k < chains_of l.set → end_of_lane (leaf_of l.ident l.q) (lane_of l.lanes k) ≡ signed_part l.set (leaf_of l.ident l.q) l.seed l.string k;
+  ends : (k : ℕ) → k < l.i → k < chains_of l.set →
+      end_of_lane (leaf_of l.ident l.q) (lane_of l.lanes k) ≡ signed_part l.set (leaf_of l.ident l.q) l.seed l.string k;
 }

@@ -1,4 +1,5 @@
-use Rattle.std.proofs.Common.{◌≡◌, ◌<◌, ◌+◌, ◌*◌, ◌/◌, ◌^◌, ◌++◌, length, take, get_or, [], sym, ap, ◌∙◌, subst, arith, List, ℕ, append_assoc}
+use Rattle.std.proofs.Common.{◌≡◌, ◌<◌, ◌+◌, ◌*◌, ◌/◌, ◌^◌, ◌++◌, length, take, get_or}
+use Rattle.std.proofs.Common.{[], sym, ap, ◌∙◌, subst, arith, List, ℕ, append_assoc}
 use Rattle.std.proofs.lemmas.List.{append-nil}
 use Rattle.std.proofs.Math.Nat.{div-one}
 use Rattle.lms_ots.specs.Chains.{joined}
@@ -31,10 +32,13 @@ loop-level-preserved c =
     let inside : c.sibling_of.result < length c.args.nodes.now = omega (arith, number, low) in
     let long : length (get_or c.args.nodes.now c.sibling_of.result []) ≡ 32 = c.told-nodes c.sibling_of.result inside in
     let end : c.args.at + 32 * k + length (get_or c.args.nodes.now c.sibling_of.result []) ≡ c.args.at + 32 * (k + 1) = omega arith in
-    let put : take (c.args.at + 32 * (k + 1)) c.put.new.out ≡ take (c.args.at + 32 * k) c.loop-level.out ++ get_or c.args.nodes.now c.sibling_of.result [] =
-    subst (λ (n : ℕ). take n c.put.new.out ≡ take (c.args.at + 32 * k) c.loop-level.out ++ get_or c.args.nodes.now c.sibling_of.result []) end c.put.ensures in
+    let put : take (c.args.at + 32 * (k + 1)) c.put.new.out
+    ≡ take (c.args.at + 32 * k) c.loop-level.out ++ get_or c.args.nodes.now c.sibling_of.result [] =
+    subst (λ (n : ℕ). take n c.put.new.out ≡ take (c.args.at + 32 * k) c.loop-level.out ++ get_or c.args.nodes.now c.sibling_of.result [])
+    end c.put.ensures in
     record {
       number = ap (λ (n : ℕ). n / 2) c.loop-level.invariant.number ∙ sym (halved_more c.args.r k);
       written = put ∙ ap (λ (t : List ℕ). t ++ get_or c.args.nodes.now c.sibling_of.result []) c.loop-level.invariant.written
-          ∙ ap (λ (t : List ℕ). (front ++ joined path k) ++ t) is ∙ append_assoc front (joined path k) (path k) ∙ ap (λ (t : List ℕ). front ++ t) (sym (joined_more path k));
+          ∙ ap (λ (t : List ℕ). (front ++ joined path k) ++ t) is
+          ∙ append_assoc front (joined path k) (path k) ∙ ap (λ (t : List ℕ). front ++ t) (sym (joined_more path k));
     }

@@ -10,5 +10,6 @@ use Rattle.mvtso_check.proofs.crossings.between_reads.Given as goal
 abbrev pub invariant-loop-place : goal.invariant-loop-place
 invariant-loop-place l =
     (held : List Held) (noted : List NotedRead) → Stands l.store held noted →
-    joined l.found (hits (λ h. list_any (crosses_in l.home.cluster l.home.shard h.transaction (transaction_of l.t)) (drop l.place (transaction_of l.t).reads)) held)
+    joined l.found (hits (λ h. list_any (crosses_in l.home.cluster l.home.shard h.transaction (transaction_of l.t))
+    (drop l.place (transaction_of l.t).reads)) held)
     ≡ hits (λ h. is_crossed_in l.home.cluster l.home.shard (transaction_of l.t) h.transaction) held

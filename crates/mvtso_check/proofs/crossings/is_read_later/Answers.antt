@@ -12,12 +12,14 @@ returns-in_default c held noted s =
 pub returns-then-is_noted_above : goal.returns-then-is_noted_above
 returns-then-is_noted_above c held noted s =
     sym (c.loop-place.invariant held noted s
-    ∙ any_met _ (transaction_of c.args.t).writes c.loop-place.place (write_of c.in-Some.item) (sym c.in-Some.ensures) (sym (c.is_noted_above.ensures held noted s) ∙ c.if-is_noted_above.true))
+    ∙ any_met _ (transaction_of c.args.t).writes c.loop-place.place
+    (write_of c.in-Some.item) (sym c.in-Some.ensures) (sym (c.is_noted_above.ensures held noted s) ∙ c.if-is_noted_above.true))
 
 pub loop-place-preserved : goal.loop-place-preserved
 loop-place-preserved c held noted s =
     c.loop-place.invariant held noted s
-    ∙ any_passed _ (transaction_of c.args.t).writes c.loop-place.place (write_of c.in-Some.item) (sym c.in-Some.ensures) (sym (c.is_noted_above.ensures held noted s) ∙ c.if-is_noted_above.false)
+    ∙ any_passed _ (transaction_of c.args.t).writes c.loop-place.place
+    (write_of c.in-Some.item) (sym c.in-Some.ensures) (sym (c.is_noted_above.ensures held noted s) ∙ c.if-is_noted_above.false)
 
 pub returns : goal.returns
 returns c held noted s = sym (c.loop-place.invariant held noted s

@@ -11,12 +11,14 @@ returns-in_default c =
 pub returns-then-is_open_dependency : goal.returns-then-is_open_dependency
 returns-then-is_open_dependency c =
     sym (c.loop-place.invariant
-    ∙ any_met _ (transaction_of c.args.t).reads c.loop-place.place (read_of c.in-Some.item) (sym c.in-Some.ensures) (sym c.is_open_dependency.ensures ∙ c.if-is_open_dependency.true))
+    ∙ any_met _ (transaction_of c.args.t).reads c.loop-place.place
+    (read_of c.in-Some.item) (sym c.in-Some.ensures) (sym c.is_open_dependency.ensures ∙ c.if-is_open_dependency.true))
 
 pub loop-place-preserved : goal.loop-place-preserved
 loop-place-preserved c =
     c.loop-place.invariant
-    ∙ any_passed _ (transaction_of c.args.t).reads c.loop-place.place (read_of c.in-Some.item) (sym c.in-Some.ensures) (sym c.is_open_dependency.ensures ∙ c.if-is_open_dependency.false)
+    ∙ any_passed _ (transaction_of c.args.t).reads c.loop-place.place
+    (read_of c.in-Some.item) (sym c.in-Some.ensures) (sym c.is_open_dependency.ensures ∙ c.if-is_open_dependency.false)
 
 pub returns : goal.returns
 returns c = sym (c.loop-place.invariant

@@ -12,6 +12,8 @@ pub returns-in-None-prepared : goal.returns-in-None-prepared
 returns-in-None-prepared c =
     let part = committed_of c.in-Some.part in
     c.paired.ensures.marks
-    ∙ ap (λ gs. Text part.transaction ∷ around (rival_of part.certificate.body) gs) (c.signatures-in-None-prepared.ensures ∙ ap signed_in c.requires.same)
-    ∙ of_one _ _ (reply_signed (read_reply_of c.args.reply.now)) part (ap (option_map committed_of) c.in-Some.is) (ap (option_map transaction_of) c.in-None-prepared.is)
+    ∙ ap (λ gs. Text part.transaction ∷ around (rival_of part.certificate.body) gs)
+    (c.signatures-in-None-prepared.ensures ∙ ap signed_in c.requires.same)
+    ∙ of_one _ _ (reply_signed (read_reply_of c.args.reply.now)) part
+    (ap (option_map committed_of) c.in-Some.is) (ap (option_map transaction_of) c.in-None-prepared.is)
     ∙ ap marks (sym c.requires.same)

@@ -11,6 +11,8 @@ loop-t-preserved c =
     let t = c.t-item.result in
     let is = sym c.view-view.ensures.value in
     subst (λ held. Stands c.set.new.self held [])
-    (ap (λ x. entered (all_told us) x 0 true) (sym is) ∙ entered_next c.args.ordered.now c.requires c.loop-t.t-index t c.loop-t-test.true c.t-item.is)
+    (ap (λ x. entered (all_told us) x 0 true) (sym is)
+    ∙ entered_next c.args.ordered.now c.requires c.loop-t.t-index t c.loop-t-test.true c.t-item.is)
     (c.set.ensures.entered (all_told us) [] (c.make_room.ensures.as_before (all_told us) [] c.loop-t.invariant)
-    (subst (NoOther (all_told us)) is (none_other us t.now (lent_under c.args.ordered.now c.requires c.loop-t.t-index t c.loop-t-test.true c.t-item.is))))
+    (subst (NoOther (all_told us)) is
+    (none_other us t.now (lent_under c.args.ordered.now c.requires c.loop-t.t-index t c.loop-t-test.true c.t-item.is))))

@@ -5,7 +5,8 @@ use Rattle.sha256_lanes.proofs.compression.sixteen_steps.Goals as goal
 
 pub returns : goal.returns
 returns c k b h lt held =
-    let s1 = c.four_steps-v.ensures k b h lt (IsRoundsAt_at b h (block_of k c.args.window.now) (state_of k c.args.working) _ _ (omega arith) held) in
+    let s1 = c.four_steps-v.ensures k b h lt
+    (IsRoundsAt_at b h (block_of k c.args.window.now) (state_of k c.args.working) _ _ (omega arith) held) in
     let s2 = c.four_steps-v-2.ensures k b h lt s1 in
     let s3 = c.four_steps-v-3.ensures k b h lt s2 in
     let s4 = c.four_steps.ensures k b h lt s3 in

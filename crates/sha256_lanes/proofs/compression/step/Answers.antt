@@ -11,5 +11,7 @@ returns c k b h lt held =
     let next_w = block_of k c.next_word-word.new.window in
     let next_v = state_of k c.round.result in
     IsRoundsAt_at b h next_w next_v (t + 1) _ (omega arith)
-    (rounds_window b h (block_of k c.args.window.now) (state_of k c.args.working) t _ (slice_index c.next_word-word.result k) next_w next_v (omega arith) (omega arith) held.0 held.1
-    (word.value k lt ∙ window_word_place (block_of k c.args.window.now) c.args.turn c.args.place) (rw at (word.written k lt)) refl (c.round.ensures k lt))
+    (rounds_window b h (block_of k c.args.window.now)
+    (state_of k c.args.working) t _ (slice_index c.next_word-word.result k) next_w next_v (omega arith) (omega arith) held.0 held.1
+    (word.value k lt ∙ window_word_place (block_of k c.args.window.now) c.args.turn c.args.place)
+    (rw at (word.written k lt)) refl (c.round.ensures k lt))

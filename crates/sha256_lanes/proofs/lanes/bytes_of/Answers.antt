@@ -16,7 +16,8 @@ pub words-preserved : goal.words-preserved
 words-preserved c = (
   search (rules, overwrites),
   digest_more c.words.bytes (state_of c.args.lane c.args.values.now) _ c.words.i _ c.words.invariant.1 (omega arith)
-      (c.copy_from_slice.ensures.after ∙ c.to_be_bytes.ensures ∙ ap (to_be_bytes w32) (sym (slice_index-state c.args.values.now c.args.lane c.words.i (omega arith)))),
+      (c.copy_from_slice.ensures.after ∙ c.to_be_bytes.ensures ∙ ap (to_be_bytes w32)
+      (sym (slice_index-state c.args.values.now c.args.lane c.words.i (omega arith)))),
 )
 
 pub returns : goal.returns

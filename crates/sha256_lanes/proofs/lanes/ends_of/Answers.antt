@@ -10,7 +10,8 @@ unfolding steps
 steps-init c k lt =
     let place = c.places_in-from.ensures k lt in
     let low = c.lowest-j.ensures k lt in
-    let none : min c.lowest-j.result (slice_index c.lasts_in-to.result k) - slice_index c.places_in-from.result k ≡ 0 = omega (arith, place, low) in
+    let none : min c.lowest-j.result (slice_index c.lasts_in-to.result k) - slice_index c.places_in-from.result k ≡ 0 =
+    omega (arith, place, low) in
     rw none (c.values_in-values.ensures k lt)
 
 pub steps-preserved : goal.steps-preserved
@@ -20,7 +21,8 @@ steps-preserved c k lt =
     let here = c.splat-here.ensures k lt ∙ c.from.ensures in
     let stepped = rw here at (c.step_each-next.ensures k lt) in
     let moved = rw here at (c.kept_values-moved.ensures k lt) in
-    rw moved (one_place head i c.steps.j (slice_index c.places_in-from.result k) (slice_index c.lasts_in-to.result k) (lane_of c.args.lanes.now k).value
+    rw moved (one_place head i c.steps.j
+    (slice_index c.places_in-from.result k) (slice_index c.lasts_in-to.result k) (lane_of c.args.lanes.now k).value
     (state_of k c.steps.values) (state_of k c.step_each-next.result) (c.steps.invariant k lt) stepped)
 
 pub returns : goal.returns

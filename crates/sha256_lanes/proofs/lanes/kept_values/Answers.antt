@@ -13,4 +13,5 @@ returns c k lt =
       c.kept-6.ensures k lt,
       c.kept-7.ensures k lt,
       c.kept-8.ensures k lt,
-    ) (chosen-state (nat_lt (slice_index c.args.here k) (slice_index c.args.from k)) (nat_lt (slice_index c.args.here k) (slice_index c.args.to k)) c.args.old c.args.next k)
+    ) (chosen-state (nat_lt (slice_index c.args.here k) (slice_index c.args.from k))
+    (nat_lt (slice_index c.args.here k) (slice_index c.args.to k)) c.args.old c.args.next k)

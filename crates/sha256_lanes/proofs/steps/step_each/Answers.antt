@@ -8,5 +8,6 @@ use Rattle.sha256_lanes.proofs.steps.step_each.Goals as goal
 pub returns : goal.returns
 unfolding step_of digest_bytes
 returns c k lt =
-    let m = message_of (digest_bytes c.args.head.now 5) (slice_index c.args.chains k) (slice_index c.args.places k) (digest_bytes (state_of k c.args.values) 8) in
+    let m = message_of (digest_bytes c.args.head.now 5)
+    (slice_index c.args.chains k) (slice_index c.args.places k) (digest_bytes (state_of k c.args.values) 8) in
     ap (λ (h : List ℕ). digest_bytes h 8) (c.compress.ensures k (m ++ padding_55) lt (c.step_blocks.ensures k lt)) ∙ sym (one_block m refl)

@@ -21,7 +21,8 @@ returns-then-is_crossed c =
     let t = transaction_of c.args.t in
     let u = transaction_of c.args.u in
     met (differ t u) (is_crossed t u) (is_crossed u t) c.is_crossed.result
-    (differ_is t u c.bytes.result.now c.bytes-2.result.now c.eq.result c.bytes.ensures.spelled c.bytes-2.ensures.spelled c.eq.ensures c.if-eq.false)
+    (differ_is t u c.bytes.result.now c.bytes-2.result.now
+    c.eq.result c.bytes.ensures.spelled c.bytes-2.ensures.spelled c.eq.ensures c.if-eq.false)
     c.if-is_crossed.true
     c.is_crossed.ensures
 
@@ -30,7 +31,8 @@ returns-else-is_crossed c =
     let t = transaction_of c.args.t in
     let u = transaction_of c.args.u in
     passed (differ t u) (is_crossed t u) (is_crossed u t) c.is_crossed.result c.is_crossed-else-is_crossed.result
-    (differ_is t u c.bytes.result.now c.bytes-2.result.now c.eq.result c.bytes.ensures.spelled c.bytes-2.ensures.spelled c.eq.ensures c.if-eq.false)
+    (differ_is t u c.bytes.result.now c.bytes-2.result.now
+    c.eq.result c.bytes.ensures.spelled c.bytes-2.ensures.spelled c.eq.ensures c.if-eq.false)
     c.if-is_crossed.false
     c.is_crossed.ensures
     c.is_crossed-else-is_crossed.ensures

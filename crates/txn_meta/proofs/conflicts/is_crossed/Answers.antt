@@ -100,11 +100,15 @@ loop-item-preserved c =
     let new = ahead c.passed-next.result c.passed-next.new.writes in
     record {
       found = c.loop-item.invariant.found ∙ any_is t u c.args.own.now c.args.written.now old
-          (read_of c.in-Some.item) more ws new c.meets.result c.requires.own c.requires.written c.in-Some.ensures.steps c.passed-next.ensures (c.meets.ensures c.passed-next.new.writes) c.loop-item.invariant.writes c.loop-item.invariant.reads ∙ ap (λ b. b || list_any (crosses u t) more) c.if-meets.false;
+          (read_of c.in-Some.item) more ws new c.meets.result c.requires.own c.requires.written c.in-Some.ensures.steps
+          c.passed-next.ensures (c.meets.ensures c.passed-next.new.writes) c.loop-item.invariant.writes c.loop-item.invariant.reads
+          ∙ ap (λ b. b || list_any (crosses u t) more) c.if-meets.false;
       writes = writes_on t u c.args.own.now c.args.written.now old
-          (read_of c.in-Some.item) more ws new c.meets.result c.requires.own c.requires.written c.in-Some.ensures.steps c.passed-next.ensures (c.meets.ensures c.passed-next.new.writes) c.loop-item.invariant.writes c.loop-item.invariant.reads;
+          (read_of c.in-Some.item) more ws new c.meets.result c.requires.own c.requires.written c.in-Some.ensures.steps
+          c.passed-next.ensures (c.meets.ensures c.passed-next.new.writes) c.loop-item.invariant.writes c.loop-item.invariant.reads;
       reads = reads_on t u c.args.own.now c.args.written.now old
-          (read_of c.in-Some.item) more ws new c.meets.result c.requires.own c.requires.written c.in-Some.ensures.steps c.passed-next.ensures (c.meets.ensures c.passed-next.new.writes) c.loop-item.invariant.writes c.loop-item.invariant.reads;
+          (read_of c.in-Some.item) more ws new c.meets.result c.requires.own c.requires.written c.in-Some.ensures.steps
+          c.passed-next.ensures (c.meets.ensures c.passed-next.new.writes) c.loop-item.invariant.writes c.loop-item.invariant.reads;
     }
 
 pub returns : goal.returns

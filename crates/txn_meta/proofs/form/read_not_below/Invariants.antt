@@ -7,6 +7,7 @@ use Rattle.txn_meta.proofs.form.read_not_below.Given as goal
 
 abbrev pub invariant-loop-item : goal.invariant-loop-item
 invariant-loop-item l = record {
-  found : first_not_below l.version (transaction_of l.fn.t).reads ≡ place_from (λ r. not (below r.version l.version)) l.place (reads_left l.item-iterator);
+  found : first_not_below l.version (transaction_of l.fn.t).reads
+      ≡ place_from (λ r. not (below r.version l.version)) l.place (reads_left l.item-iterator);
   few : l.place + length (reads_left l.item-iterator) ≤ 32;
 }

@@ -7,4 +7,5 @@ use Rattle.txn_meta.proofs.shards.reads_at.Given as goal
 
 abbrev pub invariant-loop-item : goal.invariant-loop-item
 invariant-loop-item l =
-    list_any (λ x. shard_of l.cluster x.key == l.shard) (transaction_of l.fn.t).reads ≡ list_any (λ x. shard_of l.cluster x.key == l.shard) (reads_left l.item-iterator)
+    list_any (λ x. shard_of l.cluster x.key == l.shard) (transaction_of l.fn.t).reads
+    ≡ list_any (λ x. shard_of l.cluster x.key == l.shard) (reads_left l.item-iterator)

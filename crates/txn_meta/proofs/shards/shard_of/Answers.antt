@@ -7,6 +7,7 @@ pub loop-byte-preserved : goal.loop-byte-preserved
 loop-byte-preserved c =
     let some : 0 < c.from-shards.result = omega arith in (
       ap (λ (b : ℕ). (c.loop-byte.sum + b) % c.from-shards.result) c.from.ensures
-          ∙ sum_more c.loop-byte.sum c.from-shards.result c.loop-byte.byte-index c.args.key.now c.loop-byte-test.true c.loop-byte.invariant.0,
+          ∙ sum_more c.loop-byte.sum c.from-shards.result
+          c.loop-byte.byte-index c.args.key.now c.loop-byte-test.true c.loop-byte.invariant.0,
       mod-lt _ some,
     )

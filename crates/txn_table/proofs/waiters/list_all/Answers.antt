@@ -28,5 +28,6 @@ returns c =
       places =
           λ w id.
           sym (c.loop-item.invariant.places w id
-          ∙ ap (λ xs. cond (list_any (reads_on id) xs) (with_place c.args.place (listed new id)) (listed new id)) c.in-None.ensures.steps.0);
+          ∙ ap (λ xs. cond (list_any (reads_on id) xs) (with_place c.args.place (listed new id)) (listed new id))
+          c.in-None.ensures.steps.0);
     }

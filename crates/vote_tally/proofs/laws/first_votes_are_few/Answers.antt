@@ -24,9 +24,15 @@ below n k [] h e = absurd cc
 below n k (v ∷ votes) h e =
     elim (eqb_tells k v.replica) [
       | inl p ↦ omega (arith, h zero v (omega arith), p.1)
-      | inr p ↦ below n k votes (λ i d l. h (suc i) d (omega arith)) (sym (ap (λ b. b || list_any (eqb k) (map (λ (w : FirstVote). w.replica) votes)) p.0) ∙ e)
+      | inr p ↦ below n k votes (λ i d l. h (suc i) d (omega arith))
+          (sym (ap (λ b. b || list_any (eqb k) (map (λ (w : FirstVote). w.replica) votes)) p.0) ∙ e)
     ]
 
 pub returns : goal.returns
 returns c s votes h =
-    omega (arith, length-map votes (λ (w : FirstVote). w.replica), length-le_from_distinct_below (map (λ (w : FirstVote). w.replica) votes) (5 * s.f + 1) (distinct_mapped votes h.distinct) (λ k. below (5 * s.f + 1) k votes h.in_range))
+    omega (
+      arith,
+      length-map votes (λ (w : FirstVote). w.replica),
+      length-le_from_distinct_below (map (λ (w : FirstVote). w.replica) votes)
+          (5 * s.f + 1) (distinct_mapped votes h.distinct) (λ k. below (5 * s.f + 1) k votes h.in_range),
+    )

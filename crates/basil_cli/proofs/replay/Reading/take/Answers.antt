@@ -26,7 +26,8 @@ returns-in-Err-clause-reads g c =
     let cut : IsCut c.lines.rest.now c.in-Some.line.now c.in-Some.more.now = search rules in
     carries_both c.args.carried c.lines.invariant.reads c.in-Err.ensures.reads
     (λ before more passed reads.
-    refused_at c.args.carried c.args.self c.lines.reading c.args.piece.now c.lines.rest.now c.in-Some.line.now c.in-Some.more.now before more
+    refused_at c.args.carried c.args.self
+    c.lines.reading c.args.piece.now c.lines.rest.now c.in-Some.line.now c.in-Some.more.now before more
     passed cut.is _ reads c.in-Err.fault refl)
 
 pub lines-preserved : goal.lines-preserved
@@ -36,7 +37,8 @@ lines-preserved g c =
       reads =
           carries_both c.args.carried c.lines.invariant.reads c.in-Ok.ensures.reads
           (λ before more passed reads.
-          passed_on c.args.carried c.args.self c.lines.reading c.args.piece.now c.lines.rest.now c.in-Some.line.now c.in-Some.more.now before
+          passed_on c.args.carried c.args.self
+          c.lines.reading c.args.piece.now c.lines.rest.now c.in-Some.line.now c.in-Some.more.now before
           more passed cut.is _ reads c.in-Ok.next refl);
       unused = λ h. c.in-Ok.ensures.links.unused h ∙ c.lines.invariant.unused h;
       faults = c.in-Ok.ensures.links.kept refl ∙ c.lines.invariant.faults;

@@ -20,7 +20,8 @@ pub returns-in_err-item : goal.returns-in_err-item
 returns-in_err-item c =
     let p = err_from_is_err_and c.from_residual.result c.from_residual.ensures.1 in
     rw (p.1, p.2)
-    (ends _ _ c.args.count c.loop.counter c.loop.before.now c.loop.rest.now c.in_err-item.field-0.0 _ c.loop-test.true c.in_err-item.ensures c.loop.invariant)
+    (ends _ _ c.args.count c.loop.counter
+    c.loop.before.now c.loop.rest.now c.in_err-item.field-0.0 _ c.loop-test.true c.in_err-item.ensures c.loop.invariant)
 
 pub new-requires : goal.new-requires
 new-requires c =

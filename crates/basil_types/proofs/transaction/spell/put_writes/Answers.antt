@@ -9,7 +9,8 @@ pub loop-write-preserved : goal.loop-write-preserved
 loop-write-preserved c = record {
   spelled = grind (arith, common_steps);
   in_range =
-      All-more WriteInRange c.args.writes.now c.loop-write.write-index c.write-item.result c.loop-write-test.true c.loop-write.invariant.in_range (subst WriteInRange c.write-item.is c.in_ok-put_write.ensures.in_range);
+      All-more WriteInRange c.args.writes.now c.loop-write.write-index c.write-item.result
+      c.loop-write-test.true c.loop-write.invariant.in_range (subst WriteInRange c.write-item.is c.in_ok-put_write.ensures.in_range);
 }
 
 pub returns-clause-in_range : goal.returns-clause-in_range

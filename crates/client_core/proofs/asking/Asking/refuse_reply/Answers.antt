@@ -12,14 +12,16 @@ pub returns-then-is_chosen : goal.returns-then-is_chosen
 returns-then-is_chosen g c = λ r same.
     let k = c.args.seat.now.cluster in
     chosen_fault (g.V.Verifier.accepted c.args.keys.now) k c.args.seat.now.number c.args.time (read_reply_of c.args.reply.now) r
-    (sym (chosen_law k r) ∙ sym (ap (λ (j : KeptRead). nat_le k.reads (length j.versions)) same) ∙ sym c.is_chosen.ensures ∙ c.if-is_chosen.true)
+    (sym (chosen_law k r) ∙ sym (ap (λ (j : KeptRead). nat_le k.reads (length j.versions)) same)
+    ∙ sym c.is_chosen.ensures ∙ c.if-is_chosen.true)
 
 pub returns : goal.returns
 returns g c = λ r same.
     let k = c.args.seat.now.cluster in
     let A = g.V.Verifier.accepted c.args.keys.now in
     let m = read_reply_of c.args.reply.now in
-    let unchosen = sym (chosen_law k r) ∙ sym (ap (λ (j : KeptRead). nat_le k.reads (length j.versions)) same) ∙ sym c.is_chosen.ensures ∙ c.if-is_chosen.false in
+    let unchosen = sym (chosen_law k r) ∙ sym (ap (λ (j : KeptRead). nat_le k.reads (length j.versions)) same)
+    ∙ sym c.is_chosen.ensures ∙ c.if-is_chosen.false in
     subst (Refuses c.check_reply.result)
     (ap (λ (key : List ℕ). reply_fault A k (record { key = key; time = c.args.time; client = c.args.seat.now.number }) m)
     (c.as_slice.ensures ∙ ap (λ (j : KeptRead). j.key) same)

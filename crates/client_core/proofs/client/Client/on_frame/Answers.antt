@@ -28,16 +28,19 @@ returns-in-Ok-finish-clause-answer g c = λ v h.
 pub returns-in-Ok-finish-clause-slots : goal.returns-in-Ok-finish-clause-slots
 returns-in-Ok-finish-clause-slots g c =
     let me = c.args.self.now in
-    slots_then me.held c.plan_frame.new.held c.finish.new.self.held (kept_count me.held c.plan_frame.new.held (pen_value (g.S.Signer.spent me.pen) (g.S.Signer.left_of me.pen)) c.plan_frame.ensures.shown me.shown)
+    slots_then me.held c.plan_frame.new.held c.finish.new.self.held (kept_count me.held c.plan_frame.new.held
+    (pen_value (g.S.Signer.spent me.pen) (g.S.Signer.left_of me.pen)) c.plan_frame.ensures.shown me.shown)
     c.in-Ok-finish.ensures.slots
 
 pub returns-in-Err-finish-clause-slots : goal.returns-in-Err-finish-clause-slots
 returns-in-Err-finish-clause-slots g c =
     let me = c.args.self.now in
-    slots_then me.held c.plan_frame.new.held c.finish.new.self.held (kept_count me.held c.plan_frame.new.held (pen_value (g.S.Signer.spent me.pen) (g.S.Signer.left_of me.pen)) c.plan_frame.ensures.shown me.shown)
+    slots_then me.held c.plan_frame.new.held c.finish.new.self.held (kept_count me.held c.plan_frame.new.held
+    (pen_value (g.S.Signer.spent me.pen) (g.S.Signer.left_of me.pen)) c.plan_frame.ensures.shown me.shown)
     c.in-Err-finish.ensures.slots
 
 pub returns-in-Err-clause-slots : goal.returns-in-Err-clause-slots
 returns-in-Err-clause-slots g c =
     let me = c.args.self.now in
-    kept_count me.held c.plan_frame.new.held (pen_value (g.S.Signer.spent me.pen) (g.S.Signer.left_of me.pen)) c.plan_frame.ensures.shown me.shown
+    kept_count me.held c.plan_frame.new.held
+    (pen_value (g.S.Signer.spent me.pen) (g.S.Signer.left_of me.pen)) c.plan_frame.ensures.shown me.shown

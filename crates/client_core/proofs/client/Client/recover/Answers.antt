@@ -40,31 +40,36 @@ returns-in-Err-clause-answer g c = λ v h.
 pub returns-in-Ok-finish-clause-slots : goal.returns-in-Ok-finish-clause-slots
 returns-in-Ok-finish-clause-slots g c =
     let me = c.args.self.now in
-    slots_then me.held c.plan_recover.new.held c.finish.new.self.held (kept_count me.held c.plan_recover.new.held (pen_value (g.S.Signer.spent me.pen) (g.S.Signer.left_of me.pen)) c.plan_recover.ensures.shown me.shown)
+    slots_then me.held c.plan_recover.new.held c.finish.new.self.held (kept_count me.held c.plan_recover.new.held
+    (pen_value (g.S.Signer.spent me.pen) (g.S.Signer.left_of me.pen)) c.plan_recover.ensures.shown me.shown)
     c.in-Ok-finish.ensures.slots
 
 pub returns-in-Err-finish-clause-slots : goal.returns-in-Err-finish-clause-slots
 returns-in-Err-finish-clause-slots g c =
     let me = c.args.self.now in
-    slots_then me.held c.plan_recover.new.held c.finish.new.self.held (kept_count me.held c.plan_recover.new.held (pen_value (g.S.Signer.spent me.pen) (g.S.Signer.left_of me.pen)) c.plan_recover.ensures.shown me.shown)
+    slots_then me.held c.plan_recover.new.held c.finish.new.self.held (kept_count me.held c.plan_recover.new.held
+    (pen_value (g.S.Signer.spent me.pen) (g.S.Signer.left_of me.pen)) c.plan_recover.ensures.shown me.shown)
     c.in-Err-finish.ensures.slots
 
 pub returns-in-None-clause-slots : goal.returns-in-None-clause-slots
 returns-in-None-clause-slots g c =
     let me = c.args.self.now in
-    kept_count me.held c.plan_recover.new.held (pen_value (g.S.Signer.spent me.pen) (g.S.Signer.left_of me.pen)) c.plan_recover.ensures.shown me.shown
+    kept_count me.held c.plan_recover.new.held
+    (pen_value (g.S.Signer.spent me.pen) (g.S.Signer.left_of me.pen)) c.plan_recover.ensures.shown me.shown
 
 pub returns-in-Err-clause-slots : goal.returns-in-Err-clause-slots
 returns-in-Err-clause-slots g c =
     let me = c.args.self.now in
-    kept_count me.held c.plan_recover.new.held (pen_value (g.S.Signer.spent me.pen) (g.S.Signer.left_of me.pen)) c.plan_recover.ensures.shown me.shown
+    kept_count me.held c.plan_recover.new.held
+    (pen_value (g.S.Signer.spent me.pen) (g.S.Signer.left_of me.pen)) c.plan_recover.ensures.shown me.shown
 
 pub returns-in-Ok-finish-clause-held : goal.returns-in-Ok-finish-clause-held
 returns-in-Ok-finish-clause-held g c =
     let me = c.args.self.now in
     let signing = g.S.Signer.fixed me.pen in
     let accepts = g.V.Verifier.accepted me.keys in
-    answered_held (self_at me.seat accepts signing) (pen_value (g.S.Signer.spent me.pen) (g.S.Signer.left_of me.pen)) me.held c.finish.new.self.held
+    answered_held (self_at me.seat accepts signing)
+    (pen_value (g.S.Signer.spent me.pen) (g.S.Signer.left_of me.pen)) me.held c.finish.new.self.held
     c.args.t.now c.args.signature.now c.in-Some.slot
     (λ v h. let a = c.in-Ok.ensures.answer signing accepts v h.shows in (
       same_Some c.in-Some.slot (recovered_at v c.args.t.now) (sym c.in-Some.is ∙ c.in-Ok.ensures.slot v h.shows),

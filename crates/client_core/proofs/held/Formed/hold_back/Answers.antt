@@ -12,9 +12,11 @@ returns-in-Ok-clause-taken g c = λ p h.
     let f = c.args.self.now in
     let u = f.pursuit in
     let stands : StandsFor u p = subst (λ b. StandsNow b u p) c.requires.none h.stands in
-    let taken = taken_ok (taken_of (g.V.Verifier.accepted c.args.keys.now) u.cluster u.transaction (message_of c.args.m.now)) u c.add_frame.new.pursuit c.in-Ok.ensures.taken in (
+    let taken = taken_ok (taken_of (g.V.Verifier.accepted c.args.keys.now) u.cluster u.transaction (message_of c.args.m.now))
+    u c.add_frame.new.pursuit c.in-Ok.ensures.taken in (
       taken.0,
-      ap (λ (t : TransactionValue). taken_of (g.V.Verifier.accepted c.args.keys.now) u.cluster t (message_of c.args.m.now)) (sym stands.transaction) ∙ taken.1,
+      ap (λ (t : TransactionValue). taken_of (g.V.Verifier.accepted c.args.keys.now) u.cluster t (message_of c.args.m.now))
+          (sym stands.transaction) ∙ taken.1,
       (taken.2).now p stands,
     )
 
@@ -23,7 +25,8 @@ returns-in-Err-clause-refused g c = λ p h wanting.
     let f = c.args.self.now in
     let u = f.pursuit in
     let stands : StandsFor u p = subst (λ b. StandsNow b u p) c.requires.none h.stands in
-    ap (λ (t : TransactionValue). taken_of (g.V.Verifier.accepted c.args.keys.now) u.cluster t (message_of c.args.m.now)) (sym stands.transaction)
+    ap (λ (t : TransactionValue). taken_of (g.V.Verifier.accepted c.args.keys.now) u.cluster t (message_of c.args.m.now))
+    (sym stands.transaction)
     ∙ c.in-Err.ensures.refused wanting
 
 pub returns-in-Ok-clause-shown : goal.returns-in-Ok-clause-shown
@@ -31,7 +34,8 @@ returns-in-Ok-clause-shown g c = λ p h.
     let f = c.args.self.now in
     let u = f.pursuit in
     let stands : StandsFor u p = subst (λ b. StandsNow b u p) c.requires.none h.stands in
-    let taken = taken_ok (taken_of (g.V.Verifier.accepted c.args.keys.now) u.cluster u.transaction (message_of c.args.m.now)) u c.add_frame.new.pursuit c.in-Ok.ensures.taken in
+    let taken = taken_ok (taken_of (g.V.Verifier.accepted c.args.keys.now) u.cluster u.transaction (message_of c.args.m.now))
+    u c.add_frame.new.pursuit c.in-Ok.ensures.taken in
     record { stands = (taken.2).back p stands; second = h.second }
 
 pub returns-in-Err-clause-shown : goal.returns-in-Err-clause-shown

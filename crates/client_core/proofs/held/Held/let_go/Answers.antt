@@ -24,6 +24,7 @@ invariant_of-self c =
     record {
       clusters =
           are_set held.cluster held.slots.items c.args.slot x _
-          (got held.slots.items c.args.slot x c.requires c.index_mut-slot.ensures.value) (c.let_go.ensures.cluster held.cluster) held.clusters;
+          (got held.slots.items c.args.slot x c.requires c.index_mut-slot.ensures.value)
+          (c.let_go.ensures.cluster held.cluster) held.clusters;
       most = most_set held.slots.items c.args.slot _ held.most;
     }

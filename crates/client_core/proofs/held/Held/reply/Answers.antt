@@ -29,6 +29,7 @@ invariant_of-self c =
     record {
       clusters =
           are_set held.cluster held.slots.items c.args.slot x _
-          (got held.slots.items c.args.slot x c.requires.held c.index_mut-slot.ensures.value) (λ of. subst (λ (o : Option Formed). IsOf held.cluster o) (sym c.reply.ensures.formed) of) held.clusters;
+          (got held.slots.items c.args.slot x c.requires.held c.index_mut-slot.ensures.value)
+          (λ of. subst (λ (o : Option Formed). IsOf held.cluster o) (sym c.reply.ensures.formed) of) held.clusters;
       most = most_set held.slots.items c.args.slot _ held.most;
     }

@@ -14,13 +14,15 @@ room_for_reply-requires c =
 pub returns-in-Ok-clause-shown : goal.returns-in-Ok-clause-shown
 returns-in-Ok-clause-shown c = λ v h.
     let x = c.index_mut-slot.result.now in
-    held_same c.args.self.now _ c.args.slot x _ (got c.args.self.now.slots.items c.args.slot x c.requires.held c.index_mut-slot.ensures.value) refl refl
+    held_same c.args.self.now _ c.args.slot x _
+    (got c.args.self.now.slots.items c.args.slot x c.requires.held c.index_mut-slot.ensures.value) refl refl
     c.in-Ok.ensures.shown v h
 
 pub returns-in-Err-clause-shown : goal.returns-in-Err-clause-shown
 returns-in-Err-clause-shown c = λ v h.
     let x = c.index_mut-slot.result.now in
-    held_same c.args.self.now _ c.args.slot x _ (got c.args.self.now.slots.items c.args.slot x c.requires.held c.index_mut-slot.ensures.value) refl refl
+    held_same c.args.self.now _ c.args.slot x _
+    (got c.args.self.now.slots.items c.args.slot x c.requires.held c.index_mut-slot.ensures.value) refl refl
     c.in-Err.ensures.shown v h
 
 pub returns-in-Ok-clause-room : goal.returns-in-Ok-clause-room
@@ -34,6 +36,7 @@ invariant_of-self c =
     record {
       clusters =
           are_set held.cluster held.slots.items c.args.slot x _
-          (got held.slots.items c.args.slot x c.requires.held c.index_mut-slot.ensures.value) (λ of. subst (λ (o : Option Formed). IsOf held.cluster o) (sym c.room_for_reply.ensures.formed) of) held.clusters;
+          (got held.slots.items c.args.slot x c.requires.held c.index_mut-slot.ensures.value)
+          (λ of. subst (λ (o : Option Formed). IsOf held.cluster o) (sym c.room_for_reply.ensures.formed) of) held.clusters;
       most = most_set held.slots.items c.args.slot _ held.most;
     }

@@ -19,6 +19,7 @@ invariant_of-self c =
     record {
       clusters =
           are_set held.cluster held.slots.items c.args.slot x _
-          (got held.slots.items c.args.slot x c.requires c.index_mut-slot.ensures.value) (started_of held.cluster x _ c.start.ensures) held.clusters;
+          (got held.slots.items c.args.slot x c.requires c.index_mut-slot.ensures.value)
+          (started_of held.cluster x _ c.start.ensures) held.clusters;
       most = most_set held.slots.items c.args.slot _ held.most;
     }

@@ -12,4 +12,5 @@ returns-clause-shown c = λ s r h tells.
     let at = got x.reads.items c.args.read a c.requires.0 c.index_mut-asked.ensures.value in
     let t = tells a at in
     slot_reads x _ s (put_read r s.reads) h refl
-    (replied_reads x.reads.items s.reads c.args.read a c.add.new.self r h.reads (ap (λ (k : KeptRead). k.key) c.add.ensures) (c.add.ensures ∙ t.0) t.1)
+    (replied_reads x.reads.items s.reads c.args.read a c.add.new.self r h.reads
+    (ap (λ (k : KeptRead). k.key) c.add.ensures) (c.add.ensures ∙ t.0) t.1)

@@ -13,8 +13,11 @@ returns-in-Ok g c = λ reads r keeps at_r.
     let at = got x.reads.items c.args.read a c.requires.read c.index-asked.ensures in
     let taken = c.in-Ok.ensures r (read_at x.reads.items reads c.args.read a r keeps at at_r) in (
       taken.0,
-      same_some (slice_get x.reads.items c.args.read) _ a at
-          (taken.1, subst (λ (k : List ℕ). IsPlaceOf k c.args.read x.reads.items) c.as_slice.ensures (c.is_place_of.ensures c.if-not-is_place_of.false)),
+      same_some (slice_get x.reads.items c.args.read) _ a at (
+        taken.1,
+        subst (λ (k : List ℕ). IsPlaceOf k c.args.read x.reads.items)
+            c.as_slice.ensures (c.is_place_of.ensures c.if-not-is_place_of.false),
+      ),
     )
 
 pub returns-in-Err : goal.returns-in-Err

@@ -18,7 +18,8 @@ invariant_of-self c =
     let me = c.args.self.now in
     let who = self_at me.client.seat (keys.ghosts.accepted me.client.keys) (pens.ghosts.fixed me.client.pen) in
     record {
-      shown = ∥∥₁_map me.shown (λ h. called c.read.new.self.held _ h.0 me.slots h.2 c.read.result (call_read who h.0 c.args.slot c.args.key.now)
+      shown =
+          ∥∥₁_map me.shown (λ h. called c.read.new.self.held _ h.0 me.slots h.2 c.read.result (call_read who h.0 c.args.slot c.args.key.now)
           (Sends c.args.out.now c.read.new.out) (read_keeps who h.0 c.args.slot c.args.key.now)
           (c.read.ensures.answer h.0 h.1) (c.read.ensures.as_before h.0 h.1));
     }

@@ -6,6 +6,7 @@ use Rattle.cluster_nodes.proofs.calling.StandingClient.delete.Goals as goal
 pub returns-then-slots-slot : goal.returns-then-slots-slot
 returns-then-slots-slot g c = λ s number client st. (
   quiet client,
-  write_lacks client c.args.slot (record { key = c.args.key.now; value = []; deletes = true }) c.slots.result (c.slots.ensures.shown client st.shows) c.if-slots-slot.true,
+  write_lacks client c.args.slot (record { key = c.args.key.now; value = []; deletes = true }) c.slots.result
+      (c.slots.ensures.shown client st.shows) c.if-slots-slot.true,
   st,
 )

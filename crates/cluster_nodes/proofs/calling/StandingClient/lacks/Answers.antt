@@ -5,7 +5,8 @@ use Rattle.cluster_nodes.proofs.calling.StandingClient.lacks.Goals as goal
 
 pub returns-in-Some-clause-held : goal.returns-in-Some-clause-held
 returns-in-Some-clause-held g c = λ h k.
-    ask_can c.args.self.now.client.held c.args.ask c.in-Some.slot c.slots.result (sym c.slot_named.ensures ∙ c.in-Some.is) c.slots.ensures.held h k
+    ask_can c.args.self.now.client.held c.args.ask c.in-Some.slot c.slots.result
+    (sym c.slot_named.ensures ∙ c.in-Some.is) c.slots.ensures.held h k
 
 pub returns-in-Some-clause-lacking : goal.returns-in-Some-clause-lacking
 returns-in-Some-clause-lacking g c = λ s number client st h.

@@ -10,8 +10,10 @@ returns-in_err-push-in-Some-clause-as_before c =
     let middle = c.add_group.new.self in
     let found : group_at middle c.args.id.now c.args.view ≡ Some c.in-Some.places.now = sym c.get_mut.ensures.value
     ∙ ap option_copied_mut c.in-Some.is in
-    let same : IsSame c.args.self.now (record { groups = c.get_mut.follows.lender c.push.new.self; alloc = c.add_group.new.self.alloc }) = λ i v.
-    same_items middle (record { groups = c.get_mut.follows.lender c.push.new.self; alloc = c.add_group.new.self.alloc }) c.args.id.now c.args.view c.in-Some.places.now c.push.new.self found c.in_err-push-in-Some.ensures.items
+    let same : IsSame c.args.self.now
+    (record { groups = c.get_mut.follows.lender c.push.new.self; alloc = c.add_group.new.self.alloc }) = λ i v.
+    same_items middle (record { groups = c.get_mut.follows.lender c.push.new.self; alloc = c.add_group.new.self.alloc })
+    c.args.id.now c.args.view c.in-Some.places.now c.push.new.self found c.in_err-push-in-Some.ensures.items
     (λ i v. ((c.get_mut.follows.holds c.push.new.self).3 (ap is_some found)).0 (i, v)) i v
     ∙ c.add_group.ensures.same i v in
     search (rules, same)
@@ -21,6 +23,7 @@ returns-clause-added c i v =
     let middle = c.add_group.new.self in
     let found : group_at middle c.args.id.now c.args.view ≡ Some c.in-Some.places.now = sym c.get_mut.ensures.value
     ∙ ap option_copied_mut c.in-Some.is in
-    adds middle (record { groups = c.get_mut.follows.lender c.push.new.self; alloc = c.add_group.new.self.alloc }) c.args.id.now c.args.view c.args.place c.in-Some.places.now c.push.new.self found c.in_ok-push-in-Some.ensures.items
+    adds middle (record { groups = c.get_mut.follows.lender c.push.new.self; alloc = c.add_group.new.self.alloc })
+    c.args.id.now c.args.view c.args.place c.in-Some.places.now c.push.new.self found c.in_ok-push-in-Some.ensures.items
     (λ i v. ((c.get_mut.follows.holds c.push.new.self).3 (ap is_some found)).0 (i, v)) i v
     ∙ ap (λ ps. ps ++ cond (same_key c.args.id.now c.args.view i v) (c.args.place ∷ []) []) (c.add_group.ensures.same i v)

@@ -9,5 +9,6 @@ pub returns-in-Some : goal.returns-in-Some
 returns-in-Some c =
     let found : group_at c.args.self.now c.args.id.now c.args.view ≡ Some c.in-Some.places.now = sym c.get_mut.ensures.value
     ∙ ap option_copied_mut c.in-Some.is in
-    takes_back c.args.self.now (record { groups = c.get_mut.follows.lender c.pop.new.self; alloc = c.args.self.now.alloc }) c.args.id.now c.args.view c.in-Some.places.now c.pop.new.self found (search rules)
+    takes_back c.args.self.now (record { groups = c.get_mut.follows.lender c.pop.new.self; alloc = c.args.self.now.alloc })
+    c.args.id.now c.args.view c.in-Some.places.now c.pop.new.self found (search rules)
     (λ i v. ((c.get_mut.follows.holds c.pop.new.self).3 (ap is_some found)).0 (i, v))

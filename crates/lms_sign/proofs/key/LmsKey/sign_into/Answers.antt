@@ -12,4 +12,5 @@ returns-clause-valid c =
     let ident : length fields.ident ≡ 16 = omega arith in
     let left : fields.next < leaves_of fields.set = omega arith in
     let made = made-valid (tree_of fields.set fields.ident fields.seed) fields.next c.args.message.now ident left in
-    subst (λ (key : Key). Valid (public_of key.tree) c.args.message.now c.write_signature.new.out) c.self.view_is (rw c.write_signature.ensures made)
+    subst (λ (key : Key). Valid (public_of key.tree) c.args.message.now c.write_signature.new.out) c.self.view_is
+    (rw c.write_signature.ensures made)

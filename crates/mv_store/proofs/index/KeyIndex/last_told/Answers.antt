@@ -17,5 +17,7 @@ pub returns-clause-value : goal.returns-clause-value
 returns-clause-value c =
     let found : option_map deref_pair c.find.result
     ≡ Index.last_told c.args.committed c.args.below.now c.args.self.now.writers.map.entries =
-    find_from_yields_List (λ e. is_told c.args.committed e.1) _ _ c.find.result c.find.ensures.ran (YieldsList-from_last (slots_below c.args.below.now c.args.self.now.writers.map.entries) (c.rev.ensures.source ∙ c.range.ensures.between tt)) (λ x b q k. search (rules, tests)) in
+    find_from_yields_List (λ e. is_told c.args.committed e.1) _ _ c.find.result c.find.ensures.ran
+    (YieldsList-from_last (slots_below c.args.below.now c.args.self.now.writers.map.entries)
+    (c.rev.ensures.source ∙ c.range.ensures.between tt)) (λ x b q k. search (rules, tests)) in
     mapped deref_pair c.find.result c.map.result c.map.ensures.cases (λ x y p. search (rules, tests)) ∙ found

@@ -11,4 +11,6 @@ returns c =
     let is = c.note_read.ensures in
     let found : index_of c.args.self.now c.args.key.now ≡ Some c.in-Some.index.now = sym c.get_mut.ensures.value
     ∙ ap option_copied_mut c.in-Some.is in
-    notes c.args.self.now _ c.args.key.now (c.args.time, c.args.client) c.in-Some.index.now w found (written c.args.self.now _ c.args.key.now c.in-Some.index.now w found (c.get_mut.follows.holds w).0) (ap (λ i. i.writers) is) (ap (λ i. i.readers) is) (ap (λ i. i.noted) is)
+    notes c.args.self.now _ c.args.key.now (c.args.time, c.args.client) c.in-Some.index.now w found
+    (written c.args.self.now _ c.args.key.now c.in-Some.index.now w found (c.get_mut.follows.holds w).0)
+    (ap (λ i. i.writers) is) (ap (λ i. i.readers) is) (ap (λ i. i.noted) is)

@@ -10,4 +10,5 @@ returns-in-Some c =
     let w : KeyIndex = record { writers = c.put.new.self; readers = c.in-Some.index.now.readers; noted = c.in-Some.index.now.noted } in
     let found : index_of c.args.self.now c.args.key.now ≡ Some c.in-Some.index.now = sym c.get_mut.ensures.value
     ∙ ap option_copied_mut c.in-Some.is in
-    puts_writer c.args.self.now _ c.args.key.now c.args.version.now c.args.told c.in-Some.index.now w found (written c.args.self.now _ c.args.key.now c.in-Some.index.now w found (c.get_mut.follows.holds w).0) c.put.ensures refl refl
+    puts_writer c.args.self.now _ c.args.key.now c.args.version.now c.args.told c.in-Some.index.now w found
+    (written c.args.self.now _ c.args.key.now c.in-Some.index.now w found (c.get_mut.follows.holds w).0) c.put.ensures refl refl

@@ -23,7 +23,8 @@ none {o = Some x} e = absurd cc
 
 pub returns-clause-told : goal.returns-clause-told
 returns-clause-told g c =
-    λ v. same_told c.args.version.now v (get version_cmp c.args.self.now.map) _ _ refl (c.in_ok-insert.ensures.updates.0 v) (none (sym c.contains_key.ensures ∙ c.if-contains_key.false))
+    λ v. same_told c.args.version.now v (get version_cmp c.args.self.now.map) _ _ refl
+    (c.in_ok-insert.ensures.updates.0 v) (none (sym c.contains_key.ensures ∙ c.if-contains_key.false))
 
 pub returns-clause-kept : goal.returns-clause-kept
 returns-clause-kept g c = λ v. still_some _ _ _ (c.in_ok-insert.ensures.updates.0 v)

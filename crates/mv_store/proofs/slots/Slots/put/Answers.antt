@@ -8,7 +8,8 @@ use Rattle.mv_store.specs.Slots.{slot_after}
 use Rattle.mv_store.proofs.slots.Slots.put.Goals as goal
 
 placed : {T : Type 0} (version v : Version) (told : Option T) (slot now old : Option (Option T))
-    → now ≡ cond (is_eq (version_cmp version v)) slot old → slot ≡ option_map Some told → now ≡ slot_after version (option_map Some told) v old
+    → now ≡ cond (is_eq (version_cmp version v)) slot old →
+    slot ≡ option_map Some told → now ≡ slot_after version (option_map Some told) v old
 placed version v told slot now old is e =
     is ∙ ap (λ b. cond b slot old) (tied_is_same version v) ∙ ap (λ s. cond (same_version version v) s old) e
 

@@ -8,7 +8,9 @@ returns-in_err-room_for_writes-clause-as_before c =
 
 pub returns-clause-room : goal.returns-clause-room
 returns-clause-room c =
-    on_ok c.room_for_reads.result (λ reads. room_of_both c.room_for_writes.new.self _ (transaction_of c.args.t) c.version_of-version.result c.version_of-version.ensures c.room_for_reads.ensures.as_before c.in_ok-room_for_writes.ensures.room reads) c.room_for_reads.ensures.room
+    on_ok c.room_for_reads.result (λ reads. room_of_both c.room_for_writes.new.self _ (transaction_of c.args.t) c.version_of-version.result
+    c.version_of-version.ensures c.room_for_reads.ensures.as_before c.in_ok-room_for_writes.ensures.room reads)
+    c.room_for_reads.ensures.room
 
 pub returns-clause-as_before : goal.returns-clause-as_before
 returns-clause-as_before c =

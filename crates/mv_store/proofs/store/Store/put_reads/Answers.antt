@@ -17,9 +17,11 @@ put_reader-requires c =
     let reads = (transaction_of c.args.t).reads in
     let r = read_of c.in-Some.item in
     let told = some_told (reader_of r) c.args.told c.reader_of-reader.result c.reader_of-reader.ensures some in
-    slot_stays key_of_read (slot_of_read c.args.told) (take c.loop-place.place reads) c.args.version.now (reader_slot c.args.self.now.keys) (reader_slot c.loop-place.self.keys) r.key c.loop-place.invariant.readers
+    slot_stays key_of_read (slot_of_read c.args.told) (take c.loop-place.place reads) c.args.version.now
+    (reader_slot c.args.self.now.keys) (reader_slot c.loop-place.self.keys) r.key c.loop-place.invariant.readers
     (λ x. some_slot (λ e. Some (reader_of x e)) c.args.told told)
-    (All-contains (λ x. IsSome (reader_slot c.args.self.now.keys x.key c.args.version.now)) reads r (c.requires told) (found_at reads c.loop-place.place r (sym c.in-Some.ensures)))
+    (All-contains (λ x. IsSome (reader_slot c.args.self.now.keys x.key c.args.version.now)) reads r
+    (c.requires told) (found_at reads c.loop-place.place r (sym c.in-Some.ensures)))
 
 pub loop-place-preserved : goal.loop-place-preserved
 loop-place-preserved c =
@@ -31,8 +33,10 @@ loop-place-preserved c =
     record {
       writers = λ k v. put.writers k v ∙ so_far.writers k v;
       readers =
-          subst (λ xs. Puts key_of_read (slot_of_read c.args.told) xs c.args.version.now (reader_slot c.args.self.now.keys) (reader_slot c.put_reader.new.self)) (sym (take_more reads c.loop-place.place r (sym c.in-Some.ensures)))
-          (puts_more key_of_read (slot_of_read c.args.told) (take c.loop-place.place reads) r c.args.version.now (reader_slot c.args.self.now.keys) (reader_slot c.loop-place.self.keys) (reader_slot c.put_reader.new.self) so_far.readers
+          subst (λ xs. Puts key_of_read (slot_of_read c.args.told) xs c.args.version.now (reader_slot c.args.self.now.keys)
+          (reader_slot c.put_reader.new.self)) (sym (take_more reads c.loop-place.place r (sym c.in-Some.ensures)))
+          (puts_more key_of_read (slot_of_read c.args.told) (take c.loop-place.place reads) r c.args.version.now
+          (reader_slot c.args.self.now.keys) (reader_slot c.loop-place.self.keys) (reader_slot c.put_reader.new.self) so_far.readers
           (λ k v. put.readers k v
           ∙ ap (λ s. cond (bytes_eq r.key k && same_version c.args.version.now v) s (reader_slot c.loop-place.self.keys k v)) slot)
           (λ y h e. reads_apart _ reads c.loop-place.place r y c.bytes.ensures.in_range.reads (sym c.in-Some.ensures) h e));
@@ -43,4 +47,5 @@ loop-place-preserved c =
 pub returns : goal.returns
 returns c =
     let reads = (transaction_of c.args.t).reads in
-    subst (λ xs. PutsReads c.args.self.now.keys c.loop-place.self.keys xs c.args.version.now c.args.told) (take_all reads c.loop-place.place (omega (arith, c.bytes.ensures.in_range.few_reads))) c.loop-place.invariant
+    subst (λ xs. PutsReads c.args.self.now.keys c.loop-place.self.keys xs c.args.version.now c.args.told)
+    (take_all reads c.loop-place.place (omega (arith, c.bytes.ensures.in_range.few_reads))) c.loop-place.invariant

@@ -14,9 +14,11 @@ put_writer-requires c =
     λ some.
     let writes = (transaction_of c.args.t).writes in
     let w = write_of c.in-Some.item in
-    slot_stays key_of_write (slot_of_write c.args.told) (take c.loop-place.place writes) c.args.version.now (writer_slot c.args.self.now.keys) (writer_slot c.loop-place.self.keys) w.key c.loop-place.invariant.writers
+    slot_stays key_of_write (slot_of_write c.args.told) (take c.loop-place.place writes) c.args.version.now
+    (writer_slot c.args.self.now.keys) (writer_slot c.loop-place.self.keys) w.key c.loop-place.invariant.writers
     (λ x. some_slot Some c.args.told some)
-    (All-contains (λ x. IsSome (writer_slot c.args.self.now.keys x.key c.args.version.now)) writes w (c.requires some) (found_at writes c.loop-place.place w (sym c.in-Some.ensures)))
+    (All-contains (λ x. IsSome (writer_slot c.args.self.now.keys x.key c.args.version.now)) writes w
+    (c.requires some) (found_at writes c.loop-place.place w (sym c.in-Some.ensures)))
 
 pub loop-place-preserved : goal.loop-place-preserved
 loop-place-preserved c =
@@ -26,8 +28,11 @@ loop-place-preserved c =
     let so_far = c.loop-place.invariant in
     record {
       writers =
-          subst (λ xs. Puts key_of_write (slot_of_write c.args.told) xs c.args.version.now (writer_slot c.args.self.now.keys) (writer_slot c.put_writer.new.self)) (sym (take_more writes c.loop-place.place w (sym c.in-Some.ensures)))
-          (puts_more key_of_write (slot_of_write c.args.told) (take c.loop-place.place writes) w c.args.version.now (writer_slot c.args.self.now.keys) (writer_slot c.loop-place.self.keys) (writer_slot c.put_writer.new.self) so_far.writers put.writers (λ y h e. refl));
+          subst (λ xs. Puts key_of_write (slot_of_write c.args.told) xs c.args.version.now (writer_slot c.args.self.now.keys)
+          (writer_slot c.put_writer.new.self)) (sym (take_more writes c.loop-place.place w (sym c.in-Some.ensures)))
+          (puts_more key_of_write (slot_of_write c.args.told)
+          (take c.loop-place.place writes) w c.args.version.now (writer_slot c.args.self.now.keys)
+          (writer_slot c.loop-place.self.keys) (writer_slot c.put_writer.new.self) so_far.writers put.writers (λ y h e. refl));
       readers = λ k v. put.readers k v ∙ so_far.readers k v;
       noted = λ k. put.noted k ∙ so_far.noted k;
       keys = λ k h. put.keys k (so_far.keys k h);

@@ -12,10 +12,13 @@ loop-place-preserved c =
     record {
       more = more_room _ _ _ c.loop-place.invariant.more more;
       room =
-          room_more (λ x. IsSome (writer_slot c.loop-place.self.keys x.key c.args.version.now)) (λ x. IsSome (writer_slot c.room_for_writer.new.self x.key c.args.version.now)) (transaction_of c.args.t).writes c.loop-place.place (write_of c.in-Some.item) (sym c.in-Some.ensures)
+          room_more (λ x. IsSome (writer_slot c.loop-place.self.keys x.key c.args.version.now))
+          (λ x. IsSome (writer_slot c.room_for_writer.new.self x.key c.args.version.now))
+          (transaction_of c.args.t).writes c.loop-place.place (write_of c.in-Some.item) (sym c.in-Some.ensures)
           (λ x h. more.writer_slots x.key c.args.version.now h) c.in_ok-room_for_writer.ensures.room c.loop-place.invariant.room;
     }
 
 pub returns-clause-room : goal.returns-clause-room
 returns-clause-room c =
-    room_all (λ x. IsSome (writer_slot c.loop-place.self.keys x.key c.args.version.now)) (transaction_of c.args.t).writes c.loop-place.place (omega (arith, c.bytes.ensures.in_range.few_writes)) c.loop-place.invariant.room
+    room_all (λ x. IsSome (writer_slot c.loop-place.self.keys x.key c.args.version.now))
+    (transaction_of c.args.t).writes c.loop-place.place (omega (arith, c.bytes.ensures.in_range.few_writes)) c.loop-place.invariant.room

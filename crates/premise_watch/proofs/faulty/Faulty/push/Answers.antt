@@ -6,7 +6,8 @@ use Rattle.premise_watch.proofs.RoomLaws.{comes, room_left}
 use Rattle.premise_watch.proofs.faulty.Faulty.push.Goals as goal
 
 -- there is room behind parties that fit
-below : (parties : List Party) (len : ℕ) (p : Party) → length parties ≡ 1792 → HasRoom parties len → CanCome (take len parties) p → len < 1792
+below : (parties : List Party) (len : ℕ) (p : Party) →
+    length parties ≡ 1792 → HasRoom parties len → CanCome (take len parties) p → len < 1792
 below parties len p full h can =
     let short = room_left (take len parties) p (comes (take len parties) p can h.fits) in
     let inside : len ≤ length parties = omega (arith, full, h.within) in
@@ -15,7 +16,8 @@ below parties len p full h can =
 pub bounds-self-inside-self-inside : goal.bounds-self-inside-self-inside
 bounds-self-inside-self-inside c =
     let full : length c.self.inside.parties ≡ 1792 = search rules in
-    below c.self.inside.parties c.self.inside.len c.args.party full c.self.invariant (subst (λ l. CanCome l c.args.party) (sym c.self.view_is) c.requires)
+    below c.self.inside.parties c.self.inside.len c.args.party full c.self.invariant
+    (subst (λ l. CanCome l c.args.party) (sym c.self.view_is) c.requires)
 
 pub invariant_of-self : goal.invariant_of-self
 invariant_of-self c =
@@ -27,7 +29,8 @@ invariant_of-self c =
     let inside : len < length parties = omega (arith, full, short) in
     record {
       within = omega (arith, short);
-      fits = subst AreRoomy (sym (take_more_set parties len c.args.party inside)) (comes (take len parties) c.args.party can c.self.invariant.fits);
+      fits = subst AreRoomy (sym (take_more_set parties len c.args.party inside))
+          (comes (take len parties) c.args.party can c.self.invariant.fits);
     }
 
 pub returns : goal.returns

@@ -24,7 +24,8 @@ returns-clause-same c =
     let key : Vec ℕ Global = c.in_ok-key.key in
     let items : key.items ≡ bytes = c.in_ok-key.ensures.items in
     let none : listed_at old bytes ≡ None = nothing _ (sym c.contains_key.ensures ∙ c.if-contains_key.false) in
-    let absent : get_by (λ x. bytes_eq key.items x.items) old.signers ≡ None = ap (λ b. get_by (λ x. bytes_eq b x.items) old.signers) items ∙ none in
+    let absent : get_by (λ x. bytes_eq key.items x.items) old.signers ≡ None =
+    ap (λ b. get_by (λ x. bytes_eq b x.items) old.signers) items ∙ none in
     new_list old new bytes c.new.result none c.new.ensures.items
     (pushed old new bytes key c.new.result items none (c.in_ok-insert.ensures.entries
     ∙ insert_entry-new same_bytes old.signers key c.new.result absent))

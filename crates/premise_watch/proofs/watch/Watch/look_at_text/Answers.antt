@@ -12,8 +12,10 @@ pub returns-in-Some-clause-passed : goal.returns-in-Some-clause-passed
 returns-in-Some-clause-passed c =
     subst
     (λ o. OnOk c.take.result ((A : Accepted) (faulty : List Party)
-    → Passes A faulty c.args.self.now (maybe_text (option_map transaction_of o)) (record c.args.self.now { texts = c.take.new.self }))) (sym c.in-Some.is)
-    (on_both _ _ _ c.take.result (text_passed c.args.self.now (record c.args.self.now { texts = c.take.new.self }) (transaction_of c.in-Some.transaction) refl) c.take.ensures.texts c.take.ensures.apart)
+    → Passes A faulty c.args.self.now (maybe_text (option_map transaction_of o)) (record c.args.self.now { texts = c.take.new.self })))
+    (sym c.in-Some.is)
+    (on_both _ _ _ c.take.result (text_passed c.args.self.now (record c.args.self.now { texts = c.take.new.self })
+    (transaction_of c.in-Some.transaction) refl) c.take.ensures.texts c.take.ensures.apart)
 
 pub returns-in-Some-clause-breach : goal.returns-in-Some-clause-breach
 returns-in-Some-clause-breach c =

@@ -4,7 +4,8 @@ use Rattle.schedule_replay.specs.Events.{gifts, line_does, round_of}
 use Rattle.schedule_replay.specs.Replays.{along}
 use Rattle.schedule_replay.specs.Roads.{road_with}
 use Rattle.schedule_replay.proofs.RoadLaws.{carries_none, carries_these}
-use Rattle.schedule_replay.proofs.Stepping.{behind_gifts, ends_not_begun, happened, happened_not, no_gifts, nothing_happened, same_event, stands_along}
+use Rattle.schedule_replay.proofs.Stepping.{behind_gifts, ends_not_begun, happened, happened_not}
+use Rattle.schedule_replay.proofs.Stepping.{no_gifts, nothing_happened, same_event, stands_along}
 use Rattle.schedule_replay.proofs.course.Course.happen.Goals as goal
 
 pub returns-in_err-given-clause-does : goal.returns-in_err-given-clause-does

@@ -18,7 +18,8 @@ returns-in-Err-clause-took g c =
     carries_none c.args.carried refl
     (λ stage later at.
     let here = on_road (road_with c.args.carried later) stage in
-    refused_took here c.args.line.now c.args.number c.in-Err.fault c.fault_of.result (road_with c.args.carried later) c.in-Err.ensures.refused
+    refused_took here c.args.line.now c.args.number c.in-Err.fault c.fault_of.result
+    (road_with c.args.carried later) c.in-Err.ensures.refused
     (c.fault_of.ensures.fault here (at_road c.args.self stage (road_with c.args.carried later) at)))
 
 pub returns-in-Ok-clause-lines : goal.returns-in-Ok-clause-lines

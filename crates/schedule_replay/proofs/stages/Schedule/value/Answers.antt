@@ -36,7 +36,8 @@ returns-in_err-line-in-Runs-clause-took g c =
     (λ gave did stage later at.
     let here = road_with c.args.carried (gave ++ later) in
     let there = road_with c.args.carried later in
-    at_runs stage c.in-Runs.replay c.from_residual.result c.args.line.now c.args.number here there (subst (λ s. IsAt s stage) c.in-Runs.is at)
+    at_runs stage c.in-Runs.replay c.from_residual.result c.args.line.now c.args.number here there
+    (subst (λ s. IsAt s stage) c.in-Runs.is at)
     (λ r stands.
     took_fault c.from_residual.result c.in_err-line-in-Runs.field-0.0 _ there c.from_residual.ensures.1
     (run_fault (round_of (along here r) c.args.line.now) (along here r) c.line-in-Runs.new.self.course.value

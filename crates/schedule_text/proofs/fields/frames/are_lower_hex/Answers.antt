@@ -5,4 +5,5 @@ use Rattle.schedule_text.specs.Fields.{is_lower_hex}
 use Rattle.schedule_text.proofs.fields.frames.are_lower_hex.Goals as goal
 
 pub returns : goal.returns
-returns c = all_from_yields_List is_lower_hex _ _ _ c.all.ensures.ran (YieldsList-from_slice c.args.word.now cc) (λ x b q k. search (rules, tests))
+returns c =
+    all_from_yields_List is_lower_hex _ _ _ c.all.ensures.ran (YieldsList-from_slice c.args.word.now cc) (λ x b q k. search (rules, tests))

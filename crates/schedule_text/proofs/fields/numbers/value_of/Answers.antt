@@ -7,4 +7,5 @@ returns-in-Err c = absurd (c.in-Err.ensures.cases.0 (digits-utf8 c.args.digits.n
 
 pub returns-in-Ok : goal.returns-in-Ok
 returns-in-Ok c =
-    c.ok.ensures.value ∙ parsed c.args.digits.now c.parse.result c.requires.digits c.requires.some (rw c.in-Ok.ensures.cases.0 at c.parse.ensures.value.0)
+    c.ok.ensures.value ∙ parsed c.args.digits.now c.parse.result c.requires.digits c.requires.some
+    (rw c.in-Ok.ensures.cases.0 at c.parse.ensures.value.0)

@@ -16,7 +16,11 @@ returns-then-not-contains c =
     let vote : waiting c.push.new.self.items ≡ asked_vote asker (vote_of c.args.self.now.stage) =
     ap waiting (c.push.ensures.items ∙ sym (ap (λ b. if b then items else items ++ asker ∷ []) absent)) ∙ asked_open asker items
     ∙ ap (λ (s : Stage). asked_vote asker (vote_of s)) (sym c.in-Open.is) in
-    ap (λ (v : VoteValue). let e : EntryValue = record { transaction = c.args.self.now.transaction; vote = v; outcome = option_map outcome_shown c.args.self.now.outcome } in e) vote
+    ap (λ (v : VoteValue). let e : EntryValue = record {
+      transaction = c.args.self.now.transaction;
+      vote = v;
+      outcome = option_map outcome_shown c.args.self.now.outcome;
+    } in e) vote
 
 pub returns-else-not-contains : goal.returns-else-not-contains
 returns-else-not-contains c =
@@ -28,4 +32,8 @@ returns-else-not-contains c =
     let vote : waiting items ≡ asked_vote asker (vote_of c.args.self.now.stage) =
     ap waiting (sym (ap (λ b. if b then items else items ++ asker ∷ []) present)) ∙ asked_open asker items
     ∙ ap (λ (s : Stage). asked_vote asker (vote_of s)) (sym c.in-Open.is) in
-    ap (λ (v : VoteValue). let e : EntryValue = record { transaction = c.args.self.now.transaction; vote = v; outcome = option_map outcome_shown c.args.self.now.outcome } in e) vote
+    ap (λ (v : VoteValue). let e : EntryValue = record {
+      transaction = c.args.self.now.transaction;
+      vote = v;
+      outcome = option_map outcome_shown c.args.self.now.outcome;
+    } in e) vote

@@ -3,7 +3,8 @@ use Rattle.std.specs.Prelude.{slice_get, ◌||◌, ◌&&◌}
 use Rattle.basil_types.specs.Shown.{transaction_of, read_of}
 use Rattle.basil_types.specs.declared.transaction.parts.ReadPart.{ReadPart}
 use Rattle.txn_table.specs.declared.released.Dependencies.{Dependencies}
-use Rattle.txn_table.specs.Released.{is_dependency, is_place, is_aborted, is_committed, place_read, outcome_read, depends, some_aborted, all_committed}
+use Rattle.txn_table.specs.Released.{is_dependency, is_place, is_aborted, is_committed, place_read}
+use Rattle.txn_table.specs.Released.{outcome_read, depends, some_aborted, all_committed}
 use Rattle.txn_table.proofs.Reading.{passed_more, passed_same, any_more, all_more, take_short}
 use Rattle.txn_table.proofs.table.Table.dependencies.Goals as goal
 use Rattle.txn_table.proofs.table.Table.dependencies.Goals.{then-is_dependency, else-is_dependency}

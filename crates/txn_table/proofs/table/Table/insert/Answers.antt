@@ -36,7 +36,8 @@ appended c =
     ∙ ap (λ k. m.entries ++ (k, e) ∷ []) (key ∙ sym own)
 
 -- its place is listed at the ids that it depends on
-adds : (c : goal.Joined-this) → Adds (waits_on c.new-2.result.transaction) c.self.inside.waiters c.list.new.self (length (shown c.self.inside.entries))
+adds : (c : goal.Joined-this) → Adds (waits_on c.new-2.result.transaction) c.self.inside.waiters c.list.new.self
+    (length (shown c.self.inside.entries))
 adds c =
     let place : c.len-place.result ≡ length (shown c.self.inside.entries) = c.len-place.ensures.value
     ∙ sym (ap (λ (t : TableValue). length t.entries) c.self.view_is) in
@@ -54,12 +55,14 @@ invariant_of-self c =
     let none : place_of (shown m) id ≡ None = ap (λ (t : TableValue). place_of t.entries id) c.self.view_is ∙ c.requires.arrives in
     let room : c.self.inside.room ≡ Some id = ap (λ (t : TableValue). t.room) c.self.view_is ∙ c.requires.room in
     let can = (c.self.invariant.made id room).entry none in
-    let asks : 0 < c.replace-askers.result.room = omega (arith, can.asker, ap (λ (s : Spare Party). s.room) c.replace-askers.ensures.value) in
+    let asks : 0 < c.replace-askers.result.room =
+    omega (arith, can.asker, ap (λ (s : Spare Party). s.room) c.replace-askers.ensures.value) in
     let unproved : (n : ℕ) → IsProofBelow n (entry_of e) =
     λ n place at.
     let no : None ≡ Some place = sym (ap (λ (e : EntryValue). proof_of e.vote) c.new-2.ensures.entry) ∙ at in
     absurd cc in
-    kept-pushed m c.insert.new.self e (appended c) c.self.inside.waiters c.list.new.self (adds c) c.self.inside.askers c.replace-askers.new.dest c.self.inside.room
+    kept-pushed m c.insert.new.self e (appended c) c.self.inside.waiters c.list.new.self
+    (adds c) c.self.inside.askers c.replace-askers.new.dest c.self.inside.room
     (ap (λ (s : Spare Party). s.items) c.replace-askers.ensures.after ∙ c.new.ensures)
     (c.new-2.ensures.room asks) unproved (room ∙ ap Some (sym own)) can c.self.invariant
 

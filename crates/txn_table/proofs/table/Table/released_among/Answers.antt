@@ -13,7 +13,8 @@ loop-i-preserved c =
     let i = c.loop-i.i in
     elim c.match-vote_among.branch [
       | in-Some+in_ok-push w ↦
-          gives_some g places i w.in-Some.vote c.loop-i.released.items c.match-vote_among.released.items (sym c.vote_among.ensures ∙ w.in-Some.is) c.loop-i.invariant
+          gives_some g places i w.in-Some.vote c.loop-i.released.items c.match-vote_among.released.items
+          (sym c.vote_among.ensures ∙ w.in-Some.is) c.loop-i.invariant
           (ap (λ (v : Vec (ℕ × Decision)). v.items) w.released-is ∙ w.in_ok-push.ensures.items)
       | in_default w ↦
           ap (λ (v : Vec (ℕ × Decision)). v.items) w.released-is

@@ -15,8 +15,10 @@ invariant_of-self c =
     let absent : place_of (shown m') c.args.id ≡ None =
     ap (λ es. place_of (map entry_of (values_of es)) c.args.id) same ∙ ap (λ (t : TableValue). place_of t.entries c.args.id) c.self.view_is
     ∙ c.requires in
-    kept-same m m' same c.self.inside.askers c.room_for_entry.new.askers c.self.inside.room (Some c.args.id) c.room_for_entry.ensures.same_askers
-    (λ id is. subst (HasRoom m' c.room_for_entry.new.askers) (same_Some c.args.id id is) (room-new m' c.room_for_entry.new.askers c.args.id c.in-Ok.ensures.room absent))
+    kept-same m m' same c.self.inside.askers c.room_for_entry.new.askers c.self.inside.room
+    (Some c.args.id) c.room_for_entry.ensures.same_askers
+    (λ id is. subst (HasRoom m' c.room_for_entry.new.askers)
+    (same_Some c.args.id id is) (room-new m' c.room_for_entry.new.askers c.args.id c.in-Ok.ensures.room absent))
     c.self.invariant
 
 pub invariant_of-self-in-Err : goal.invariant_of-self-in-Err
@@ -24,6 +26,8 @@ invariant_of-self-in-Err c =
     let m = c.self.inside.entries in
     let m' = c.room_for_entry.new.entries in
     let same = c.room_for_entry.ensures.same in
-    kept-same m m' same c.self.inside.askers c.room_for_entry.new.askers c.self.inside.room c.self.inside.room c.room_for_entry.ensures.same_askers
-    (λ id is. room-same m m' same c.self.inside.askers c.room_for_entry.new.askers id c.room_for_entry.ensures.spare c.in-Err.ensures.as_before (c.self.invariant.made id is))
+    kept-same m m' same c.self.inside.askers
+    c.room_for_entry.new.askers c.self.inside.room c.self.inside.room c.room_for_entry.ensures.same_askers
+    (λ id is. room-same m m' same c.self.inside.askers
+    c.room_for_entry.new.askers id c.room_for_entry.ensures.spare c.in-Err.ensures.as_before (c.self.invariant.made id is))
     c.self.invariant

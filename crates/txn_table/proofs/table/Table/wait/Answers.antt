@@ -24,7 +24,8 @@ invariant_of-self c =
     let at = c.index_mut-entry.ensures.value in
     let same : w.transaction ≡ e.transaction = ap (λ (e : EntryValue). e.transaction) c.wait.ensures in
     kept-changed m c.self.inside.askers c.args.place e w at same c.self.inside.room None
-    (λ place is. proof-at m c.self.inside.askers c.self.inside.room c.args.place e at c.self.invariant place (sym (ap (λ (e : EntryValue). proof_of e.vote) c.wait.ensures ∙ asked-proof c.args.asker (entry_of e).vote) ∙ is))
+    (λ place is. proof-at m c.self.inside.askers c.self.inside.room c.args.place e at c.self.invariant place
+    (sym (ap (λ (e : EntryValue). proof_of e.vote) c.wait.ensures ∙ asked-proof c.args.asker (entry_of e).vote) ∙ is))
     (λ id is. absurd cc)
     c.self.invariant
 
@@ -34,5 +35,6 @@ returns c =
     let w = c.wait.new.self in
     let same : w.transaction ≡ e.transaction = ap (λ (e : EntryValue). e.transaction) c.wait.ensures in
     let f : EntryValue → EntryValue = asked c.args.asker in
-    ap (λ (es : List EntryValue). let t : TableValue = record { entries = es; room = None } in t) (shown-changed c.self.inside.entries c.self.inside.askers c.args.place e w c.index_mut-entry.ensures.value same f c.wait.ensures)
+    ap (λ (es : List EntryValue). let t : TableValue = record { entries = es; room = None } in t)
+    (shown-changed c.self.inside.entries c.self.inside.askers c.args.place e w c.index_mut-entry.ensures.value same f c.wait.ensures)
     ∙ ap (λ (t : TableValue). let t' : TableValue = record { entries = changed f c.args.place t.entries; room = None } in t') c.self.view_is

@@ -10,7 +10,12 @@ use Rattle.vote_tally.proofs.tally.Tally.add.Goals as goal
 pub bounds-self-inside-self-inside : goal.bounds-self-inside-self-inside
 bounds-self-inside-self-inside c =
     let f = ap (λ t. t.cluster.f) c.self.view_is in
-    omega (arith, mark_left c.self.inside.voted c.from-place.result (omega (arith, c.self.invariant.faulty, c.self.told, f)) c.if-self-place.false, c.self.invariant.voters)
+    omega (
+      arith,
+      mark_left c.self.inside.voted c.from-place.result
+          (omega (arith, c.self.invariant.faulty, c.self.told, f)) c.if-self-place.false,
+      c.self.invariant.voters,
+    )
 
 pub invariant_of-self : goal.invariant_of-self
 invariant_of-self c =
@@ -20,7 +25,8 @@ invariant_of-self c =
     let below : c.from-place.result < length t.voted = omega (arith, c.self.invariant.faulty, c.self.told, f) in
     let left = mark_left t.voted c.from-place.result below c.if-self-place.false in
     let room : t.len < length t.votes = omega (arith, left, c.self.invariant.voters, c.self.invariant.slots_are, c.self.told) in
-    let more : take (t.len + 1) (set t.votes t.len v) ≡ take t.len t.votes ++ v ∷ [] = take-set_at t.votes t.len (t.len + 1) v (omega arith) room in
+    let more : take (t.len + 1) (set t.votes t.len v) ≡ take t.len t.votes ++ v ∷ [] =
+    take-set_at t.votes t.len (t.len + 1) v (omega arith) room in
     let place : c.args.replica ≡ c.from-place.result = sym c.from-place.ensures in
     let unheard : has_voted (take t.len t.votes) c.args.replica ≡ false =
     sym (c.self.invariant.marks c.args.replica (omega (arith, c.self.invariant.faulty, f)))
@@ -35,7 +41,8 @@ invariant_of-self c =
           ∙ marks_more t.voted (take t.len t.votes) v i (omega (arith, below, place)) (c.self.invariant.marks i h)
           ∙ ap (λ votes. has_voted votes i) (sym more);
       voters = ap (λ k. k + 1) c.self.invariant.voters ∙ sym (more_marks t.voted c.from-place.result below c.if-self-place.false);
-      first = subst (AreFirst t.cluster) (sym more) (first_more t.cluster (take t.len t.votes) v c.self.invariant.first (omega (arith, f)) unheard);
+      first = subst (AreFirst t.cluster)
+          (sym more) (first_more t.cluster (take t.len t.votes) v c.self.invariant.first (omega (arith, f)) unheard);
       counted = c.with-counts.ensures (take t.len t.votes) c.self.invariant.counted ∙ ap counts_of (sym more);
     }
 
@@ -47,7 +54,8 @@ returns-clause-counted c =
     let below : c.from-place.result < length t.voted = omega (arith, c.self.invariant.faulty, c.self.told, f) in
     let left = mark_left t.voted c.from-place.result below c.if-self-place.false in
     let room : t.len < length t.votes = omega (arith, left, c.self.invariant.voters, c.self.invariant.slots_are, c.self.told) in
-    let more : take (t.len + 1) (set t.votes t.len v) ≡ take t.len t.votes ++ v ∷ [] = take-set_at t.votes t.len (t.len + 1) v (omega arith) room in
+    let more : take (t.len + 1) (set t.votes t.len v) ≡ take t.len t.votes ++ v ∷ [] =
+    take-set_at t.votes t.len (t.len + 1) v (omega arith) room in
     let unheard : has_voted (take t.len t.votes) c.args.replica ≡ false =
     sym (c.self.invariant.marks c.args.replica (omega (arith, c.self.invariant.faulty, f)))
     ∙ ap (λ k. get_or t.voted k false) (sym c.from-place.ensures) ∙ c.if-self-place.false in

@@ -20,7 +20,8 @@ invariant_of-self c =
 
 pub unreachable-requires : goal.unreachable-requires
 unreachable-requires c =
-    goes_wrong read_at key_of_read c.args.self.now.left c.args.self.now.before.now c.args.self.now.rest.now c.in-Err.field-0 c.if-self-eq0.false c.in-Err.ensures c.args.self.now.begins
+    goes_wrong read_at key_of_read c.args.self.now.left
+    c.args.self.now.before.now c.args.self.now.rest.now c.in-Err.field-0 c.if-self-eq0.false c.in-Err.ensures c.args.self.now.begins
 
 pub returns-clause-steps : goal.returns-clause-steps
 returns-clause-steps c =

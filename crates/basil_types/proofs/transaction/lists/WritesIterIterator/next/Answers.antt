@@ -9,7 +9,8 @@ pub returns-then-self-eq0-clause-steps : goal.returns-then-self-eq0-clause-steps
 returns-then-self-eq0-clause-steps c =
     let none =
     none_left
-    (write_at c.args.self.now.format) key_of_write c.args.self.now.left c.args.self.now.before.now c.args.self.now.rest.now c.if-self-eq0.true in
+    (write_at c.args.self.now.format) key_of_write
+    c.args.self.now.left c.args.self.now.before.now c.args.self.now.rest.now c.if-self-eq0.true in
     (none, none)
 
 pub invariant_of-self : goal.invariant_of-self
@@ -23,7 +24,8 @@ invariant_of-self c =
 pub unreachable-requires : goal.unreachable-requires
 unreachable-requires c =
     goes_wrong
-    (write_at c.args.self.now.format) key_of_write c.args.self.now.left c.args.self.now.before.now c.args.self.now.rest.now c.in-Err.field-0 c.if-self-eq0.false c.in-Err.ensures c.args.self.now.begins
+    (write_at c.args.self.now.format) key_of_write c.args.self.now.left
+    c.args.self.now.before.now c.args.self.now.rest.now c.in-Err.field-0 c.if-self-eq0.false c.in-Err.ensures c.args.self.now.begins
 
 pub returns-clause-steps : goal.returns-clause-steps
 returns-clause-steps c =

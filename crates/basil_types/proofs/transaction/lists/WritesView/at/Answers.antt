@@ -10,18 +10,24 @@ loop-i-init c = record { items = begins _ _ _ _ _; earlier = omega arith }
 
 pub loop-i-preserved : goal.loop-i-preserved
 loop-i-preserved c =
-    record { items = goes_on _ _ c.args.self.now.count c.loop-i.i c.loop-i.before.now c.loop-i.rest.now _ c.in-Ok.after.now _ c.loop-i-test.true c.in-Ok.ensures c.loop-i.invariant.items; earlier = omega arith }
+    record {
+      items = goes_on _ _ c.args.self.now.count c.loop-i.i c.loop-i.before.now
+          c.loop-i.rest.now _ c.in-Ok.after.now _ c.loop-i-test.true c.in-Ok.ensures c.loop-i.invariant.items;
+      earlier = omega arith;
+    }
 
 pub returns-then-i-place : goal.returns-then-i-place
 returns-then-i-place c =
     let found =
-    met (write_at c.args.self.now.format) key_of_write c.args.self.now.count c.loop-i.i c.loop-i.before.now c.loop-i.rest.now _ c.in-Ok.after.now _ c.loop-i-test.true c.in-Ok.ensures c.loop-i.invariant.items c.args.self.now.begins in
+    met (write_at c.args.self.now.format) key_of_write c.args.self.now.count c.loop-i.i c.loop-i.before.now
+    c.loop-i.rest.now _ c.in-Ok.after.now _ c.loop-i-test.true c.in-Ok.ensures c.loop-i.invariant.items c.args.self.now.begins in
     rw (← c.if-i-place.true) found
 
 pub returns-in-Err : goal.returns-in-Err
 returns-in-Err c =
     absurd (never_ends
-    (write_at c.args.self.now.format) key_of_write c.args.self.now.count c.loop-i.i c.loop-i.before.now c.loop-i.rest.now c.in-Err.field-0 _ c.loop-i-test.true c.in-Err.ensures c.loop-i.invariant.items c.args.self.now.begins)
+    (write_at c.args.self.now.format) key_of_write c.args.self.now.count c.loop-i.i c.loop-i.before.now
+    c.loop-i.rest.now c.in-Err.field-0 _ c.loop-i-test.true c.in-Err.ensures c.loop-i.invariant.items c.args.self.now.begins)
 
 pub returns : goal.returns
 returns c =
