@@ -79,9 +79,9 @@ fn judge(alloc: Global, listing: &Listing) -> Result<Finding, NoMemory>
 ///
 /// The lines are `tx NAME TIME C`, which begins a transaction of client C, `read NAME KEY WRITER`, where WRITER is an
 /// earlier transaction or `-` for genesis, `write NAME KEY VALUE` and `delete NAME KEY`; empty lines and those that
-/// begin with `#` are skipped. A refused line has the reason 2 for a wrong word, 3 for a number out of form or range, 4
-/// for a NAME that isn't that of the last `tx` line, is begun twice, or for a WRITER that isn't an earlier one, 8 for a
-/// size, and 9, at the `tx` line, for a transaction that is empty, has two reads of one key or a 33rd read or write, or
+/// begin with `#` are skipped. A line is refused as `Misspelt`, as `OutOfRange`, as `WrongName` for a NAME that isn't
+/// that of the last `tx` line or is begun twice, or for a WRITER that isn't an earlier one, as `OutOfSize`, and, at the
+/// `tx` line, as `RefusedCall` for a transaction that is empty, has two reads of one key or a 33rd read or write, or
 /// reads a version that isn't below its own.
 pub fn audit_text(alloc: Global, bytes: &[u8]) -> Result<Finding, NoMemory>
     requires { length bytes.now < 2 ^ 31 }

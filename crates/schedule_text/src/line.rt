@@ -172,8 +172,8 @@ pub enum Line {
 /// Why a line has no value.
 #[derive(Clone, Copy, Debug, PartialEq, Eq)]
 pub enum LineFault {
-    /// The line of this number is refused, for this reason: 1 for a header whose cluster is refused, 2 for a wrong
-    /// word, 3 for a number out of form or range, 8 for a size.
+    /// The line of this number is refused, for this reason: `NoHeader` for a header whose cluster is refused,
+    /// `Misspelt`, `OutOfRange` or `OutOfSize`.
     BadLine { number: u64, reason: Reason },
     /// Memory is wanting.
     NoMemory,

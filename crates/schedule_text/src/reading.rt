@@ -116,10 +116,11 @@ fn read_numbered(value: Result<Line, Complaint>, number: u64) -> Result<Line, Co
 /// Reads one line of a schedule, without its newline. `number` is its place in the schedule, from 1.
 ///
 /// A refused line gives its number and its first reason of those that the line and its number show alone. A line above
-/// 2,200,000 bytes is reason 8, and none of its bytes is looked at. Otherwise the least reason counts: 1 for a header
-/// whose cluster is refused, 2 for a wrong word, 3 for a number out of form or out of the widest range that any cluster
-/// gives, 8 for a key, value or frame out of size and for a line behind the millionth. Skipped lines have these limits
-/// too. A schedule's first line, and a later header, have reasons of their own, which are the caller's.
+/// 2,200,000 bytes is `OutOfSize`, and none of its bytes is looked at. Otherwise the least reason counts: `NoHeader` for
+/// a header whose cluster is refused, `Misspelt`, `OutOfRange` for a number out of form or out of the widest range that
+/// any cluster gives, `OutOfSize` for a key, value or frame out of size and for a line behind the millionth. Skipped
+/// lines have these limits too. A schedule's first line, and a later header, have reasons of their own, which are the
+/// caller's.
 pub fn read_line(alloc: Global, line: &[u8], number: u64) -> Result<Line, LineFault>
     ensures value { IfOk result (λ value. line_at line.now number ≡ Ok value) }
     ensures refused { IfErr result (λ fault. fault ≢ LineFault.NoMemory → line_at line.now number ≡ Err fault) }
