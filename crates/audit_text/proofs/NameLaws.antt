@@ -8,7 +8,7 @@ use Rattle.indexmap.specs.IndexMap.{insert_entry}
 use Rattle.basil_types.proofs.Walks.{drop_here, drop_past, drop_short}
 use Rattle.basil_types.specs.Version.{genesis, same_version}
 use Rattle.basil_types.specs.declared.version.Version.{Version}
-use Rattle.audit_text.specs.Findings.{name_word, version_word}
+use Rattle.audit_text.specs.Findings.{name_token, version_token}
 use Rattle.audit_text.specs.Listing.{version_named}
 use Rattle.audit_text.specs.Parts.{names_in}
 
@@ -44,19 +44,19 @@ module _ {A : Type 0} where
   bytes_of None = []
   bytes_of (Some name) = name.items
 
-  word_of_name : (o : Option (Vec ℕ A × Version)) →
-      name_word (option_map as_name o) ≡ bytes_of (option_map (λ (e : Vec ℕ A × Version). e.0) o)
-  word_of_name None = refl
-  word_of_name (Some e) = refl
+  token_of_name : (o : Option (Vec ℕ A × Version)) →
+      name_token (option_map as_name o) ≡ bytes_of (option_map (λ (e : Vec ℕ A × Version). e.0) o)
+  token_of_name None = refl
+  token_of_name (Some e) = refl
 
-  -- the word of a version that isn't genesis
-  pub word_is : (v : Version) (es : List (Vec ℕ A × Version)) (r : Option (Vec ℕ A)) → same_version v genesis ≡ false
+  -- the token of a version that isn't genesis
+  pub token_is : (v : Version) (es : List (Vec ℕ A × Version)) (r : Option (Vec ℕ A)) → same_version v genesis ≡ false
       → r ≡ option_map (λ (e : Vec ℕ A × Version). e.0) (find (λ (e : Vec ℕ A × Version). same_version e.1 v) es) →
-      bytes_of r ≡ version_word (names_in es) v
-  word_is v es r other found =
-      ap bytes_of found ∙ sym (word_of_name (find (λ (e : Vec ℕ A × Version). same_version e.1 v) es))
-      ∙ ap name_word (sym (named_first v es))
-      ∙ sym (ap (λ b. cond b (codes "-") (name_word (find (λ n. same_version n.1 v) (names_in es)))) other)
+      bytes_of r ≡ version_token (names_in es) v
+  token_is v es r other found =
+      ap bytes_of found ∙ sym (token_of_name (find (λ (e : Vec ℕ A × Version). same_version e.1 v) es))
+      ∙ ap name_token (sym (named_first v es))
+      ∙ sym (ap (λ b. cond b (codes "-") (name_token (find (λ n. same_version n.1 v) (names_in es)))) other)
 
   pub named_put : (eq : Vec ℕ A → Vec ℕ A → Bool) → ((a b : Vec ℕ A) → eq a b ≡ bytes_eq a.items b.items) → (k : Vec ℕ A) (v : Version)
       (es : List (Vec ℕ A × Version)) → names_in (insert_entry eq es k v) ≡ insert_entry bytes_eq (names_in es) k.items v

@@ -6,25 +6,25 @@ use Rattle.audit_text.specs.declared.finding.Finding.{Finding}
 use Rattle.audit_text.specs.declared.finding.Finding.TheVariants as finding
 use Rattle.basil_types.specs.Version.{genesis, same_version}
 use Rattle.basil_types.specs.declared.version.Version.{Version}
-use Rattle.schedule_text.specs.Spelling.{key_word}
-use Rattle.schedule_text.specs.Words.{Word}
+use Rattle.schedule_text.specs.Spelling.{key_token}
+use Rattle.schedule_text.specs.Tokens.{Token}
 use Rattle.serial_audit.specs.Verdicts.{verdict_of}
 use Rattle.serial_audit.specs.declared.audit.Verdict.{Verdict}
 use Rattle.serial_audit.specs.declared.audit.Verdict.TheVariants as verdict
 
-abbrev pub name_word : Option (List ℕ × Version) → Word
-name_word None = []
-name_word (Some n) = n.0
+abbrev pub name_token : Option (List ℕ × Version) → Token
+name_token None = []
+name_token (Some n) = n.0
 
 -- the first name that has the version, or `-` for genesis
-abbrev pub version_word : Names → Version → Word
-version_word names v = if same_version v genesis then codes "-" else name_word (find (λ n. same_version n.1 v) names)
+abbrev pub version_token : Names → Version → Token
+version_token names v = if same_version v genesis then codes "-" else name_token (find (λ n. same_version n.1 v) names)
 
 -- `stray NAME KEY FOUND EXPECTED`
 abbrev pub stray_line : Names → (place : ℕ) → (key : List ℕ) → (found expected : Version) → List ℕ
 stray_line names place key found expected =
-    codes "stray " ++ name_word (slice_get names place) ++ 32 ∷ key_word key ++ 32 ∷ version_word names found ++ 32
-    ∷ version_word names expected ++ 10 ∷ []
+    codes "stray " ++ name_token (slice_get names place) ++ 32 ∷ key_token key ++ 32 ∷ version_token names found ++ 32
+    ∷ version_token names expected ++ 10 ∷ []
 
 abbrev pub found_by : Names → Verdict → Finding
 found_by names verdict.Serial = finding.Serial

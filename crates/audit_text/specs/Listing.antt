@@ -101,7 +101,7 @@ abbrev pub step_said : ListingValue → (number : ℕ) → Result AuditLine Reas
 step_said st number (Ok line) = line_step st number line
 step_said st number (Err reason) = Err reason
 
--- a line with the first word `tx` ends the transaction before it, and is tested behind that
+-- a line with the first token `tx` ends the transaction before it, and is tested behind that
 abbrev pub closed_before : List ℕ → ListingValue → Result ListingValue Refusal
 closed_before line st = if is_tx line then closed st else Ok st
 

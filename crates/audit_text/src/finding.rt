@@ -51,9 +51,9 @@ fn stray_line(
     put(&mut out, b" ")?;
     put(&mut out, &spell_key(alloc, key.as_slice())?)?;
     put(&mut out, b" ")?;
-    put(&mut out, names.word_of(found))?;
+    put(&mut out, names.token_of(found))?;
     put(&mut out, b" ")?;
-    put(&mut out, names.word_of(expected))?;
+    put(&mut out, names.token_of(expected))?;
     put(&mut out, b"\n")?;
     Ok(Bytes::from_vec(out))
 }

@@ -187,7 +187,7 @@ impl Listing {
         Ok(())
     }
 
-    /// A line with the first word `tx` ends the lines of the transaction before it.
+    /// A line with the first token `tx` ends the lines of the transaction before it.
     fn close_before(&mut self, alloc: Global, line: &[u8]) -> Result<(), Failure>
         ensures ran { Ran result self.new (closed_before line.now self.old) }
         ensures few { OnOk result (length self.new.list ≤ length self.old.list + 1) }

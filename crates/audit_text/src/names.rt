@@ -4,7 +4,7 @@ ghost use Rattle.std.specs.Prelude.{◌≡◌, [], OnOk, find, option_copied, op
 ghost use Rattle.std.specs.Str.{bytes_eq};
 ghost use Rattle.indexmap.specs.IndexMap.{insert_entry};
 ghost use Rattle.audit_text.specs.Findings as findings;
-ghost use Rattle.audit_text.specs.Findings.{name_word};
+ghost use Rattle.audit_text.specs.Findings.{name_token};
 ghost use Rattle.audit_text.specs.Listing.{version_named};
 ghost use Rattle.basil_types.specs.Version.{same_version};
 
@@ -65,7 +65,7 @@ impl Names {
 
     /// The name at a place, from 0; the empty one past the end.
     pub(crate) fn at(&self, place: usize) -> &[u8]
-        ensures { result.now ≡ name_word (slice_get self.now place) }
+        ensures { result.now ≡ name_token (slice_get self.now place) }
     {
         match self.versions.get_index(place) {
             Some((name, _version)) => name.as_slice(),
@@ -74,8 +74,8 @@ impl Names {
     }
 
     /// The first name of a version, or `-` for genesis.
-    pub(crate) fn word_of(&self, version: &Version) -> &[u8]
-        ensures { result.now ≡ findings.version_word self.now version.now }
+    pub(crate) fn token_of(&self, version: &Version) -> &[u8]
+        ensures { result.now ≡ findings.version_token self.now version.now }
     {
         if version.is_same(&Version::genesis()) {
             return b"-";

@@ -2,9 +2,9 @@
 
 ghost use Rattle.std.specs.Prelude.{◌≡◌, ◌≢◌, IfOk, IfErr, OnErr, Ok, Err, option_copied};
 ghost use Rattle.audit_text.specs.Grammar as grammar;
-ghost use Rattle.audit_text.specs.Grammar.{by_word, said, line_value, numbered, line_at};
+ghost use Rattle.audit_text.specs.Grammar.{by_token, said, line_value, numbered, line_at};
 ghost use Rattle.audit_text.specs.Parts.{Reads};
-ghost use Rattle.schedule_text.specs.Words.{words, words_after};
+ghost use Rattle.schedule_text.specs.Tokens.{tokens, tokens_after};
 
 use crate::line::AuditLine;
 use crate::stop::Stop;
@@ -15,13 +15,13 @@ use schedule_text::fields::names::{read_name, read_writer};
 use schedule_text::fields::numbers::{read_client, read_number};
 use schedule_text::fields::spellings::is_text;
 use schedule_text::reading::{LONGEST_LINE, MOST_LINES, is_skipped};
-use schedule_text::words::{cut, three, two};
+use schedule_text::tokens::{cut, three, two};
 use std::alloc::Global;
 
 #[tactic(auto, unfolding(crate::specs::Grammar::tx))]
 /// `tx NAME TIME C`
 fn read_tx(alloc: Global, rest: Option<&[u8]>) -> Result<Result<AuditLine, Complaint>, NoMemory>
-    ensures { IfOk result (λ r. r ≡ grammar.tx (words_after (option_copied rest.entry))) }
+    ensures { IfOk result (λ r. r ≡ grammar.tx (tokens_after (option_copied rest.entry))) }
 {
     let Some((name, time, client)) = three(rest) else {
         return Ok(Err(Complaint::Misspelt));
@@ -40,7 +40,7 @@ fn read_tx(alloc: Global, rest: Option<&[u8]>) -> Result<Result<AuditLine, Compl
 #[tactic(auto, unfolding(crate::specs::Grammar::read))]
 /// `read NAME KEY WRITER`
 fn read_read(alloc: Global, rest: Option<&[u8]>) -> Result<Result<AuditLine, Complaint>, NoMemory>
-    ensures { IfOk result (λ r. r ≡ grammar.read (words_after (option_copied rest.entry))) }
+    ensures { IfOk result (λ r. r ≡ grammar.read (tokens_after (option_copied rest.entry))) }
 {
     let Some((name, key, writer)) = three(rest) else {
         return Ok(Err(Complaint::Misspelt));
@@ -59,7 +59,7 @@ fn read_read(alloc: Global, rest: Option<&[u8]>) -> Result<Result<AuditLine, Com
 #[tactic(auto, unfolding(crate::specs::Grammar::write))]
 /// `write NAME KEY VALUE`
 fn read_write(alloc: Global, rest: Option<&[u8]>) -> Result<Result<AuditLine, Complaint>, NoMemory>
-    ensures { IfOk result (λ r. r ≡ grammar.write (words_after (option_copied rest.entry))) }
+    ensures { IfOk result (λ r. r ≡ grammar.write (tokens_after (option_copied rest.entry))) }
 {
     let Some((name, key, value)) = three(rest) else {
         return Ok(Err(Complaint::Misspelt));
@@ -78,7 +78,7 @@ fn read_write(alloc: Global, rest: Option<&[u8]>) -> Result<Result<AuditLine, Co
 #[tactic(auto, unfolding(crate::specs::Grammar::delete))]
 /// `delete NAME KEY`
 fn read_delete(alloc: Global, rest: Option<&[u8]>) -> Result<Result<AuditLine, Complaint>, NoMemory>
-    ensures { IfOk result (λ r. r ≡ grammar.delete (words_after (option_copied rest.entry))) }
+    ensures { IfOk result (λ r. r ≡ grammar.delete (tokens_after (option_copied rest.entry))) }
 {
     let Some((name, key)) = two(rest) else {
         return Ok(Err(Complaint::Misspelt));
@@ -90,14 +90,14 @@ fn read_delete(alloc: Global, rest: Option<&[u8]>) -> Result<Result<AuditLine, C
     }
 }
 
-#[tactic(auto, unfolding(crate::specs::Grammar::by_word))]
-/// What the words behind the first one say.
+#[tactic(auto, unfolding(crate::specs::Grammar::by_token))]
+/// What the tokens behind the first one say.
 fn read_rest(
     alloc: Global,
     first: &[u8],
     rest: Option<&[u8]>,
 ) -> Result<Result<AuditLine, Complaint>, NoMemory>
-    ensures { IfOk result (λ r. r ≡ by_word first.now (words_after (option_copied rest.entry))) }
+    ensures { IfOk result (λ r. r ≡ by_token first.now (tokens_after (option_copied rest.entry))) }
 {
     if is_text(first, b"tx") {
         read_tx(alloc, rest)
@@ -113,9 +113,9 @@ fn read_rest(
 }
 
 #[tactic(auto, unfolding(crate::specs::Grammar::said))]
-/// What the words of a line say.
-fn read_words(alloc: Global, line: &[u8]) -> Result<Result<AuditLine, Complaint>, NoMemory>
-    ensures { IfOk result (λ r. r ≡ said (words line.now)) }
+/// What the tokens of a line say.
+fn read_tokens(alloc: Global, line: &[u8]) -> Result<Result<AuditLine, Complaint>, NoMemory>
+    ensures { IfOk result (λ r. r ≡ said (tokens line.now)) }
 {
     let (first, rest) = cut(line);
     read_rest(alloc, first, rest)
@@ -129,7 +129,7 @@ fn read_value_of(alloc: Global, line: &[u8]) -> Result<Result<AuditLine, Complai
     if is_skipped(line) {
         return Ok(Ok(AuditLine::Skipped));
     }
-    read_words(alloc, line)
+    read_tokens(alloc, line)
 }
 
 /// The value of a line with this number, unless it stands behind the millionth.
@@ -162,7 +162,7 @@ pub(crate) fn read_line(alloc: Global, line: &[u8], number: u64) -> Result<Audit
 }
 
 #[tactic(auto, unfolding(crate::specs::Grammar::is_tx))]
-/// Whether a line's first word is `tx`. Looks at no byte behind that word.
+/// Whether a line's first token is `tx`. Looks at no byte behind that token.
 pub(crate) fn is_tx(line: &[u8]) -> bool
     ensures { result ≡ grammar.is_tx line.now }
 {

@@ -1,4 +1,4 @@
-//! The program: it hands its words, standard input, standard output and the sockets of this machine to the top call.
+//! The program: it hands its arguments, standard input, standard output and the sockets of this machine to the top call.
 #![tactic(auto)]
 
 mod input;
@@ -15,22 +15,22 @@ use sockets::SocketLinks;
 use std::process::ExitCode;
 use std::{env, io};
 
-/// The words behind the program's own name. None of them is handed on where one isn't UTF-8.
-fn words_of(rt: &HostRuntime) -> Option<Vec<String>> {
-    let mut words = Vec::new(rt.alloc());
+/// The arguments behind the program's own name. None of them is handed on where one isn't UTF-8.
+fn arguments_of(rt: &HostRuntime) -> Option<Vec<String>> {
+    let mut arguments = Vec::new(rt.alloc());
     let Ok(args) = env::args(rt) else {
-        return Some(words);
+        return Some(arguments);
     };
-    for (place, word) in args.enumerate() {
-        if place > 0 && words.push(word).is_err() {
+    for (place, argument) in args.enumerate() {
+        if place > 0 && arguments.push(argument).is_err() {
             return None;
         }
     }
-    Some(words)
+    Some(arguments)
 }
 
 fn main(rt: HostRuntime) -> ExitCode {
-    let Some(words) = words_of(&rt) else {
+    let Some(arguments) = arguments_of(&rt) else {
         return ExitCode::from(9);
     };
     let alloc = rt.alloc();
@@ -40,7 +40,7 @@ fn main(rt: HostRuntime) -> ExitCode {
     let mut clock = MemClock::new(Vec::new(alloc));
     let status = run(
         alloc,
-        &words,
+        &arguments,
         &mut source,
         &mut sink,
         &mut links,

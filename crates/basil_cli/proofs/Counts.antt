@@ -3,7 +3,7 @@ use Rattle.std.proofs.Common.{◌≡◌, ℕ, ◌≤◌, Bool, true, false, Fits
 use Rattle.std.specs.Prelude.{◌&&◌, nat_le, if◌then◌else◌}
 use Rattle.std.proofs.lemmas.Grind.{common_steps}
 use Rattle.schedule_text.specs.Fields.{in_range, number, number_in}
-use Rattle.schedule_text.specs.Words.{Word}
+use Rattle.schedule_text.specs.Tokens.{Token}
 use Rattle.schedule_text.specs.declared.complaint.Complaint.{Complaint}
 use Rattle.schedule_text.specs.declared.complaint.Complaint.TheVariants.{OutOfRange}
 
@@ -19,6 +19,6 @@ most (Ok m) n e = by (nat_le 1 m) (nat_le m 2000) refl e
     by true false f e = absurd cc
     by false b f e = absurd cc
 
-pub count_fits : (word : Word) (n : ℕ) → number_in 1 2000 word ≡ Ok n → Fits w32 n
+pub count_fits : (argument : Token) (n : ℕ) → number_in 1 2000 argument ≡ Ok n → Fits w32 n
 unfolding number_in
-count_fits word n e = let small : n ≤ 2000 = most (number word) n e in omega (arith, small)
+count_fits argument n e = let small : n ≤ 2000 = most (number argument) n e in omega (arith, small)

@@ -15,7 +15,7 @@ use Rattle.schedule_replay.specs.declared.fault.ReplayFault.{ReplayFault}
 use Rattle.schedule_replay.specs.declared.fault.ReplayFault.TheVariants as fault
 use Rattle.basil_cli.specs.Answers.{Answers, Counts, IsBrokenEnd, LoadedSafely, Tells, TookFault, TookSome, WroteSafely, WroteSome}
 use Rattle.basil_cli.specs.Commands.{reads}
-use Rattle.basil_cli.specs.Linked.{ByRoads, ByWords}
+use Rattle.basil_cli.specs.Linked.{ByRoads, ByArguments}
 use Rattle.basil_cli.specs.Outcome.{text_of}
 use Rattle.basil_cli.specs.Output.{load_text, loaded, output_of, replayed}
 use Rattle.basil_cli.specs.declared.command.Command.{Command}
@@ -62,24 +62,24 @@ module _ (road : Road) (bytes : List ℕ) (old new : Option (List ℕ)) where
       by (Err (fault.Full messages size)) e t = absurd (let told = t.told in cc)
       by (Err other) e t = absurd (let told = t.told in cc)
 
--- ---- what a command answers to the words of `replay` and `loopback`
+-- ---- what a command answers to the arguments of `replay` and `loopback`
 
 module _ (status : Status) (o : Option Command) (command : Command) (counts : Counts) (old new : Option (List ℕ))
     (told tells : Option LinkState) (left : Option (List ℕ)) (said : o ≡ Some command)
     (answers : IfSome left
-    (λ bytes. ByWords (Some command) told tells (λ coming. Answers status (output_of command coming bytes) counts old new))) where
+    (λ bytes. ByArguments (Some command) told tells (λ coming. Answers status (output_of command coming bytes) counts old new))) where
   -- what follows from the answer to a schedule follows by every road
   as_replay : (left : Option (List ℕ)) (carried : Bool) (other : Status) (So : Road → List ℕ → Type 0) → o ≡ Some (Replay carried) →
       status ≡ other →
       IfSome left
-      (λ bytes. ByWords (Some command) told tells (λ coming. Answers status (output_of command coming bytes) counts old new)) →
+      (λ bytes. ByArguments (Some command) told tells (λ coming. Answers status (output_of command coming bytes) counts old new)) →
       ((road : Road) (bytes : List ℕ) → Answers other (replayed (outcome_on road bytes)) counts old new → So road bytes) →
       IfSome left (λ bytes. ByRoads carried told tells (λ road. So road bytes))
   as_replay None carried other So e f a turn = tt
   as_replay (Some bytes) carried other So e f a turn =
       let same : command ≡ Replay carried = cc in
       carries_as carried
-      (subst (λ (x : Command). ByWords (Some x) told tells (λ coming. Answers status (output_of x coming bytes) counts old new)) same a)
+      (subst (λ (x : Command). ByArguments (Some x) told tells (λ coming. Answers status (output_of x coming bytes) counts old new)) same a)
       (λ gave so later.
       let road = road_with carried (gave ++ later) in
       turn road bytes (subst (λ (x : Status). Answers x (replayed (outcome_on road bytes)) counts old new) f (so later)))
@@ -103,7 +103,7 @@ module _ (status : Status) (o : Option Command) (command : Command) (counts : Co
       as_replay left carried ends.Broken (λ road bytes. IsBrokenEnd road bytes old new) e f answers
       (λ road bytes t. told_broken road bytes old new law t)
 
--- ---- what a command answers to the words of `load`
+-- ---- what a command answers to the arguments of `load`
 
 module _ (status : Status) (o : Option Command) (command : Command) (counts : Counts) (old new : Option (List ℕ)) (said : o ≡ Some command)
     (answers : reads command ≡ false → Answers status (output_of command [] []) counts old new) where

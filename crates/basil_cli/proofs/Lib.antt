@@ -5,4 +5,4 @@ pub mod Behind
 pub mod NeedLaws
 pub mod Ends
 pub mod Counts
-pub mod Wordings
+pub mod Arguments

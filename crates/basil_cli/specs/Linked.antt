@@ -2,7 +2,7 @@
 use Rattle.std.specs.Prelude.{List, ℕ, ◌++◌, Bool, Option}
 use Rattle.basil_types.specs.Links.{LinkState}
 use Rattle.schedule_replay.specs.Roads.{Carries, Road, road_with}
-use Rattle.basil_cli.specs.Commands.{words_carried}
+use Rattle.basil_cli.specs.Commands.{arguments_carried}
 use Rattle.basil_cli.specs.declared.command.Command.{Command}
 
 -- links gave something, and so it is whatever they would give later
@@ -13,6 +13,7 @@ ByGifts carried old new So = Carries carried old new (λ gave. (later : List (Li
 abbrev pub ByRoads : (carried : Bool) → (old new : Option LinkState) → (So : Road → Type 0) → Type 0
 ByRoads carried old new So = ByGifts carried old new (λ coming. So (road_with carried coming))
 
--- so it is for words that are a command, or aren't
-abbrev pub ByWords : Option Command → (old new : Option LinkState) → (So : (coming : List (List ℕ)) → Type 0) → Type 0
-ByWords command old new So = ByGifts (words_carried command) old new So
+-- so it is for arguments that are a command, or aren't
+abbrev pub ByArguments : Option Command →
+    (old new : Option LinkState) → (So : (coming : List (List ℕ)) → Type 0) → Type 0
+ByArguments command old new So = ByGifts (arguments_carried command) old new So

@@ -5,11 +5,11 @@ use Rattle.hex.specs.Hex.{encode_lower}
 use Rattle.premise_watch.specs.declared.broken.Broken as premise
 use Rattle.premise_watch.specs.declared.broken.Broken.TheVariants.{Forged, Collision}
 use Rattle.schedule_text.specs.Complaints.{reason_number}
-use Rattle.schedule_text.specs.Spelling.{party_words}
+use Rattle.schedule_text.specs.Spelling.{party_tokens}
 use Rattle.schedule_text.specs.declared.reason.Reason.{Reason}
 
 pub data Outcome : Type 0 where
-  -- the words are no command
+  -- the arguments are no command
   Usage : Outcome
   -- the first line that is refused, and why
   BadLine : (line : ℕ) (reason : Reason) → Outcome
@@ -30,7 +30,7 @@ pub data Outcome : Type 0 where
 -- in hex
 abbrev pub broken_text : premise.Broken → List ℕ
 broken_text (Forged party words signature) =
-    codes "broken forged " ++ join_with_byte 32 (party_words party) ++ 32 ∷ encode_lower words
+    codes "broken forged " ++ join_with_byte 32 (party_tokens party) ++ 32 ∷ encode_lower words
     ++ 32 ∷ encode_lower signature ++ 10 ∷ []
 broken_text (Collision first second) =
     codes "broken collision " ++ encode_lower first ++ 32 ∷ encode_lower second ++ 10 ∷ []

@@ -1,4 +1,4 @@
--- What the words, the bytes of the source, and what links give, lead to.
+-- What the arguments, the bytes of the source, and what links give, lead to.
 use Rattle.std.specs.Prelude.{ℕ, List, [], ◌∷◌, ◌++◌, codes, Option, Some, None, Result, Ok, Err}
 use Rattle.audit_text.specs.Findings.{finding_of}
 use Rattle.audit_text.specs.declared.finding.Finding.{Finding}
@@ -57,4 +57,4 @@ outcome_with None coming bytes = Usage
 outcome_with (Some command) coming bytes = output_of command coming bytes
 
 abbrev pub outcome_of : List (List ℕ) → (coming : List (List ℕ)) → (bytes : List ℕ) → Outcome
-outcome_of words coming bytes = outcome_with (command_of words) coming bytes
+outcome_of arguments coming bytes = outcome_with (command_of arguments) coming bytes

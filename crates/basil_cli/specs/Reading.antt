@@ -69,7 +69,7 @@ pub record StopsSoon (enough : List ℕ → Bool) (bytes : List ℕ) (left : Opt
   pub soon : (decided beyond rest : List ℕ) → bytes ≡ decided ++ beyond ++ rest → left ≡ Some rest →
       enough decided ≡ true → length beyond < longest_piece
 
--- both for words that are a command
+-- both for arguments that are a command
 abbrev pub IsReadFor : Option Command → (coming : List (List ℕ)) → (bytes : List ℕ) → Option (List ℕ) → Type 0
 IsReadFor None coming bytes left = ⊤
 IsReadFor (Some command) coming bytes left = IsReadThrough (is_enough command coming) bytes left

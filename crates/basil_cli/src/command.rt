@@ -1,4 +1,4 @@
-//! The commands, read from words.
+//! The commands, read from arguments.
 
 ghost use Rattle.std.specs.Prelude.{◌≡◌, ◌<◌, ◌≤◌, IfOk, IfSome, map, string_bytes};
 ghost use Rattle.schedule_text.specs.Fields.{hex, number_in};
@@ -51,11 +51,11 @@ pub(crate) enum Command {
     Audit,
 }
 
-/// The parameter set that a word names.
-fn read_set(word: &str) -> Option<LmsSet>
-    ensures { result ≡ commands.set_of word.now }
+/// The parameter set that an argument names.
+fn read_set(argument: &str) -> Option<LmsSet>
+    ensures { result ≡ commands.set_of argument.now }
 {
-    match word {
+    match argument {
         "w4h5" => Some(LmsSet::W4H5),
         "w4h10" => Some(LmsSet::W4H10),
         "w8h5" => Some(LmsSet::W8H5),
@@ -64,21 +64,21 @@ fn read_set(word: &str) -> Option<LmsSet>
     }
 }
 
-/// The bytes that a word spells in lower-case hex: one at least.
-fn read_hex(alloc: Global, word: &str) -> Result<Option<Bytes>, NoMemory>
-    ensures { IfOk result (λ bytes. bytes ≡ said (hex word.now)) }
+/// The bytes that an argument spells in lower-case hex: one at least.
+fn read_hex(alloc: Global, argument: &str) -> Result<Option<Bytes>, NoMemory>
+    ensures { IfOk result (λ bytes. bytes ≡ said (hex argument.now)) }
 {
-    match frames::read_hex(alloc, word.as_bytes())? {
+    match frames::read_hex(alloc, argument.as_bytes())? {
         Ok(bytes) => Ok(Some(bytes)),
         Err(_) => Ok(None),
     }
 }
 
 /// Thirty-two bytes in hex.
-fn read_seed(alloc: Global, word: &str) -> Result<Option<[u8; 32]>, NoMemory>
-    ensures { IfOk result (λ seed. seed ≡ hex_of 32 word.now) }
+fn read_seed(alloc: Global, argument: &str) -> Result<Option<[u8; 32]>, NoMemory>
+    ensures { IfOk result (λ seed. seed ≡ hex_of 32 argument.now) }
 {
-    let Some(bytes) = read_hex(alloc, word)? else {
+    let Some(bytes) = read_hex(alloc, argument)? else {
         return Ok(None);
     };
     if bytes.as_slice().len() != 32 {
@@ -90,10 +90,10 @@ fn read_seed(alloc: Global, word: &str) -> Result<Option<[u8; 32]>, NoMemory>
 }
 
 /// Sixteen bytes in hex.
-fn read_ident(alloc: Global, word: &str) -> Result<Option<[u8; 16]>, NoMemory>
-    ensures { IfOk result (λ ident. ident ≡ hex_of 16 word.now) }
+fn read_ident(alloc: Global, argument: &str) -> Result<Option<[u8; 16]>, NoMemory>
+    ensures { IfOk result (λ ident. ident ≡ hex_of 16 argument.now) }
 {
-    let Some(bytes) = read_hex(alloc, word)? else {
+    let Some(bytes) = read_hex(alloc, argument)? else {
         return Ok(None);
     };
     if bytes.as_slice().len() != 16 {
@@ -126,31 +126,31 @@ fn read_material(
 }
 
 /// The number of a leaf of a set's tree.
-fn read_leaf(set: LmsSet, word: &str) -> Option<u32>
-    ensures value { result ≡ leaf_of set word.now }
+fn read_leaf(set: LmsSet, argument: &str) -> Option<u32>
+    ensures value { result ≡ leaf_of set argument.now }
     ensures below { IfSome result (λ leaf. leaf < leaves_of set) }
 {
-    match read_number(word.as_bytes()) {
+    match read_number(argument.as_bytes()) {
         Ok(leaf) if leaf < u64::from(set.leaves()) => Some(leaf as u32),
         _ => None,
     }
 }
 
 /// `replay`, and `loopback`, where links carry each delivery
-fn read_replay(carried: bool, words: &[String]) -> Option<Command>
-    ensures { result ≡ replay_of carried (map string_bytes words.now) }
+fn read_replay(carried: bool, arguments: &[String]) -> Option<Command>
+    ensures { result ≡ replay_of carried (map string_bytes arguments.now) }
 {
-    match words {
+    match arguments {
         [] => Some(Command::Replay { carried }),
         _ => None,
     }
 }
 
 /// COUNT: 1 to 2,000.
-fn read_count(word: &str) -> Option<u32>
-    ensures { result ≡ said (number_in 1 2000 word.now) }
+fn read_count(argument: &str) -> Option<u32>
+    ensures { result ≡ said (number_in 1 2000 argument.now) }
 {
-    match read_number_in(word.as_bytes(), 1, 2000) {
+    match read_number_in(argument.as_bytes(), 1, 2000) {
         Ok(count) => Some(count as u32),
         Err(_) => None,
     }
@@ -166,10 +166,10 @@ fn read_size(seed: &str, count: &str) -> Option<LoadSize>
 }
 
 /// `generate N COUNT`
-fn read_generate(words: &[String]) -> Option<Command>
-    ensures { result ≡ generate_of (map string_bytes words.now) }
+fn read_generate(arguments: &[String]) -> Option<Command>
+    ensures { result ≡ generate_of (map string_bytes arguments.now) }
 {
-    let [seed, count] = words else {
+    let [seed, count] = arguments else {
         return None;
     };
     let size = read_size(seed.as_str(), count.as_str())?;
@@ -177,10 +177,10 @@ fn read_generate(words: &[String]) -> Option<Command>
 }
 
 /// `load N COUNT`
-fn read_load(words: &[String]) -> Option<Command>
-    ensures { result ≡ load_of (map string_bytes words.now) }
+fn read_load(arguments: &[String]) -> Option<Command>
+    ensures { result ≡ load_of (map string_bytes arguments.now) }
 {
-    let [seed, count] = words else {
+    let [seed, count] = arguments else {
         return None;
     };
     let size = read_size(seed.as_str(), count.as_str())?;
@@ -188,10 +188,10 @@ fn read_load(words: &[String]) -> Option<Command>
 }
 
 /// `keys SET SEED IDENT`
-fn read_keys(alloc: Global, words: &[String]) -> Result<Option<Command>, NoMemory>
-    ensures { IfOk result (λ command. command ≡ keys_of (map string_bytes words.now)) }
+fn read_keys(alloc: Global, arguments: &[String]) -> Result<Option<Command>, NoMemory>
+    ensures { IfOk result (λ command. command ≡ keys_of (map string_bytes arguments.now)) }
 {
-    let [set, seed, ident] = words else {
+    let [set, seed, ident] = arguments else {
         return Ok(None);
     };
     match read_material(alloc, set.as_str(), seed.as_str(), ident.as_str())? {
@@ -201,11 +201,11 @@ fn read_keys(alloc: Global, words: &[String]) -> Result<Option<Command>, NoMemor
 }
 
 /// `sign SET SEED IDENT Q`
-fn read_sign(alloc: Global, words: &[String]) -> Result<Option<Command>, NoMemory>
-    ensures value { IfOk result (λ command. command ≡ sign_of (map string_bytes words.now)) }
+fn read_sign(alloc: Global, arguments: &[String]) -> Result<Option<Command>, NoMemory>
+    ensures value { IfOk result (λ command. command ≡ sign_of (map string_bytes arguments.now)) }
     ensures leaf { IfOk result (λ command. IfSome command HasLeaf) }
 {
-    let [set, seed, ident, leaf] = words else {
+    let [set, seed, ident, leaf] = arguments else {
         return Ok(None);
     };
     let Some(material) = read_material(alloc, set.as_str(), seed.as_str(), ident.as_str())? else {
@@ -218,10 +218,10 @@ fn read_sign(alloc: Global, words: &[String]) -> Result<Option<Command>, NoMemor
 }
 
 /// `verify PUBLIC SIGNATURE`
-fn read_verify(alloc: Global, words: &[String]) -> Result<Option<Command>, NoMemory>
-    ensures { IfOk result (λ command. command ≡ verify_of (map string_bytes words.now)) }
+fn read_verify(alloc: Global, arguments: &[String]) -> Result<Option<Command>, NoMemory>
+    ensures { IfOk result (λ command. command ≡ verify_of (map string_bytes arguments.now)) }
 {
-    let [public, signature] = words else {
+    let [public, signature] = arguments else {
         return Ok(None);
     };
     let Some(public) = read_hex(alloc, public.as_str())? else {
@@ -234,43 +234,43 @@ fn read_verify(alloc: Global, words: &[String]) -> Result<Option<Command>, NoMem
 }
 
 /// `check`
-fn read_check(words: &[String]) -> Option<Command>
-    ensures { result ≡ check_of (map string_bytes words.now) }
+fn read_check(arguments: &[String]) -> Option<Command>
+    ensures { result ≡ check_of (map string_bytes arguments.now) }
 {
-    match words {
+    match arguments {
         [] => Some(Command::Check),
         _ => None,
     }
 }
 
 /// `audit`
-fn read_audit(words: &[String]) -> Option<Command>
-    ensures { result ≡ audit_of (map string_bytes words.now) }
+fn read_audit(arguments: &[String]) -> Option<Command>
+    ensures { result ≡ audit_of (map string_bytes arguments.now) }
 {
-    match words {
+    match arguments {
         [] => Some(Command::Audit),
         _ => None,
     }
 }
 
-/// The command that the words spell; none where they are no command.
-pub(crate) fn read_command(alloc: Global, words: &[String]) -> Result<Option<Command>, NoMemory>
-    ensures value { IfOk result (λ command. command ≡ command_of (map string_bytes words.now)) }
+/// The command that the arguments spell; none where they are no command.
+pub(crate) fn read_command(alloc: Global, arguments: &[String]) -> Result<Option<Command>, NoMemory>
+    ensures value { IfOk result (λ command. command ≡ command_of (map string_bytes arguments.now)) }
     ensures leaf { IfOk result (λ command. IfSome command HasLeaf) }
 {
-    let [name, words @ ..] = words else {
+    let [name, arguments @ ..] = arguments else {
         return Ok(None);
     };
     match name.as_str() {
-        "replay" => Ok(read_replay(false, words)),
-        "loopback" => Ok(read_replay(true, words)),
-        "generate" => Ok(read_generate(words)),
-        "load" => Ok(read_load(words)),
-        "keys" => read_keys(alloc, words),
-        "sign" => read_sign(alloc, words),
-        "verify" => read_verify(alloc, words),
-        "check" => Ok(read_check(words)),
-        "audit" => Ok(read_audit(words)),
+        "replay" => Ok(read_replay(false, arguments)),
+        "loopback" => Ok(read_replay(true, arguments)),
+        "generate" => Ok(read_generate(arguments)),
+        "load" => Ok(read_load(arguments)),
+        "keys" => read_keys(alloc, arguments),
+        "sign" => read_sign(alloc, arguments),
+        "verify" => read_verify(alloc, arguments),
+        "check" => Ok(read_check(arguments)),
+        "audit" => Ok(read_audit(arguments)),
         _ => Ok(None),
     }
 }

@@ -1,4 +1,4 @@
-//! The program without its edge: words in, bytes out.
+//! The program without its edge: arguments in, bytes out.
 #![tactic(auto)]
 
 mod audit;

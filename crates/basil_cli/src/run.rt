@@ -10,8 +10,9 @@ ghost use Rattle.basil_cli.specs.Answers.{Answers, Counts, IsBrokenEnd, IsTold};
 ghost use Rattle.basil_cli.specs.Answers.{LoadedSafely, TookFault, WroteSafely, WroteSome};
 ghost use Rattle.basil_cli.specs.Answers.{counted, is_outcomes, status_of};
 ghost use Rattle.basil_cli.specs.Commands as commands;
-ghost use Rattle.basil_cli.specs.Commands.{command_of, is_carried, runs, words_carried, words_read, reads, HasLeaf};
-ghost use Rattle.basil_cli.specs.Linked.{ByRoads, ByWords};
+ghost use Rattle.basil_cli.specs.Commands.{command_of, is_carried, runs, arguments_carried};
+ghost use Rattle.basil_cli.specs.Commands.{arguments_read, reads, HasLeaf};
+ghost use Rattle.basil_cli.specs.Linked.{ByRoads, ByArguments};
 ghost use Rattle.basil_cli.specs.Outcome.{text_of, Usage, BadLine, Refused};
 ghost use Rattle.basil_cli.specs.Output.{load_text, outcome_of, output_of};
 ghost use Rattle.basil_cli.specs.Parts.{is_link_fail, outcome_is};
@@ -40,7 +41,7 @@ fn write_ending<K: Sink>(alloc: Global, ending: &Ending, sink: &mut K) -> Status
     ensures answers { (counts : Counts) →
         Answers result (outcome_is ending.now) counts (K.taken sink.old) (K.taken sink.new) }
     ensures complete { (Rose (K.faults sink.old) (K.faults sink.new) → ⊥) → IsTold result (outcome_is ending.now) }
-    ensures words { result ≡ Status.BadWords → ⊥ }
+    ensures arguments { result ≡ Status.BadWords → ⊥ }
     ensures cause { result ≡ Status.WriteFault → Rose (K.faults sink.old) (K.faults sink.new) }
     ensures told { K.faults sink.old < K.faults sink.new → result ≡ Status.WriteFault }
     ensures no_read { result ≡ Status.ReadFault → ⊥ }
@@ -55,7 +56,7 @@ fn write_ending<K: Sink>(alloc: Global, ending: &Ending, sink: &mut K) -> Status
     }
 }
 
-/// Writes that the words are no command.
+/// Writes that the arguments are no command.
 fn write_usage<K: Sink>(sink: &mut K) -> Status
     ensures answers { (counts : Counts) → Answers result Usage counts (K.taken sink.old) (K.taken sink.new) }
     ensures complete { (Rose (K.faults sink.old) (K.faults sink.new) → ⊥) → result ≡ Status.BadWords }
@@ -128,16 +129,16 @@ fn ending_for<S: Source, L: Links>(
 ) -> Result<Ending, InputFail>
     requires { HasLeaf command.now }
     ensures outcome { IfSome (S.left source.old) (λ bytes.
-        ByWords (Some command.now) (L.told links.old) (L.told links.new) (λ coming.
+        ByArguments (Some command.now) (L.told links.old) (L.told links.new) (λ coming.
         IfOk result (λ e. outcome_is e ≡ output_of command.now coming bytes))) }
     ensures alone { reads command.now ≡ false → IfOk result (λ e.
         (coming : List (List ℕ)) → outcome_is e ≡ output_of command.now coming []) }
     ensures unread { reads command.now ≡ false → source.new ≡ source.old }
     ensures through { reads command.now ≡ true → IfSome (S.left source.old) (λ bytes.
-        ByWords (Some command.now) (L.told links.old) (L.told links.new) (λ coming.
+        ByArguments (Some command.now) (L.told links.old) (L.told links.new) (λ coming.
         IfOk result (λ _. IsReadThrough (is_enough command.now coming) bytes (S.left source.new)))) }
     ensures soon { IfSome (S.left source.old) (λ bytes.
-        ByWords (Some command.now) (L.told links.old) (L.told links.new) (λ coming.
+        ByArguments (Some command.now) (L.told links.old) (L.told links.new) (λ coming.
         StopsSoon (is_enough command.now coming) bytes (S.left source.new))) }
     ensures failed { IsErrOf result InputFail.Failed → Rose (S.faults source.old) (S.faults source.new) }
     ensures told { S.faults source.old < S.faults source.new → IsErrOf result InputFail.Failed }
@@ -162,7 +163,7 @@ fn run_command<S: Source, K: Sink, L: Links>(
     ensures answers { let counts =
         counted (S.faults source.old) (S.faults source.new) (L.faults links.old) (L.faults links.new) in
         IfSome (S.left source.old) (λ bytes.
-        ByWords (Some command.now) (L.told links.old) (L.told links.new) (λ coming.
+        ByArguments (Some command.now) (L.told links.old) (L.told links.new) (λ coming.
         Answers result (output_of command.now coming bytes) counts (K.taken sink.old) (K.taken sink.new))) }
     ensures alone { let counts =
         counted (S.faults source.old) (S.faults source.new) (L.faults links.old) (L.faults links.new) in
@@ -170,17 +171,17 @@ fn run_command<S: Source, K: Sink, L: Links>(
         Answers result (output_of command.now [] []) counts (K.taken sink.old) (K.taken sink.new) }
     ensures unread { reads command.now ≡ false → source.new ≡ source.old }
     ensures through { reads command.now ≡ true → is_outcomes result ≡ true → IfSome (S.left source.old) (λ bytes.
-        ByWords (Some command.now) (L.told links.old) (L.told links.new) (λ coming.
+        ByArguments (Some command.now) (L.told links.old) (L.told links.new) (λ coming.
         IsReadThrough (is_enough command.now coming) bytes (S.left source.new))) }
     ensures soon { IfSome (S.left source.old) (λ bytes.
-        ByWords (Some command.now) (L.told links.old) (L.told links.new) (λ coming.
+        ByArguments (Some command.now) (L.told links.old) (L.told links.new) (λ coming.
         StopsSoon (is_enough command.now coming) bytes (S.left source.new))) }
     ensures complete { (Rose (S.faults source.old) (S.faults source.new) → ⊥) →
         (Rose (K.faults sink.old) (K.faults sink.new) → ⊥) → (Rose (L.faults links.old) (L.faults links.new) → ⊥) →
         IfSome (S.left source.old) (λ bytes.
-        ByWords (Some command.now) (L.told links.old) (L.told links.new) (λ coming.
+        ByArguments (Some command.now) (L.told links.old) (L.told links.new) (λ coming.
         IsTold result (output_of command.now coming bytes))) }
-    ensures words { result ≡ Status.BadWords → ⊥ }
+    ensures arguments { result ≡ Status.BadWords → ⊥ }
     ensures read { result ≡ Status.ReadFault → Rose (S.faults source.old) (S.faults source.new) }
     ensures write { result ≡ Status.WriteFault → Rose (K.faults sink.old) (K.faults sink.new) }
     ensures link { result ≡ Status.LinkFault → Rose (L.faults links.old) (L.faults links.new) }
@@ -205,7 +206,7 @@ fn run_command<S: Source, K: Sink, L: Links>(
     }
 }
 
-/// All that the program does, with the words behind its own name. Every text goes to the sink.
+/// All that the program does, with the arguments behind its own name. Every text goes to the sink.
 ///
 /// - `replay` reads a schedule from the source and writes the report of the run that its lines describe.
 /// - `loopback` does the same for a run in which each delivery hands the node what the links' `carry` gave.
@@ -221,32 +222,32 @@ fn run_command<S: Source, K: Sink, L: Links>(
 ///   the serial order gives it, else the first that isn't, as `stray NAME KEY FOUND EXPECTED`.
 pub fn run<S: Source, K: Sink, L: Links, C: Clock>(
     alloc: Global,
-    words: &[String],
+    arguments: &[String],
     source: &mut S,
     sink: &mut K,
     links: &mut L,
     clock: &mut C,
 ) -> Status
-    // Where the source tells its bytes, the status and what was written are those of the words, the bytes, and what the
-    // links gave. After a fault of the sink it is some of that text, or, where another count rose, some of the text of
-    // its fault.
-    ensures answers { let command = command_of (map string_bytes words.now) in let counts =
+    // Where the source tells its bytes, the status and what was written are those of the arguments, the bytes, and what
+    // the links gave. After a fault of the sink it is some of that text, or, where another count rose, some of the text
+    // of its fault.
+    ensures answers { let command = command_of (map string_bytes arguments.now) in let counts =
         counted (S.faults source.old) (S.faults source.new) (L.faults links.old) (L.faults links.new) in
-        IfSome (S.left source.old) (λ bytes. ByWords command (L.told links.old) (L.told links.new) (λ coming.
-        Answers result (outcome_of (map string_bytes words.now) coming bytes) counts
+        IfSome (S.left source.old) (λ bytes. ByArguments command (L.told links.old) (L.told links.new) (λ coming.
+        Answers result (outcome_of (map string_bytes arguments.now) coming bytes) counts
         (K.taken sink.old) (K.taken sink.new))) }
     // Where a report was written, it is that of a run with at most f faulty replicas of each shard, in which each node
     // was handed each message as it is or, by `loopback`, what the links gave for it. No transaction has both a commit
     // and an abort certificate there, and each committed transaction of a correct client read, key by key, what the
     // latest committed writer before it wrote.
-    ensures safe { (carried : Bool) → command_of (map string_bytes words.now) ≡ Some (Command.Replay carried) →
+    ensures safe { (carried : Bool) → command_of (map string_bytes arguments.now) ≡ Some (Command.Replay carried) →
         result ≡ Status.Done → IfSome (S.left source.old) (λ bytes.
         ByRoads carried (L.told links.old) (L.told links.new) (λ road.
         WroteSafely road bytes (K.taken sink.old) (K.taken sink.new))) }
     // So it is where any byte of a report was written before the sink failed.
     ensures safe_in_part { let counts =
         counted (S.faults source.old) (S.faults source.new) (L.faults links.old) (L.faults links.new) in
-        (carried : Bool) → command_of (map string_bytes words.now) ≡ Some (Command.Replay carried) →
+        (carried : Bool) → command_of (map string_bytes arguments.now) ≡ Some (Command.Replay carried) →
         result ≡ Status.WriteFault → IfSome (S.left source.old) (λ bytes.
         ByRoads carried (L.told links.old) (L.told links.new) (λ road.
         WroteSome (schedules.outcome_on road bytes) road bytes (K.taken sink.old) (K.taken sink.new)
@@ -254,42 +255,43 @@ pub fn run<S: Source, K: Sink, L: Links, C: Clock>(
     // Where a breach was told, it is the first of such a run, and real: of a correct party a signature that its key
     // accepts on words that it had not signed, or two texts that differ and have one SHA-256. Until there the run is
     // safe.
-    ensures broken { (carried : Bool) → command_of (map string_bytes words.now) ≡ Some (Command.Replay carried) →
+    ensures broken { (carried : Bool) → command_of (map string_bytes arguments.now) ≡ Some (Command.Replay carried) →
         result ≡ Status.Broken → IfSome (S.left source.old) (λ bytes.
         ByRoads carried (L.told links.old) (L.told links.new) (λ road.
         IsBrokenEnd road bytes (K.taken sink.old) (K.taken sink.new))) }
     // Where the totals of a load were written, they are those of such a run by the load's schedule, where each message
     // was handed over as it is.
-    ensures load_safe { (size : LoadSize) → command_of (map string_bytes words.now) ≡ Some (Command.Load size) →
+    ensures load_safe { (size : LoadSize) → command_of (map string_bytes arguments.now) ≡ Some (Command.Load size) →
         result ≡ Status.Done → LoadedSafely size (K.taken sink.old) (K.taken sink.new) }
     // A breach that a load leads to is told and real as well.
-    ensures load_broken { (size : LoadSize) → command_of (map string_bytes words.now) ≡ Some (Command.Load size) →
+    ensures load_broken { (size : LoadSize) → command_of (map string_bytes arguments.now) ≡ Some (Command.Load size) →
         result ≡ Status.Broken → IsBrokenEnd Direct (load_text size) (K.taken sink.old) (K.taken sink.new) }
-    // Where no count rose, the status is that of the words, the bytes, and what the links gave, or memory is wanting: a
-    // valid schedule gives its whole report, and every other command its output or its refusal.
-    ensures complete { let command = command_of (map string_bytes words.now) in
+    // Where no count rose, the status is that of the arguments, the bytes, and what the links gave, or memory is
+    // wanting: a valid schedule gives its whole report, and every other command its output or its refusal.
+    ensures complete { let command = command_of (map string_bytes arguments.now) in
         (Rose (S.faults source.old) (S.faults source.new) → ⊥) →
         (Rose (K.faults sink.old) (K.faults sink.new) → ⊥) → (Rose (L.faults links.old) (L.faults links.new) → ⊥) →
-        IfSome (S.left source.old) (λ bytes. ByWords command (L.told links.old) (L.told links.new) (λ coming.
-        IsTold result (outcome_of (map string_bytes words.now) coming bytes))) }
-    // Words that aren't a command with an input decide alone, and nothing is read.
+        IfSome (S.left source.old) (λ bytes. ByArguments command (L.told links.old) (L.told links.new) (λ coming.
+        IsTold result (outcome_of (map string_bytes arguments.now) coming bytes))) }
+    // Arguments that aren't a command with an input decide alone, and nothing is read.
     ensures alone { let counts =
         counted (S.faults source.old) (S.faults source.new) (L.faults links.old) (L.faults links.new) in
-        words_read (command_of (map string_bytes words.now)) ≡ false →
-        Answers result (outcome_of (map string_bytes words.now) [] []) counts (K.taken sink.old) (K.taken sink.new) }
-    ensures unread { words_read (command_of (map string_bytes words.now)) ≡ false → source.new ≡ source.old }
+        arguments_read (command_of (map string_bytes arguments.now)) ≡ false →
+        Answers result (outcome_of (map string_bytes arguments.now) [] []) counts
+        (K.taken sink.old) (K.taken sink.new) }
+    ensures unread { arguments_read (command_of (map string_bytes arguments.now)) ≡ false → source.new ≡ source.old }
     // The status of an outcome is answered when the input was read to its end, or as far as it decides.
-    ensures through { let command = command_of (map string_bytes words.now) in
-        words_read command ≡ true → is_outcomes result ≡ true → IfSome (S.left source.old) (λ bytes.
-        ByWords command (L.told links.old) (L.told links.new) (λ coming.
+    ensures through { let command = command_of (map string_bytes arguments.now) in
+        arguments_read command ≡ true → is_outcomes result ≡ true → IfSome (S.left source.old) (λ bytes.
+        ByArguments command (L.told links.old) (L.told links.new) (λ coming.
         IsReadFor command coming bytes (S.left source.new))) }
     // Whatever is answered, fewer than a piece of the source's bytes were taken beyond those that decide.
-    ensures soon { let command = command_of (map string_bytes words.now) in
-        IfSome (S.left source.old) (λ bytes. ByWords command (L.told links.old) (L.told links.new) (λ coming.
+    ensures soon { let command = command_of (map string_bytes arguments.now) in
+        IfSome (S.left source.old) (λ bytes. ByArguments command (L.told links.old) (L.told links.new) (λ coming.
         StopsSoonFor command coming bytes (S.left source.new))) }
-    // The words alone decide on this answer.
-    ensures words { result ≡ Status.BadWords → command_of (map string_bytes words.now) ≡ None }
-    ensures other_words { command_of (map string_bytes words.now) ≡ None →
+    // The arguments alone decide on this answer.
+    ensures arguments { result ≡ Status.BadWords → command_of (map string_bytes arguments.now) ≡ None }
+    ensures other_arguments { command_of (map string_bytes arguments.now) ≡ None →
         (result ≡ Status.BadWords) ⊎ ((result ≡ Status.WriteFault) ⊎ (result ≡ Status.NoMemory)) }
     // A fault has its cause.
     ensures read { result ≡ Status.ReadFault → Rose (S.faults source.old) (S.faults source.new) }
@@ -302,12 +304,12 @@ pub fn run<S: Source, K: Sink, L: Links, C: Clock>(
         (result ≡ Status.LinkFault) ⊎ (result ≡ Status.WriteFault) }
     ensures write_told { K.faults sink.old < K.faults sink.new → result ≡ Status.WriteFault }
     // No command but `loopback` uses the links, and none the clock.
-    ensures links { words_carried (command_of (map string_bytes words.now)) ≡ false → links.new ≡ links.old }
+    ensures links { arguments_carried (command_of (map string_bytes arguments.now)) ≡ false → links.new ≡ links.old }
     ensures clock { clock.new ≡ clock.old }
 {
     reports_are_safe();
     breaks_are_real();
-    match read_command(alloc, words) {
+    match read_command(alloc, arguments) {
         Ok(Some(command)) => run_command(alloc, &command, source, sink, links),
         Ok(None) => write_usage(sink),
         Err(NoMemory) => Status::NoMemory,

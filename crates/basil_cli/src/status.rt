@@ -11,7 +11,7 @@ use std::fmt;
 pub enum Status {
     /// 0: the command's output was written.
     Done,
-    /// 2: the words are no command; `usage` was written.
+    /// 2: the arguments are no command; `usage` was written.
     BadWords,
     /// 3: the first line of the input that is refused, from 1, and why; `line N reason R` was written.
     BadInput { line: u64, reason: Reason },

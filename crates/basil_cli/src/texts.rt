@@ -6,7 +6,7 @@ ghost use Rattle.basil_cli.specs.Answers.{status_of, status_text};
 ghost use Rattle.basil_cli.specs.Outcome as outcomes;
 ghost use Rattle.basil_cli.specs.Outcome.{text_of};
 ghost use Rattle.basil_cli.specs.Parts.{outcome_is};
-ghost use Rattle.schedule_text.specs.Spelling.{party_words};
+ghost use Rattle.schedule_text.specs.Spelling.{party_tokens};
 
 use crate::ending::Ending;
 use crate::status::Status;
@@ -26,7 +26,7 @@ fn line_of(alloc: Global, status: Status) -> Result<Vec<u8>, NoMemory>
 
 /// `replica S R` or `client C`
 fn party_text(alloc: Global, party: Party) -> Result<String, NoMemory>
-    ensures { IfOk result (λ text. string_bytes text ≡ join_with_byte 32 (party_words party)) }
+    ensures { IfOk result (λ text. string_bytes text ≡ join_with_byte 32 (party_tokens party)) }
 {
     match party {
         Party::Replica { shard, index } => Ok(format!(in alloc; "replica {shard} {index}")?),

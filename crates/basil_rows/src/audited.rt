@@ -4,7 +4,7 @@
 mod reasons;
 mod worked;
 
-use crate::support::{is_answer, run_words};
+use crate::support::{is_answer, run_arguments};
 use basil_cli::status::Status;
 use basil_types::memory::NoMemory;
 use std::alloc::Global;
@@ -27,7 +27,7 @@ fn code_of(line: &str) -> u8 {
 
 /// Whether an audit writes this line and nothing else, and ends so.
 pub(crate) fn says(alloc: Global, input: &[u8], line: &str) -> Result<bool, NoMemory> {
-    let given = run_words(alloc, &["audit"], input, &[], &[])?;
+    let given = run_arguments(alloc, &["audit"], input, &[], &[])?;
     let text = given.text.strip_suffix(b"\n");
     Ok(text == Some(line.as_bytes()) && given.status.code() == code_of(line))
 }
@@ -86,15 +86,15 @@ const FAULTS: &[Fault] = &[
 #[test]
 fn a_stray_and_faults_have_their_status(rt: HostRuntime) -> Result<(), Fail> {
     for &(shows, reads, writes, status, text) in FAULTS {
-        let given = run_words(rt.alloc(), &["audit"], STRAY, reads, writes)?;
+        let given = run_arguments(rt.alloc(), &["audit"], STRAY, reads, writes)?;
         assert!(rt; is_answer(&given, status, text), "{shows}");
     }
     Ok(())
 }
 
 #[test]
-fn a_word_behind_it_is_no_command(rt: HostRuntime) -> Result<(), Fail> {
-    let given = run_words(rt.alloc(), &["audit", "x"], STRAY, &[], &[])?;
+fn an_argument_behind_it_is_no_command(rt: HostRuntime) -> Result<(), Fail> {
+    let given = run_arguments(rt.alloc(), &["audit", "x"], STRAY, &[], &[])?;
     assert!(rt; is_answer(&given, Status::BadWords, b"usage\n"));
     Ok(())
 }

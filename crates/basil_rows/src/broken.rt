@@ -1,6 +1,6 @@
 //! Schedules that break a premise, sources that fail in mid-schedule, and what is read of a refused one.
 
-use crate::support::{HEADER, is_answer, replay, run_words};
+use crate::support::{HEADER, is_answer, replay, run_arguments};
 use basil_cli::status::Status;
 use basil_types::memory::NoMemory;
 use schedule_text::reason::Reason;
@@ -33,7 +33,7 @@ fn a_forged_vote_is_shown(rt: HostRuntime) -> Result<(), Fail> {
 /// A failing write leaves some of that text.
 #[test]
 fn a_breach_may_not_be_written(rt: HostRuntime) -> Result<(), Fail> {
-    let given = run_words(rt.alloc(), &["replay"], FORGED, &[], &[1])?;
+    let given = run_arguments(rt.alloc(), &["replay"], FORGED, &[], &[1])?;
     assert!(rt; is_answer(&given, Status::WriteFault, b""));
     Ok(())
 }
@@ -130,7 +130,7 @@ const READS: &[Read] = &[
 fn ends_so(alloc: Global, row: &Read) -> Result<bool, NoMemory> {
     let (_shows, front, count, failing, status, text) = *row;
     let schedule = rounds(alloc, front, count)?;
-    let given = run_words(alloc, &["replay"], &schedule, &[failing], &[])?;
+    let given = run_arguments(alloc, &["replay"], &schedule, &[failing], &[])?;
     Ok(is_answer(&given, status, text))
 }
 

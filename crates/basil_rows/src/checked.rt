@@ -1,6 +1,6 @@
 //! Certificates, by the command `check`. The frames are those of independent programs.
 
-use crate::support::{is_answer, is_bad_input, run_words};
+use crate::support::{is_answer, is_bad_input, run_arguments};
 use basil_cli::status::Status;
 use basil_types::party::{Decision, Party};
 use basil_types::words::Words;
@@ -272,7 +272,7 @@ fn status_of(answer: &str) -> Status {
 /// Whether a header and a frame are answered so.
 fn says(alloc: Global, header: &str, frame: &str, answer: &str) -> Result<bool, Fail> {
     let input = input(alloc, header, frame)?;
-    let told = run_words(alloc, &["check"], input.as_bytes(), &[], &[])?;
+    let told = run_arguments(alloc, &["check"], input.as_bytes(), &[], &[])?;
     let text = told.text.strip_suffix(b"\n");
     Ok(told.status == status_of(answer) && text == Some(answer.as_bytes()))
 }
@@ -414,7 +414,7 @@ fn input_of(alloc: Global, text: &str) -> Result<String, Fail> {
 
 /// Whether an input is refused at this line, for this reason.
 fn is_bad(alloc: Global, input: &str, line: u64, reason: u8) -> Result<bool, Fail> {
-    let told = run_words(alloc, &["check"], input.as_bytes(), &[], &[])?;
+    let told = run_arguments(alloc, &["check"], input.as_bytes(), &[], &[])?;
     Ok(is_bad_input(alloc, &told, line, reason)?)
 }
 
@@ -450,7 +450,7 @@ fn bad_lines_make_no_key(rt: HostRuntime) -> Result<(), Fail> {
 #[test]
 fn an_input_may_be_too_long(rt: HostRuntime) -> Result<(), Fail> {
     let zeros = vec![in rt.alloc(); 0u8; 16_777_217]?;
-    let told = run_words(rt.alloc(), &["check"], &zeros, &[], &[])?;
+    let told = run_arguments(rt.alloc(), &["check"], &zeros, &[], &[])?;
     assert!(rt; is_answer(&told, Status::TooLong, b"too long 16777216\n"));
     Ok(())
 }

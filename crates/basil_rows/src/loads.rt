@@ -1,16 +1,16 @@
 //! Loads: schedules that are made from a number, and what becomes of their transactions.
 
-use crate::support::{Answer, is_answer, replay, run_words};
+use crate::support::{Answer, is_answer, replay, run_arguments};
 use basil_cli::status::Status;
 use basil_types::memory::NoMemory;
 use std::alloc::Global;
 use std::test::Fail;
 
 /// How many lines of a report say this of a transaction.
-fn count_of(report: &[u8], word: &[u8]) -> usize {
+fn count_of(report: &[u8], token: &[u8]) -> usize {
     report
         .split(|b| *b == b'\n')
-        .filter(|line| line.starts_with(b"tx ") && line.ends_with(word))
+        .filter(|line| line.starts_with(b"tx ") && line.ends_with(token))
         .count()
 }
 
@@ -36,14 +36,14 @@ fn totals_of(alloc: Global, report: &[u8]) -> Result<Vec<u8>, NoMemory> {
 
 /// The report of a load's schedule.
 fn report_of(alloc: Global, seed: &str, count: &str) -> Result<Answer, NoMemory> {
-    let schedule = run_words(alloc, &["generate", seed, count], b"", &[], &[])?;
+    let schedule = run_arguments(alloc, &["generate", seed, count], b"", &[], &[])?;
     replay(alloc, &schedule.text)
 }
 
 /// Whether a load's totals are those of this report.
 fn has_totals(alloc: Global, seed: &str, count: &str, report: &[u8]) -> Result<bool, NoMemory> {
     let totals = totals_of(alloc, report)?;
-    let given = run_words(alloc, &["load", seed, count], b"", &[], &[])?;
+    let given = run_arguments(alloc, &["load", seed, count], b"", &[], &[])?;
     Ok(is_answer(&given, Status::Done, &totals))
 }
 
@@ -61,7 +61,7 @@ fn is_counted(
     has_totals(alloc, seed, count, &report.text)
 }
 
-/// What a row shows, a number, how many transactions, as a word and as a number.
+/// What a row shows, a number, how many transactions, as an argument and as a number.
 const LOADS: &[(&str, &str, &str, usize)] = &[
     ("two hundred transactions", "7", "200", 200),
     ("the fewest", "7", "1", 1),
@@ -98,12 +98,12 @@ const NO_COMMANDS: &[&[&str]] = &[
 ];
 
 #[test]
-fn other_words_are_no_command(rt: HostRuntime) -> Result<(), Fail> {
-    for words in NO_COMMANDS {
-        let given = run_words(rt.alloc(), words, b"", &[], &[])?;
+fn other_arguments_are_no_command(rt: HostRuntime) -> Result<(), Fail> {
+    for arguments in NO_COMMANDS {
+        let given = run_arguments(rt.alloc(), arguments, b"", &[], &[])?;
         assert!(rt;
             is_answer(&given, Status::BadWords, b"usage\n"),
-            "{words:?}"
+            "{arguments:?}"
         );
     }
     Ok(())

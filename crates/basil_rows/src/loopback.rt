@@ -1,7 +1,7 @@
 //! Schedules whose deliveries are carried by links.
 
 use crate::replayed::{ONE_WRITE, REPLAYED, Replayed, WITH_HEADERS};
-use crate::support::{HEADER, is_answer, joined, loopback, run_words};
+use crate::support::{HEADER, is_answer, joined, loopback, run_arguments};
 use basil_cli::status::Status;
 use basil_types::memory::NoMemory;
 use schedule_text::reason::Reason;
@@ -167,8 +167,8 @@ fn nodes_are_handed_what_came(rt: HostRuntime) -> Result<(), Fail> {
 }
 
 #[test]
-fn a_word_behind_it_is_no_command(rt: HostRuntime) -> Result<(), Fail> {
-    let given = run_words(rt.alloc(), &["loopback", "x"], ONE_WRITE, &[], &[])?;
+fn an_argument_behind_it_is_no_command(rt: HostRuntime) -> Result<(), Fail> {
+    let given = run_arguments(rt.alloc(), &["loopback", "x"], ONE_WRITE, &[], &[])?;
     assert!(rt; is_answer(&given, Status::BadWords, b"usage\n"));
     Ok(())
 }

@@ -1,6 +1,6 @@
 //! Schedules that are replayed to their end.
 
-use crate::support::{HEADER, is_answer, joined, replay, run_words};
+use crate::support::{HEADER, is_answer, joined, replay, run_arguments};
 use basil_cli::status::Status;
 use basil_types::memory::NoMemory;
 use schedule_text::reason::Reason;
@@ -280,22 +280,22 @@ pub(crate) const ONE_WRITE: &[u8] = b"\
     round\n\
     round\n";
 
-/// Words that are no command, over a source and a sink that would serve.
+/// Arguments that are no command, over a source and a sink that would serve.
 const NO_COMMANDS: &[&[&str]] = &[&["replay", "x"], &[], &["Replay"]];
 
 #[test]
-fn other_words_are_no_command(rt: HostRuntime) -> Result<(), Fail> {
-    for words in NO_COMMANDS {
-        let given = run_words(rt.alloc(), words, ONE_WRITE, &[], &[])?;
+fn other_arguments_are_no_command(rt: HostRuntime) -> Result<(), Fail> {
+    for arguments in NO_COMMANDS {
+        let given = run_arguments(rt.alloc(), arguments, ONE_WRITE, &[], &[])?;
         assert!(rt;
             is_answer(&given, Status::BadWords, b"usage\n"),
-            "{words:?}"
+            "{arguments:?}"
         );
     }
     Ok(())
 }
 
-/// What a row shows, the command word, the reads and writes that fail, how the call ends, and what it writes.
+/// What a row shows, the one argument, the reads and writes that fail, how the call ends, and what it writes.
 type Ended = (
     &'static str,
     &'static str,
@@ -339,7 +339,7 @@ const ENDED: &[Ended] = &[
         b"",
     ),
     (
-        "the text of words that are no command isn't taken",
+        "the text of arguments that are no command isn't taken",
         "x",
         &[],
         &[1],
@@ -358,8 +358,8 @@ const ENDED: &[Ended] = &[
 
 /// Whether a call ends as it is told.
 fn ends_so(alloc: Global, row: &Ended) -> Result<bool, NoMemory> {
-    let (_shows, word, reads, writes, status, text) = *row;
-    let given = run_words(alloc, &[word], ONE_WRITE, reads, writes)?;
+    let (_shows, argument, reads, writes, status, text) = *row;
+    let given = run_arguments(alloc, &[argument], ONE_WRITE, reads, writes)?;
     Ok(is_answer(&given, status, text))
 }
 

@@ -1,6 +1,6 @@
 //! The limits on lines and on their number, and on frames in them.
 
-use crate::support::{HEADER, is_answer, joined, replay, run_words};
+use crate::support::{HEADER, is_answer, joined, replay, run_arguments};
 use basil_cli::status::Status;
 use basil_types::memory::NoMemory;
 use schedule_text::reason::Reason;
@@ -222,7 +222,7 @@ const NEEDED: u64 = 2_201;
 /// How the replay of a line far above the limit ends, where one of the reads fails.
 fn ended_by(alloc: Global, failing: u64) -> Result<Status, NoMemory> {
     let schedule = followed(alloc, HEADER, b'x', 2_300_000)?;
-    let given = run_words(alloc, &["replay"], &schedule, &[failing], &[])?;
+    let given = run_arguments(alloc, &["replay"], &schedule, &[failing], &[])?;
     Ok(given.status)
 }
 

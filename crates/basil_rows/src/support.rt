@@ -25,16 +25,16 @@ fn answer_of(alloc: Global, status: Status, text: &[u8]) -> Result<Answer, NoMem
     Ok(Answer { status, text })
 }
 
-/// The command words.
-fn given_words(alloc: Global, words: &[&str]) -> Result<Vec<String>, NoMemory> {
+/// The arguments of a command.
+fn given_arguments(alloc: Global, arguments: &[&str]) -> Result<Vec<String>, NoMemory> {
     let mut given = Vec::new(alloc);
-    for word in words {
-        given.push(String::from_str(alloc, word)?)?;
+    for argument in arguments {
+        given.push(String::from_str(alloc, argument)?)?;
     }
     Ok(given)
 }
 
-/// Runs command words over a source, a sink and links. All that is owned here is let go in one place.
+/// Runs arguments over a source, a sink and links. All that is owned here is let go in one place.
 fn run_owned<L: Links>(
     alloc: Global,
     given: &[String],
@@ -47,17 +47,17 @@ fn run_owned<L: Links>(
     answer_of(alloc, status, sink.bytes())
 }
 
-/// Runs one command word, and more where given, over a source that gives these bytes in pieces, and over these links;
+/// Runs one argument, and more where given, over a source that gives these bytes in pieces, and over these links;
 /// the listed reads and writes fail.
 fn run_over<L: Links>(
     alloc: Global,
-    words: &[&str],
+    arguments: &[&str],
     input: &[u8],
     failing_reads: &[u64],
     failing_writes: &[u64],
     links: &mut L,
 ) -> Result<Answer, NoMemory> {
-    let given = given_words(alloc, words)?;
+    let given = given_arguments(alloc, arguments)?;
     let bytes = Vec::from_slice(alloc, input)?;
     let failing_reads = Vec::from_slice(alloc, failing_reads)?;
     let failing_writes = Vec::from_slice(alloc, failing_writes)?;
@@ -67,9 +67,9 @@ fn run_over<L: Links>(
 }
 
 /// The same over links that never fail.
-pub(crate) fn run_words(
+pub(crate) fn run_arguments(
     alloc: Global,
-    words: &[&str],
+    arguments: &[&str],
     input: &[u8],
     failing_reads: &[u64],
     failing_writes: &[u64],
@@ -77,7 +77,7 @@ pub(crate) fn run_words(
     let mut links = SureLinks::new(alloc, Vec::new(alloc), Vec::new(alloc));
     run_over(
         alloc,
-        words,
+        arguments,
         input,
         failing_reads,
         failing_writes,
@@ -109,7 +109,7 @@ pub(crate) fn loopback(
 
 /// Replays a schedule.
 pub(crate) fn replay(alloc: Global, schedule: &[u8]) -> Result<Answer, NoMemory> {
-    run_words(alloc, &["replay"], schedule, &[], &[])
+    run_arguments(alloc, &["replay"], schedule, &[], &[])
 }
 
 /// Whether a call ended so, and wrote this text.

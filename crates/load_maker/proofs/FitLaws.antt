@@ -10,13 +10,13 @@ use Rattle.schedule_text.specs.declared.line.Line.{Line}
 use Rattle.schedule_text.specs.declared.line.Line.TheVariants.{Begin, Read, Round}
 use Rattle.schedule_text.specs.Fitting.{Fits, IsClient, SpellingIsRead}
 use Rattle.schedule_text.specs.Limits.{longest_line}
-use Rattle.schedule_text.specs.Spelling.{key_word, line_words, spelling, value_word}
+use Rattle.schedule_text.specs.Spelling.{key_token, line_tokens, spelling, value_token}
 use Rattle.load_maker.specs.declared.draws.Draw.{Draw}
 use Rattle.load_maker.specs.Draws.{draw_from, draw_of, stream_at, word}
 use Rattle.load_maker.specs.Laws.{LinesAreRead}
 use Rattle.load_maker.specs.Loads as Loads
-use Rattle.load_maker.proofs.WordLaws.{AllTidy, IsTidy, decimal-tidy, is_inside, joined-inside, joined-short}
-use Rattle.load_maker.proofs.WordLaws.{key-fits, key-tidy, labelled-tidy, name-tidy, named, value-fits, value-tidy}
+use Rattle.load_maker.proofs.TokenLaws.{AllTidy, IsTidy, decimal-tidy, is_inside, joined-inside, joined-short}
+use Rattle.load_maker.proofs.TokenLaws.{key-fits, key-tidy, labelled-tidy, name-tidy, named, value-fits, value-tidy}
 
 -- ---- what is drawn
 
@@ -39,11 +39,11 @@ pub record IsGood (line : Line) : Type 0 where
   pub short : length (spelling line) ≤ longest_line
   pub inside : list_all is_inside (spelling line) ≡ true
 
--- a line of tidy words
-by-words : (line : Line) (first : List ℕ) (rest : List (List ℕ)) → line_words line ≡ first ∷ rest → length rest ≤ 9 →
+-- a line of tidy tokens
+by-tokens : (line : Line) (first : List ℕ) (rest : List (List ℕ)) → line_tokens line ≡ first ∷ rest → length rest ≤ 9 →
     Fits line → IsTidy first → AllTidy rest → IsGood line
-by-words line first rest words few fits t h =
-    let spelt : spelling line ≡ join_with_byte 32 (first ∷ rest) = ap (λ (ws : List (List ℕ)). join_with_byte 32 ws) words in
+by-tokens line first rest tokens few fits t h =
+    let spelt : spelling line ≡ join_with_byte 32 (first ∷ rest) = ap (λ (ws : List (List ℕ)). join_with_byte 32 ws) tokens in
     record {
       fits = fits;
       short = omega (arith, ap length spelt, joined-short first rest t h);
@@ -77,9 +77,9 @@ label-tidy : (label : List ℕ) (n : ℕ) → length label ≤ 23 → list_all i
 label-tidy label n s t h = labelled-tidy label n s t (omega arith)
 
 header-good : IsGood Loads.header
-unfolding line_words
+unfolding line_tokens
 header-good =
-    by-words Loads.header (codes "basil")
+    by-tokens Loads.header (codes "basil")
     (codes "1" ∷ (codes "f=" ++ decimal 1) ∷ (codes "shards=" ++ decimal 2) ∷ (codes "reads=" ++ decimal 2)
     ∷ (codes "delta=" ++ decimal 1000000) ∷ (codes "clock=" ++ decimal 0) ∷ codes "keys=plain" ∷ [])
     refl (omega arith) header-fits (text-tidy (codes "basil") (omega arith) refl) (
@@ -103,42 +103,43 @@ header-good =
     )
 
 begin-good : (i : ℕ) (draw : Draw) → i < 2 ^ 32 → IsDrawn draw → IsGood (Begin (Loads.name_of i) draw.client i)
-unfolding line_words
+unfolding line_tokens
 begin-good i draw h d =
-    by-words (Begin (Loads.name_of i) draw.client i) (codes "begin")
+    by-tokens (Begin (Loads.name_of i) draw.client i) (codes "begin")
     (Loads.name_of i ∷ decimal draw.client ∷ decimal i ∷ []) refl (omega arith)
     (named i h, client-fits draw d, omega arith) (text-tidy (codes "begin") (omega arith) refl)
     (name-tidy i h, (client-tidy draw d, (decimal-tidy i h, tt)))
 
 read-good : (i k : ℕ) → i < 2 ^ 32 → k < 16 → IsGood (Read (Loads.name_of i) (Loads.key_of k))
-unfolding line_words
+unfolding line_tokens
 read-good i k h l =
-    by-words (Read (Loads.name_of i) (Loads.key_of k)) (codes "read") (Loads.name_of i ∷ key_word (Loads.key_of k) ∷ []) refl (omega arith)
+    by-tokens (Read (Loads.name_of i) (Loads.key_of k))
+    (codes "read") (Loads.name_of i ∷ key_token (Loads.key_of k) ∷ []) refl (omega arith)
     (named i h, key-fits k l) (text-tidy (codes "read") (omega arith) refl) (name-tidy i h, (key-tidy k l, tt))
 
 write-good : (i k : ℕ) → i < 2 ^ 32 → k < 16 → IsGood (Loads.write_line i k)
-unfolding line_words
+unfolding line_tokens
 write-good i k h l =
-    by-words (Loads.write_line i k) (codes "write")
-    (Loads.name_of i ∷ key_word (Loads.key_of k) ∷ value_word (Loads.value_of i) ∷ []) refl (omega arith)
+    by-tokens (Loads.write_line i k) (codes "write")
+    (Loads.name_of i ∷ key_token (Loads.key_of k) ∷ value_token (Loads.value_of i) ∷ []) refl (omega arith)
     (named i h, key-fits k l, value-fits i h) (text-tidy (codes "write") (omega arith) refl)
     (name-tidy i h, (key-tidy k l, (value-tidy i h, tt)))
 
 prepare-good : (i : ℕ) → i < 2 ^ 32 → IsGood (Loads.prepare_line i)
-unfolding line_words
+unfolding line_tokens
 prepare-good i h =
-    by-words (Loads.prepare_line i) (codes "prepare") (Loads.name_of i ∷ []) refl (omega arith) (named i h)
+    by-tokens (Loads.prepare_line i) (codes "prepare") (Loads.name_of i ∷ []) refl (omega arith) (named i h)
     (text-tidy (codes "prepare") (omega arith) refl) (name-tidy i h, tt)
 
 settle-good : (i : ℕ) (draw : Draw) → i < 2 ^ 32 → IsDrawn draw → IsGood (Loads.settle_line i draw.client)
-unfolding line_words
+unfolding line_tokens
 settle-good i draw h d =
-    by-words (Loads.settle_line i draw.client) (codes "settle") (Loads.name_of i ∷ decimal draw.client ∷ []) refl (omega arith)
+    by-tokens (Loads.settle_line i draw.client) (codes "settle") (Loads.name_of i ∷ decimal draw.client ∷ []) refl (omega arith)
     (named i h, client-fits draw d) (text-tidy (codes "settle") (omega arith) refl) (name-tidy i h, (client-tidy draw d, tt))
 
 round-good : IsGood Round
-unfolding line_words
-round-good = by-words Round (codes "round") [] refl (omega arith) tt (text-tidy (codes "round") (omega arith) refl) tt
+unfolding line_tokens
+round-good = by-tokens Round (codes "round") [] refl (omega arith) tt (text-tidy (codes "round") (omega arith) refl) tt
 
 -- ---- transactions
 

@@ -1,4 +1,4 @@
 pub mod LoadLaws
-pub mod WordLaws
+pub mod TokenLaws
 pub mod FitLaws
 pub mod TextLaws

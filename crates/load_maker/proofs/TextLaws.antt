@@ -10,7 +10,7 @@ use Rattle.schedule_text.specs.TextLines.{but_empty_last}
 use Rattle.load_maker.specs.Laws.{TextHasItsLines}
 use Rattle.load_maker.specs.Loads.{load_of, text_of}
 use Rattle.load_maker.proofs.FitLaws.{IsGood, load-good}
-use Rattle.load_maker.proofs.WordLaws.{is_inside}
+use Rattle.load_maker.proofs.TokenLaws.{is_inside}
 
 abbrev ends : ℕ → Bool
 ends b = b == 10

@@ -15,12 +15,12 @@ use std::alloc::Global;
 
 /// A letter, and a number in decimal digits.
 fn lettered(alloc: Global, letter: u8, number: u64) -> Result<Bytes, NoMemory>
-    ensures { IfOk result (λ word. word ≡ letter ∷ decimal number) }
+    ensures { IfOk result (λ token. token ≡ letter ∷ decimal number) }
 {
     let mut buffer = Buffer::new();
-    let mut word = Vec::from_slice(alloc, &[letter])?;
-    word.extend_from_slice(buffer.format(number).as_bytes())?;
-    Ok(Bytes::from_vec(word))
+    let mut token = Vec::from_slice(alloc, &[letter])?;
+    token.extend_from_slice(buffer.format(number).as_bytes())?;
+    Ok(Bytes::from_vec(token))
 }
 
 /// The name of a transaction.

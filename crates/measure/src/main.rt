@@ -15,12 +15,12 @@ use std::process::ExitCode;
 use std::{env, io};
 use work::{Work, checksum};
 
-/// The work and the count that the words name.
+/// The work and the count that the arguments name.
 fn asked(rt: &HostRuntime) -> Option<(Work, u32)> {
-    let mut words = env::args(rt).ok()?;
-    let _program = words.next()?;
-    let work = Work::named(words.next()?.as_str())?;
-    let count = words.next()?.as_str().parse::<u32>().ok()?;
+    let mut arguments = env::args(rt).ok()?;
+    let _program = arguments.next()?;
+    let work = Work::named(arguments.next()?.as_str())?;
+    let count = arguments.next()?.as_str().parse::<u32>().ok()?;
     Some((work, count))
 }
 

@@ -21,11 +21,11 @@ use Rattle.schedule_replay.specs.declared.course.Course.{Course}
 use Rattle.schedule_replay.specs.Names.{keys_of}
 use Rattle.schedule_replay.specs.Naming.{name_at}
 use Rattle.schedule_replay.specs.Replays.{NamedValue, NamesValue, ReplayValue}
-use Rattle.schedule_replay.specs.Reports.{chosen_words, decided, end_line, fate_line, first_name, has_id}
-use Rattle.schedule_replay.specs.Reports.{key_lines, read_line, read_lines, report, tx_lines, writer_word}
+use Rattle.schedule_replay.specs.Reports.{chosen_tokens, decided, end_line, fate_line, first_name, has_id}
+use Rattle.schedule_replay.specs.Reports.{key_lines, read_line, read_lines, report, tx_lines, writer_token}
 use Rattle.schedule_replay.specs.Shown.{Stands}
 use Rattle.schedule_replay.specs.Telling.{AddsPlace, AreFirst, FirstBelow, Placed, Tells, name_placed, place_of, transaction_lines}
-use Rattle.schedule_text.specs.Spelling.{key_word}
+use Rattle.schedule_text.specs.Spelling.{key_token}
 
 or_none : {X : Type 0} (o : Option X) → o ≡ option_or o None
 or_none None = refl
@@ -206,54 +206,54 @@ one_piece f whole out new x xs so put =
 -- ---- the writer of a version
 
 module _ (course : Course) (places : Placed) (r : ReplayValue) (t : Tells course places r) (v : Version) where
-  word_by : (o : Option ℕ) → o ≡ lookup (bytes_eq v.id) places →
-      option_map_or (λ (name : List ℕ). name) (option_map (name_at r.names) o) (encode_lower v.id) ≡ writer_word r v
-  word_by o e =
+  token_by : (o : Option ℕ) → o ≡ lookup (bytes_eq v.id) places →
+      option_map_or (λ (name : List ℕ). name) (option_map (name_at r.names) o) (encode_lower v.id) ≡ writer_token r v
+  token_by o e =
       sym (ap (λ (w : Option (List ℕ)). option_map_or (λ (name : List ℕ). name) w (encode_lower v.id))
       (t.first v.id ∙ ap (option_map (name_at r.names)) (sym e)))
 
-  pub writer_named : (place : ℕ) (word : List ℕ) → Some place ≡ lookup (bytes_eq v.id) places → word ≡ name_at course.names place →
-      word ≡ writer_word r v
-  writer_named place word e h = name_shown course r t.stands place word h ∙ word_by (Some place) e
+  pub writer_named : (place : ℕ) (token : List ℕ) → Some place ≡ lookup (bytes_eq v.id) places → token ≡ name_at course.names place →
+      token ≡ writer_token r v
+  writer_named place token e h = name_shown course r t.stands place token h ∙ token_by (Some place) e
 
-  pub writer_spelled : (word : List ℕ) → None ≡ lookup (bytes_eq v.id) places → word ≡ encode_lower v.id → word ≡ writer_word r v
-  writer_spelled word e h = h ∙ word_by None e
+  pub writer_spelled : (token : List ℕ) → None ≡ lookup (bytes_eq v.id) places → token ≡ encode_lower v.id → token ≡ writer_token r v
+  writer_spelled token e h = h ∙ token_by None e
 
 -- ---- the line of a read
 
-no_line : (out name key : List ℕ) (words : Option (List ℕ)) → is_some words ≡ false → out ≡ out ++ read_line name key words
+no_line : (out name key : List ℕ) (tokens : Option (List ℕ)) → is_some tokens ≡ false → out ≡ out ++ read_line name key tokens
 no_line out name key None h = sym (append-nil out)
 no_line out name key (Some w) h = absurd cc
 
-whole_line : (out asked chosen new name key : List ℕ) (words : Option (List ℕ)) → is_some words ≡ true →
-    asked ≡ out ++ (codes "read " ++ name ++ 32 ∷ key_word key ++ 32 ∷ []) → chosen ≡ asked ++ unwrap_or words [] →
-    new ≡ chosen ++ 10 ∷ [] → new ≡ out ++ read_line name key words
+whole_line : (out asked chosen new name key : List ℕ) (tokens : Option (List ℕ)) → is_some tokens ≡ true →
+    asked ≡ out ++ (codes "read " ++ name ++ 32 ∷ key_token key ++ 32 ∷ []) → chosen ≡ asked ++ unwrap_or tokens [] →
+    new ≡ chosen ++ 10 ∷ [] → new ≡ out ++ read_line name key tokens
 whole_line out asked chosen new name key None some a b c = absurd cc
 whole_line out asked chosen new name key (Some w) some a b c =
     c ∙ ap (λ o. o ++ 10 ∷ []) (b ∙ ap (λ o. o ++ w) a) ∙ simp append_assoc
 
 module _ (course : Course) (places : Placed) (r : ReplayValue) (t : Tells course places r) (tx : ℕ) (key read : List ℕ)
     (told : ReadStateValue) (is : told ≡ value_at r.setup r.state tx read) (lent : read ≡ key) (chosen : Bool)
-    (tests : chosen ≡ is_some (chosen_words r told)) where
-  words_are : chosen_words r told ≡ chosen_words r (value_at r.setup r.state tx key)
-  words_are = ap (chosen_words r) (is ∙ ap (value_at r.setup r.state tx) lent)
+    (tests : chosen ≡ is_some (chosen_tokens r told)) where
+  tokens_are : chosen_tokens r told ≡ chosen_tokens r (value_at r.setup r.state tx key)
+  tokens_are = ap (chosen_tokens r) (is ∙ ap (value_at r.setup r.state tx) lent)
 
   -- without a choice
   pub unchosen : (out : List ℕ) → chosen ≡ false →
-      out ≡ out ++ read_line (name_at r.names tx) key (chosen_words r (value_at r.setup r.state tx key))
+      out ≡ out ++ read_line (name_at r.names tx) key (chosen_tokens r (value_at r.setup r.state tx key))
   unchosen out without =
-      no_line out (name_at r.names tx) key (chosen_words r told) (sym tests ∙ without)
-      ∙ ap (λ w. out ++ read_line (name_at r.names tx) key w) words_are
+      no_line out (name_at r.names tx) key (chosen_tokens r told) (sym tests ∙ without)
+      ∙ ap (λ w. out ++ read_line (name_at r.names tx) key w) tokens_are
 
   -- with one
   pub is_read : (out asked behind new name spelled : List ℕ) → chosen ≡ true → name ≡ name_at course.names tx → spelled ≡ key →
-      asked ≡ out ++ (codes "read " ++ name ++ 32 ∷ key_word spelled ++ 32 ∷ []) → behind ≡ asked ++ unwrap_or (chosen_words r told) [] →
-      new ≡ behind ++ 10 ∷ [] → new ≡ out ++ read_line (name_at r.names tx) key (chosen_words r (value_at r.setup r.state tx key))
+      asked ≡ out ++ (codes "read " ++ name ++ 32 ∷ key_token spelled ++ 32 ∷ []) → behind ≡ asked ++ unwrap_or (chosen_tokens r told) [] →
+      new ≡ behind ++ 10 ∷ [] → new ≡ out ++ read_line (name_at r.names tx) key (chosen_tokens r (value_at r.setup r.state tx key))
   is_read out asked behind new name spelled with named same a b c =
-      whole_line out asked behind new (name_at r.names tx) key (chosen_words r told) (sym tests ∙ with)
-      (a ∙ ap (λ n. out ++ (codes "read " ++ n ++ 32 ∷ key_word spelled ++ 32 ∷ [])) (name_shown course r t.stands tx name named)
-      ∙ ap (λ k. out ++ (codes "read " ++ name_at r.names tx ++ 32 ∷ key_word k ++ 32 ∷ [])) same) b c
-      ∙ ap (λ w. out ++ read_line (name_at r.names tx) key w) words_are
+      whole_line out asked behind new (name_at r.names tx) key (chosen_tokens r told) (sym tests ∙ with)
+      (a ∙ ap (λ n. out ++ (codes "read " ++ n ++ 32 ∷ key_token spelled ++ 32 ∷ [])) (name_shown course r t.stands tx name named)
+      ∙ ap (λ k. out ++ (codes "read " ++ name_at r.names tx ++ 32 ∷ key_token k ++ 32 ∷ [])) same) b c
+      ∙ ap (λ w. out ++ read_line (name_at r.names tx) key w) tokens_are
 
 -- ---- what became of a transaction
 

@@ -1,4 +1,4 @@
--- Why a line is refused before its events, where its own words are in the grammar.
+-- Why a line is refused before its events, where its own tokens are in the grammar.
 use Rattle.std.specs.Prelude.{ℕ, Bool, true, false, not, ◌&&◌, ◌||◌, Option, Some, None, length, nat_le, nat_lt}
 use Rattle.basil_types.specs.Built.{or_else}
 use Rattle.basil_types.specs.Setting.{Setting}

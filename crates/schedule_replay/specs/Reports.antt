@@ -13,7 +13,7 @@ use Rattle.client_core.specs.Slots.{ReadStateValue, Absent, Found, Deleted}
 use Rattle.cluster_run.specs.States.{State}
 use Rattle.cluster_run.specs.Telling.{transaction_at, value_at, decision_at, committed_by_version}
 use Rattle.hex.specs.Hex.{encode_lower}
-use Rattle.schedule_text.specs.Spelling.{key_word, value_word}
+use Rattle.schedule_text.specs.Spelling.{key_token, value_token}
 use Rattle.serial_audit.specs.Maps.{pairs_of}
 use Rattle.serial_audit.specs.declared.maps.Pair.{Pair}
 use Rattle.schedule_replay.specs.Names.{keys_of}
@@ -25,14 +25,14 @@ use Rattle.schedule_replay.specs.Replays.{NamedValue, ReplayValue}
 abbrev pub decided : State → (tx : ℕ) → Option Decision
 decided st tx = option_and_then (λ t. decision_at st (id t)) (transaction_at st tx)
 
-abbrev pub fate_word : Option Decision → List ℕ
-fate_word (Some Commit) = codes "commit"
-fate_word (Some Abort) = codes "abort"
-fate_word None = codes "open"
+abbrev pub fate_token : Option Decision → List ℕ
+fate_token (Some Commit) = codes "commit"
+fate_token (Some Abort) = codes "abort"
+fate_token None = codes "open"
 
 -- `tx NAME commit`, `tx NAME abort` or `tx NAME open`
 abbrev pub fate_line : (name : List ℕ) → Option Decision → List ℕ
-fate_line name fate = codes "tx " ++ name ++ 32 ∷ fate_word fate ++ 10 ∷ []
+fate_line name fate = codes "tx " ++ name ++ 32 ∷ fate_token fate ++ 10 ∷ []
 
 -- ---- what it read
 
@@ -46,25 +46,25 @@ first_name st named tx [] = None
 first_name st named tx (n ∷ ns) = if has_id st named tx then Some n.name else first_name st named (tx + 1) ns
 
 -- the writer of a version, by its name, or by its id in hex
-abbrev pub writer_word : ReplayValue → Version → List ℕ
-writer_word r v = option_map_or (λ (name : List ℕ). name) (first_name r.state v.id 0 r.names.begun) (encode_lower v.id)
+abbrev pub writer_token : ReplayValue → Version → List ℕ
+writer_token r v = option_map_or (λ (name : List ℕ). name) (first_name r.state v.id 0 r.names.begun) (encode_lower v.id)
 
 -- what stands behind the key of a read that has its choice: `-`, `WRITER VALUE`, or `WRITER` of a deletion
-abbrev pub chosen_words : ReplayValue → ReadStateValue → Option (List ℕ)
-chosen_words r Absent = Some (codes "-")
-chosen_words r (Found writer value) = Some (writer_word r writer ++ 32 ∷ value_word value)
-chosen_words r (Deleted writer) = Some (writer_word r writer)
-chosen_words r _ = None
+abbrev pub chosen_tokens : ReplayValue → ReadStateValue → Option (List ℕ)
+chosen_tokens r Absent = Some (codes "-")
+chosen_tokens r (Found writer value) = Some (writer_token r writer ++ 32 ∷ value_token value)
+chosen_tokens r (Deleted writer) = Some (writer_token r writer)
+chosen_tokens r _ = None
 
 -- `read NAME KEY` and that
 abbrev pub read_line : (name key : List ℕ) → Option (List ℕ) → List ℕ
 read_line name key None = []
-read_line name key (Some words) = codes "read " ++ name ++ 32 ∷ key_word key ++ 32 ∷ words ++ 10 ∷ []
+read_line name key (Some tokens) = codes "read " ++ name ++ 32 ∷ key_token key ++ 32 ∷ tokens ++ 10 ∷ []
 
 -- a line for each of the keys that a transaction was to read, where it has its choice
 abbrev pub read_lines : ReplayValue → (tx : ℕ) → (name : List ℕ) → List (List ℕ) → List ℕ
 read_lines r tx name keys =
-    flat_map (λ key. read_line name key (chosen_words r (value_at r.setup r.state tx key))) keys
+    flat_map (λ key. read_line name key (chosen_tokens r (value_at r.setup r.state tx key))) keys
 
 -- the lines of the transactions, from this one on, in the order of their beginning
 abbrev pub tx_lines : ReplayValue → (tx : ℕ) → List NamedValue → List ℕ
@@ -76,7 +76,7 @@ tx_lines r tx (n ∷ ns) =
 
 -- `key KEY VALUE`; a deleted key has no line
 abbrev pub key_line : Pair → List ℕ
-key_line p = if p.deleted then [] else codes "key " ++ key_word p.key ++ 32 ∷ value_word p.value ++ 10 ∷ []
+key_line p = if p.deleted then [] else codes "key " ++ key_token p.key ++ 32 ∷ value_token p.value ++ 10 ∷ []
 
 -- ascending by key
 abbrev pub key_lines : State → List ℕ

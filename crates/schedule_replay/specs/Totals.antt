@@ -22,8 +22,8 @@ abbrev pub total_of : (fate : Option Decision) → ReplayValue → ℕ
 total_of fate r = length (filter (is_same_fate fate) (fates r))
 
 -- `WORD N`, how many there are
-abbrev pub total_line : (word : List ℕ) → (total : ℕ) → List ℕ
-total_line word total = word ++ 32 ∷ decimal total ++ 10 ∷ []
+abbrev pub total_line : (token : List ℕ) → (total : ℕ) → List ℕ
+total_line token total = token ++ 32 ∷ decimal total ++ 10 ∷ []
 
 -- `commit C`, `abort A`, `open O`, and `end M`, the number of messages
 abbrev pub totals : ReplayValue → List ℕ

@@ -11,7 +11,7 @@ ghost use Rattle.schedule_replay.specs.Replays.{ReplayValue};
 ghost use Rattle.schedule_replay.specs.Reports as reports;
 ghost use Rattle.schedule_replay.specs.Shown.{Stands};
 ghost use Rattle.schedule_replay.specs.Telling.{AddsPlace, AreFirst, Tells, transaction_lines};
-ghost use Rattle.schedule_text.specs.Spelling.{key_word};
+ghost use Rattle.schedule_text.specs.Spelling.{key_token};
 
 use crate::course::Course;
 use basil_types::bytes::{Bytes, id_of};
@@ -65,7 +65,7 @@ fn put_fate(out: &mut Vec<u8>, name: &[u8], fate: Option<Decision>) -> Result<()
 /// `read NAME KEY` and a space.
 fn put_asked(alloc: Global, out: &mut Vec<u8>, name: &[u8], key: &[u8]) -> Result<(), NoMemory>
     ensures { OnOk result
-        (out.new.items ≡ out.old.items ++ (codes "read " ++ name.now ++ 32 ∷ key_word key.now ++ 32 ∷ [])) }
+        (out.new.items ≡ out.old.items ++ (codes "read " ++ name.now ++ 32 ∷ key_token key.now ++ 32 ∷ [])) }
 {
     let key = spell_key(alloc, key)?;
     put(out, b"read ")?;
@@ -113,7 +113,7 @@ pub(crate) fn put_end(out: &mut Vec<u8>, messages: u64) -> Result<(), NoMemory>
 
 /// Whether a read has its choice.
 fn is_chosen(state: &ReadState<'_>) -> bool
-    ensures { (r : ReplayValue) → result ≡ is_some (reports.chosen_words r (told_state state.now)) }
+    ensures { (r : ReplayValue) → result ≡ is_some (reports.chosen_tokens r (told_state state.now)) }
 {
     matches!(
         state,
@@ -167,7 +167,7 @@ impl Course {
         out: &mut Vec<u8>,
     ) -> Result<(), NoMemory>
         ensures { OnOk result ((r : ReplayValue) → Tells self.now places.now.entries r →
-            out.new.items ≡ out.old.items ++ reports.writer_word r writer.now) }
+            out.new.items ≡ out.old.items ++ reports.writer_token r writer.now) }
     {
         match places.get(&writer.id) {
             Some(tx) => put(out, self.names.at(*tx as usize)),
@@ -187,7 +187,7 @@ impl Course {
         out: &mut Vec<u8>,
     ) -> Result<(), NoMemory>
         ensures { OnOk result ((r : ReplayValue) → Tells self.now places.now.entries r →
-            out.new.items ≡ out.old.items ++ unwrap_or (reports.chosen_words r (told_state state.now)) []) }
+            out.new.items ≡ out.old.items ++ unwrap_or (reports.chosen_tokens r (told_state state.now)) []) }
     {
         match state {
             ReadState::Absent => put(out, b"-"),
@@ -211,8 +211,8 @@ impl Course {
         out: &mut Vec<u8>,
     ) -> Result<(), NoMemory>
         ensures { OnOk result ((r : ReplayValue) → Tells self.now places.now.entries r →
-            let words = reports.chosen_words r (value_at r.setup r.state tx key.now) in
-            out.new.items ≡ out.old.items ++ reports.read_line (name_at r.names tx) key.now words) }
+            let tokens = reports.chosen_tokens r (value_at r.setup r.state tx key.now) in
+            out.new.items ≡ out.old.items ++ reports.read_line (name_at r.names tx) key.now tokens) }
     {
         let state = self.world.value(tx, key.as_slice());
         if !is_chosen(&state) {

@@ -23,11 +23,11 @@ fn is_same_fate(fate: Option<Decision>, other: Option<Decision>) -> bool
 }
 
 /// `WORD N`
-fn put_total(out: &mut Vec<u8>, word: &[u8], total: usize) -> Result<(), NoMemory>
-    ensures { OnOk result (out.new.items ≡ out.old.items ++ defined.total_line word.now total) }
+fn put_total(out: &mut Vec<u8>, token: &[u8], total: usize) -> Result<(), NoMemory>
+    ensures { OnOk result (out.new.items ≡ out.old.items ++ defined.total_line token.now total) }
 {
     let mut buffer = Buffer::new();
-    put(out, word)?;
+    put(out, token)?;
     put(out, b" ")?;
     put(out, buffer.format(total).as_bytes())?;
     put(out, b"\n")

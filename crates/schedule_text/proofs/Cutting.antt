@@ -5,7 +5,7 @@ use Rattle.std.proofs.lemmas.Grind.{common_steps}
 use Rattle.std.proofs.lemmas.List.Splits.{slice_split_first, slice_split_none, length-slice_split}
 use Rattle.std.proofs.lemmas.List.Quantifiers.{position-Some}
 use Rattle.std.proofs.lemmas.List.Sums.{prefix_len_passes, position_or_len_is}
-use Rattle.schedule_text.specs.Words.{words, words_after, one_of}
+use Rattle.schedule_text.specs.Tokens.{tokens, tokens_after, one_of}
 use Rattle.std.specs.List.{count_by, slice_split, position, position_or_len}
 
 pub place-is : {X : Type 0} (p : X → Bool) (xs : List X) (d : X) (at : ℕ) → position p xs ≡ Some at → position_or_len p xs ≡ at
@@ -32,7 +32,7 @@ unfolding one_of
 no-end a n [] e = absurd (omega arith)
 no-end a n (w ∷ ws) e = refl
 
--- behind a space there is a word
-pub one-more : (a rest : List ℕ) → one_of (a ∷ words_after (Some rest)) ≡ None
-unfolding words_after
-one-more a rest = no-end a (count_by (λ b. eqb b 32) rest) (words rest) (length-slice_split (λ b. eqb b 32) rest)
+-- behind a space there is a token
+pub one-more : (a rest : List ℕ) → one_of (a ∷ tokens_after (Some rest)) ≡ None
+unfolding tokens_after
+one-more a rest = no-end a (count_by (λ b. eqb b 32) rest) (tokens rest) (length-slice_split (λ b. eqb b 32) rest)

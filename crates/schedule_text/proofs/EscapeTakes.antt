@@ -13,12 +13,12 @@ use Rattle.hex.proofs.HexLemmas.{decode_of-ok, decode_of-even}
 use Rattle.basil_types.specs.Limits.{frame_limit}
 use Rattle.schedule_text.specs.declared.complaint.Complaint.{Complaint}
 use Rattle.schedule_text.specs.declared.complaint.Complaint.TheVariants.{Misspelt, OutOfSize}
-use Rattle.schedule_text.specs.Words.{Word}
+use Rattle.schedule_text.specs.Tokens.{Token}
 use Rattle.schedule_text.specs.Fields.{is_plain, is_digit, is_lower_hex, hex_digit, pair_of_digits, unless_plain}
 use Rattle.schedule_text.specs.Fields.{escape, onto, unescaped, sized, text, value, spelt, hex, sized_frame, frame}
-use Rattle.schedule_text.specs.Spelling.{spelled_byte, key_word, value_word}
+use Rattle.schedule_text.specs.Spelling.{spelled_byte, key_token, value_token}
 use Rattle.schedule_text.specs.Fitting.{HasBytes}
-use Rattle.schedule_text.proofs.WordLaws.{and-left, and-right}
+use Rattle.schedule_text.proofs.TokenLaws.{and-left, and-right}
 use Rattle.schedule_text.proofs.ResultTakes.{ok-is, some-is, if-ok}
 use Rattle.schedule_text.proofs.FieldTakes.{le-of, text-is}
 
@@ -73,8 +73,8 @@ hex_digit-takes c d h = tested (is_digit c) refl (nat_le 97 c && nat_le c 102) r
 
 -- ---- escapes
 
-Spelled : Word → List ℕ → Type 0
-Spelled w bytes = (key_word bytes ≡ w) × IsBytes bytes
+Spelled : Token → List ℕ → Type 0
+Spelled w bytes = (key_token bytes ≡ w) × IsBytes bytes
 
 bytes-cons : (b : ℕ) (bytes : List ℕ) → b < 256 → IsBytes bytes → IsBytes (b ∷ bytes)
 bytes-cons b bytes l h zero = l
@@ -95,14 +95,14 @@ plain-spelled b h = (rw h refl, plain-small b h)
         omega arith
 
 -- one byte, and the bytes of the rest
-one-more : (b : ℕ) (w : Word) (bytes : List ℕ) (o : Option (List ℕ)) → is_plain b ≡ true → onto (Some b) o ≡ Some bytes →
-    ((rest : List ℕ) → o ≡ Some rest → (key_word rest ≡ w) × IsBytes rest) → (key_word bytes ≡ b ∷ w) × IsBytes bytes
+one-more : (b : ℕ) (w : Token) (bytes : List ℕ) (o : Option (List ℕ)) → is_plain b ≡ true → onto (Some b) o ≡ Some bytes →
+    ((rest : List ℕ) → o ≡ Some rest → (key_token rest ≡ w) × IsBytes rest) → (key_token bytes ≡ b ∷ w) × IsBytes bytes
 one-more b w bytes o p h again =
     let t = onto-takes b o bytes h in
     let r = again t.0 t.1 in
     let s = plain-spelled b p in
-    subst (λ (z : List ℕ). (key_word z ≡ b ∷ w) × IsBytes z) t.2
-    (ap (λ (u : List ℕ). u ++ key_word t.0) s.0 ∙ ap (λ (u : List ℕ). b ∷ u) r.0, bytes-cons b t.0 s.1 r.1)
+    subst (λ (z : List ℕ). (key_token z ≡ b ∷ w) × IsBytes z) t.2
+    (ap (λ (u : List ℕ). u ++ key_token t.0) s.0 ∙ ap (λ (u : List ℕ). b ∷ u) r.0, bytes-cons b t.0 s.1 r.1)
 
 escape-takes : (p c d x : ℕ) → escape p c d ≡ Some x → (p ∷ c ∷ d ∷ [] ≡ spelled_byte x) × (x < 256)
 escape-takes p c d x h = tested (p == 37) refl h
@@ -132,29 +132,29 @@ escape-takes p c d x h = tested (p == 37) refl h
     tested true i h = digits (hex_digit c) (hex_digit d) refl refl h (eqb-true p 37 i)
     tested false i h = cc h
 
-one-escaped : (p c d : ℕ) (w : Word) (bytes : List ℕ) (e : Option ℕ) (o : Option (List ℕ)) → escape p c d ≡ e → onto e o ≡ Some bytes →
-    ((rest : List ℕ) → o ≡ Some rest → (key_word rest ≡ w) × IsBytes rest) → (key_word bytes ≡ p ∷ c ∷ d ∷ w) × IsBytes bytes
+one-escaped : (p c d : ℕ) (w : Token) (bytes : List ℕ) (e : Option ℕ) (o : Option (List ℕ)) → escape p c d ≡ e → onto e o ≡ Some bytes →
+    ((rest : List ℕ) → o ≡ Some rest → (key_token rest ≡ w) × IsBytes rest) → (key_token bytes ≡ p ∷ c ∷ d ∷ w) × IsBytes bytes
 one-escaped p c d w bytes None o i h again = cc h
 one-escaped p c d w bytes (Some x) o i h again =
     let t = onto-takes x o bytes h in
     let r = again t.0 t.1 in
     let s = escape-takes p c d x i in
-    subst (λ (z : List ℕ). (key_word z ≡ p ∷ c ∷ d ∷ w) × IsBytes z) t.2
-    (ap (λ (u : List ℕ). u ++ key_word t.0) (sym s.0) ∙ ap (λ (u : List ℕ). p ∷ c ∷ d ∷ u) r.0, bytes-cons x t.0 s.1 r.1)
+    subst (λ (z : List ℕ). (key_token z ≡ p ∷ c ∷ d ∷ w) × IsBytes z) t.2
+    (ap (λ (u : List ℕ). u ++ key_token t.0) (sym s.0) ∙ ap (λ (u : List ℕ). p ∷ c ∷ d ∷ u) r.0, bytes-cons x t.0 s.1 r.1)
 
-pub unescaped-takes : (w : Word) (bytes : List ℕ) → unescaped w ≡ Some bytes → (key_word bytes ≡ w) × IsBytes bytes
+pub unescaped-takes : (w : Token) (bytes : List ℕ) → unescaped w ≡ Some bytes → (key_token bytes ≡ w) × IsBytes bytes
 unfolding unescaped
-unescaped-takes [] bytes h = subst (λ (z : List ℕ). (key_word z ≡ []) × IsBytes z) (some-is [] bytes h) (refl, λ i. omega arith)
+unescaped-takes [] bytes h = subst (λ (z : List ℕ). (key_token z ≡ []) × IsBytes z) (some-is [] bytes h) (refl, λ i. omega arith)
 unescaped-takes (b ∷ []) bytes h = tested (is_plain b) refl h (λ rest e. unescaped-takes [] rest e)
   where
     tested : (q : Bool) → is_plain b ≡ q → (if q then Some (b ∷ []) else None) ≡ Some bytes →
-        ((rest : List ℕ) → Some [] ≡ Some rest → (key_word rest ≡ []) × IsBytes rest) → (key_word bytes ≡ b ∷ []) × IsBytes bytes
+        ((rest : List ℕ) → Some [] ≡ Some rest → (key_token rest ≡ []) × IsBytes rest) → (key_token bytes ≡ b ∷ []) × IsBytes bytes
     tested false i h again = cc h
     tested true i h again = one-more b [] bytes (Some []) i h again
 unescaped-takes (b ∷ c ∷ []) bytes h = tested (is_plain b) refl h (λ rest e. unescaped-takes (c ∷ []) rest e)
   where
     tested : (q : Bool) → is_plain b ≡ q → (if q then onto (Some b) (unescaped (c ∷ [])) else None) ≡ Some bytes → ((rest : List ℕ) →
-        unescaped (c ∷ []) ≡ Some rest → (key_word rest ≡ c ∷ []) × IsBytes rest) → (key_word bytes ≡ b ∷ c ∷ []) × IsBytes bytes
+        unescaped (c ∷ []) ≡ Some rest → (key_token rest ≡ c ∷ []) × IsBytes rest) → (key_token bytes ≡ b ∷ c ∷ []) × IsBytes bytes
     tested false i h again = cc h
     tested true i h again = one-more b (c ∷ []) bytes (unescaped (c ∷ [])) i h again
 unescaped-takes (b ∷ c ∷ d ∷ w) bytes h =
@@ -162,8 +162,8 @@ unescaped-takes (b ∷ c ∷ d ∷ w) bytes h =
   where
     tested : (q : Bool) → is_plain b ≡ q →
         (if q then onto (Some b) (unescaped (c ∷ d ∷ w)) else onto (escape b c d) (unescaped w)) ≡ Some bytes
-        → ((rest : List ℕ) → unescaped (c ∷ d ∷ w) ≡ Some rest → (key_word rest ≡ c ∷ d ∷ w) × IsBytes rest) → ((rest : List ℕ) →
-        unescaped w ≡ Some rest → (key_word rest ≡ w) × IsBytes rest) → (key_word bytes ≡ b ∷ c ∷ d ∷ w) × IsBytes bytes
+        → ((rest : List ℕ) → unescaped (c ∷ d ∷ w) ≡ Some rest → (key_token rest ≡ c ∷ d ∷ w) × IsBytes rest) → ((rest : List ℕ) →
+        unescaped w ≡ Some rest → (key_token rest ≡ w) × IsBytes rest) → (key_token bytes ≡ b ∷ c ∷ d ∷ w) × IsBytes bytes
     tested true i h next behind = one-more b (c ∷ d ∷ w) bytes (unescaped (c ∷ d ∷ w)) i h next
     tested false i h next behind = one-escaped b c d w bytes (escape b c d) (unescaped w) refl h behind
 
@@ -174,11 +174,11 @@ sized-takes most (Some bs) bytes h =
     let e : bs ≡ bytes = ok-is bs bytes p.1 in
     (ap (λ (z : List ℕ). Some z) e, subst (λ (z : List ℕ). length z ≤ most) e (le-of (length bs) most p.0))
 
-some-bytes : (bytes : List ℕ) (b : ℕ) (w : Word) → key_word bytes ≡ b ∷ w → 1 ≤ length bytes
+some-bytes : (bytes : List ℕ) (b : ℕ) (w : Token) → key_token bytes ≡ b ∷ w → 1 ≤ length bytes
 some-bytes [] b w h = cc h
 some-bytes (x ∷ bytes) b w h = omega arith
 
-pub text-takes : (most : ℕ) (w : Word) (bytes : List ℕ) → text most w ≡ Ok bytes → (key_word bytes ≡ w) × HasBytes 1 most bytes
+pub text-takes : (most : ℕ) (w : Token) (bytes : List ℕ) → text most w ≡ Ok bytes → (key_token bytes ≡ w) × HasBytes 1 most bytes
 unfolding text
 text-takes most [] bytes h = cc h
 text-takes most (b ∷ w) bytes h =
@@ -186,17 +186,17 @@ text-takes most (b ∷ w) bytes h =
     let u = unescaped-takes (b ∷ w) bytes s.0 in
     (u.0, (some-bytes bytes b w u.0, s.1, u.1))
 
-value-of : (bytes : List ℕ) → 1 ≤ length bytes → value_word bytes ≡ key_word bytes
+value-of : (bytes : List ℕ) → 1 ≤ length bytes → value_token bytes ≡ key_token bytes
 value-of [] h = absurd (omega arith)
 value-of (b ∷ bytes) h = let e : eqb (suc (length bytes)) 0 ≡ false = grind (arith, common_steps) in rw e refl
 
-pub value-takes : (w : Word) (bytes : List ℕ) → value w ≡ Ok bytes → (value_word bytes ≡ w) × HasBytes 0 256 bytes
+pub value-takes : (w : Token) (bytes : List ℕ) → value w ≡ Ok bytes → (value_token bytes ≡ w) × HasBytes 0 256 bytes
 unfolding value
 value-takes w bytes h = tested (bytes_eq w (codes "%")) refl h
   where
     tested : (q : Bool) → bytes_eq w (codes "%") ≡ q →
-        (if q then Ok [] else text 256 w) ≡ Ok bytes → (value_word bytes ≡ w) × HasBytes 0 256 bytes
-    tested true i h = subst (λ (z : List ℕ). (value_word z ≡ w) × HasBytes 0 256 z)
+        (if q then Ok [] else text 256 w) ≡ Ok bytes → (value_token bytes ≡ w) × HasBytes 0 256 bytes
+    tested true i h = subst (λ (z : List ℕ). (value_token z ≡ w) × HasBytes 0 256 z)
         (ok-is [] bytes h) (sym (text-is w (codes "%") i), (omega arith, omega arith, λ k. omega arith))
     tested false i h =
         let t = text-takes 256 w bytes h in
@@ -225,7 +225,7 @@ lower-value c i d l h = read (hex_digit_value c) refl h
         let t = hex_digit-takes c x (same x e) in
         subst (λ (z : ℕ). (slice_index lower_digits z ≡ c) × (z < 16)) (hex-ok-is x d h) (t.1, t.0)
 
-pairs-take : (i : ℕ) (w : Word) (bytes : List ℕ) → list_all is_lower_hex w ≡ true → decode_pairs i w ≡ Ok bytes → encode_lower bytes ≡ w
+pairs-take : (i : ℕ) (w : Token) (bytes : List ℕ) → list_all is_lower_hex w ≡ true → decode_pairs i w ≡ Ok bytes → encode_lower bytes ≡ w
 unfolding decode_pairs encode_with
 pairs-take i [] bytes l h = subst (λ (z : List ℕ). encode_lower z ≡ []) (hex-ok-is [] bytes h) refl
 pairs-take i (a ∷ []) bytes l h = cc h
@@ -248,7 +248,7 @@ pairs-take i (a ∷ b ∷ w) bytes l h =
     let low : p0.0 % 16 ≡ p2.0 = omega arith in
     rw (← e, high, low, va.0, vb.0, again) refl
 
-pub hex-takes : (w : Word) (bytes : List ℕ) → hex w ≡ Ok bytes → (encode_lower bytes ≡ w) × (1 ≤ length bytes) × IsBytes bytes
+pub hex-takes : (w : Token) (bytes : List ℕ) → hex w ≡ Ok bytes → (encode_lower bytes ≡ w) × (1 ≤ length bytes) × IsBytes bytes
 unfolding hex
 hex-takes w bytes h =
     let p = if-ok (nat_lt 0 (length w) && list_all is_lower_hex w) (spelt (decode_of w)) Misspelt bytes h in
@@ -266,7 +266,7 @@ hex-takes w bytes h =
     decoded (Ok bs) e h = e ∙ ap (λ (z : List ℕ). Ok z) (ok-is bs bytes h)
     decoded (Err f) e h = cc h
 
-pub frame-takes : (w : Word) (bytes : List ℕ) → frame w ≡ Ok bytes → (encode_lower bytes ≡ w) × HasBytes 1 frame_limit bytes
+pub frame-takes : (w : Token) (bytes : List ℕ) → frame w ≡ Ok bytes → (encode_lower bytes ≡ w) × HasBytes 1 frame_limit bytes
 unfolding frame
 frame-takes w bytes h = read (hex w) refl h
   where

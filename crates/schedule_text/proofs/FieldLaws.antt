@@ -13,14 +13,14 @@ use Rattle.basil_types.specs.declared.party.Decision.{Decision}
 use Rattle.basil_types.specs.declared.party.Decision.TheVariants.{Commit, Abort}
 use Rattle.schedule_text.specs.declared.line.KeysKind.{KeysKind}
 use Rattle.schedule_text.specs.declared.line.KeysKind.TheVariants.{Plain, W4H5, W4H10, W8H5, W8H10, Batch}
-use Rattle.schedule_text.specs.Words.{Word}
+use Rattle.schedule_text.specs.Tokens.{Token}
 use Rattle.schedule_text.specs.Fields.{number, number_in, is_digit, is_canonical, views, is_lower}
 use Rattle.schedule_text.specs.Fields.{is_name_byte, name, writer, decision, is_lower_hex, hex_digit, keys_kind}
 use Rattle.schedule_text.specs.Parties.{place}
-use Rattle.schedule_text.specs.Spelling.{keys_word, decision_word, writer_word}
+use Rattle.schedule_text.specs.Spelling.{keys_token, decision_token, writer_token}
 use Rattle.schedule_text.specs.Fitting.{IsName, IsWriter, IsPlace, IsClient, IsU64}
 use Rattle.schedule_text.proofs.Digits.{own}
-use Rattle.schedule_text.proofs.WordLaws.{and-left, and-right, all-weaker, clean, is_other}
+use Rattle.schedule_text.proofs.TokenLaws.{and-left, and-right, all-weaker, clean, is_other}
 
 -- ---- tests
 
@@ -32,7 +32,7 @@ lt-yes a b h = lt-ltb a b h
 
 -- ---- numbers
 
-number-of : (w : Word) (n : ℕ) → nat_lt 0 (length w) ≡ true →
+number-of : (w : Token) (n : ℕ) → nat_lt 0 (length w) ≡ true →
     list_all is_digit w ≡ true → is_canonical w ≡ true → digits_value 10 w ≡ n → nat_lt n (2 ^ 64) ≡ true → number w ≡ Ok n
 unfolding number
 number-of w n a b c d e = rw (a, b, c, d, e) refl
@@ -75,13 +75,13 @@ pub views-again : (d c : ℕ) → d ≤ c → IsU64 c → views (decimal d) (dec
 unfolding views
 views-again d c l h = rw (number-again d (omega arith), number-again c h, le-yes d c l) refl
 
--- ---- names and spelled words
+-- ---- names and spelled tokens
 
-pub name-again : (w : Word) → IsName w → name w ≡ Ok w
+pub name-again : (w : Token) → IsName w → name w ≡ Ok w
 unfolding name
 name-again w h = rw h refl
 
-name-is-no-dash : (w : Word) → IsName w → bytes_eq w (codes "-") ≡ false
+name-is-no-dash : (w : Token) → IsName w → bytes_eq w (codes "-") ≡ false
 name-is-no-dash [] h = cc
 name-is-no-dash (f ∷ r) h =
     let lower : is_lower f ≡ true =
@@ -89,17 +89,17 @@ name-is-no-dash (f ∷ r) h =
     let other : eqb f 45 ≡ false = grind (arith, common_steps) in
     rw other refl
 
-pub writer-again : (w : Option (List ℕ)) → IsWriter w → writer (writer_word w) ≡ Ok w
+pub writer-again : (w : Option (List ℕ)) → IsWriter w → writer (writer_token w) ≡ Ok w
 unfolding writer
 writer-again None h = refl
 writer-again (Some w) h = rw (name-is-no-dash w h, name-again w h) refl
 
-pub decision-again : (d : Decision) → decision (decision_word d) ≡ Ok d
+pub decision-again : (d : Decision) → decision (decision_token d) ≡ Ok d
 unfolding decision
 decision-again Commit = refl
 decision-again Abort = refl
 
-pub keys-again : (k : KeysKind) → keys_kind (keys_word k) ≡ Ok k
+pub keys-again : (k : KeysKind) → keys_kind (keys_token k) ≡ Ok k
 unfolding keys_kind
 keys-again Plain = refl
 keys-again W4H5 = refl
@@ -108,7 +108,7 @@ keys-again W8H5 = refl
 keys-again W8H10 = refl
 keys-again Batch = refl
 
-pub name-clean : (w : Word) → IsName w → clean w ≡ true
+pub name-clean : (w : Token) → IsName w → clean w ≡ true
 name-clean [] h = refl
 name-clean (f ∷ r) h =
     let tested : (is_lower f && list_all is_name_byte r) ≡ true =

@@ -5,22 +5,22 @@ use Rattle.basil_types.specs.Setting.{Setting, IsSetting}
 use Rattle.schedule_text.specs.declared.line.KeysKind.{KeysKind}
 use Rattle.schedule_text.specs.declared.line.KeysKind.TheVariants.{Plain, W4H5, W4H10, W8H5, W8H10, Batch}
 use Rattle.schedule_text.specs.declared.line.Line.TheVariants.{Header}
-use Rattle.schedule_text.specs.Words.{Word, one_of, two_of, three_of, four_of, five_of, six_of, seven_of, eight_of}
+use Rattle.schedule_text.specs.Tokens.{Token, one_of, two_of, three_of, four_of, five_of, six_of, seven_of, eight_of}
 use Rattle.schedule_text.specs.Complaints.{all3, all4}
 use Rattle.schedule_text.specs.Fields.{behind, literal, number, keys_kind, labelled}
 use Rattle.schedule_text.specs.Headers.{header, header_fields, journal_fields, cluster_numbers, cluster_of}
 use Rattle.schedule_text.specs.Kinds.{kind_of}
 use Rattle.schedule_text.specs.Lines.{line_of}
 use Rattle.schedule_text.specs.Reading.{said}
-use Rattle.schedule_text.specs.Spelling.{keys_word, journal_words}
+use Rattle.schedule_text.specs.Spelling.{keys_token, journal_tokens}
 use Rattle.schedule_text.specs.Fitting.{Fits, IsU64}
-use Rattle.schedule_text.proofs.WordLaws.{all_clean, clean, clean-decimal}
+use Rattle.schedule_text.proofs.TokenLaws.{all_clean, clean, clean-decimal}
 use Rattle.schedule_text.proofs.FieldLaws.{number-again, keys-again, le-yes}
 
-abbrev pub header_rest : Setting → ℕ → KeysKind → Bool → List Word
+abbrev pub header_rest : Setting → ℕ → KeysKind → Bool → List Token
 header_rest s c k j =
     codes "1" ∷ (codes "f=" ++ decimal s.f) ∷ (codes "shards=" ++ decimal s.shards) ∷ (codes "reads=" ++ decimal s.reads)
-    ∷ (codes "delta=" ++ decimal s.delta) ∷ (codes "clock=" ++ decimal c) ∷ (codes "keys=" ++ keys_word k) ∷ journal_words j
+    ∷ (codes "delta=" ++ decimal s.delta) ∷ (codes "clock=" ++ decimal c) ∷ (codes "keys=" ++ keys_token k) ∷ journal_tokens j
 
 numbers-again : (s : Setting) → IsSetting s → IsU64 s.delta
     → cluster_numbers (codes "f=" ++ decimal s.f) (codes "shards=" ++ decimal s.shards) (codes "reads=" ++ decimal s.reads)
@@ -39,7 +39,7 @@ clock-again : (c : ℕ) → IsU64 c → labelled (codes "clock=") number (codes 
 unfolding behind
 clock-again c h = number-again c h
 
-keys-label : (k : KeysKind) → labelled (codes "keys=") keys_kind (codes "keys=" ++ keys_word k) ≡ Ok k
+keys-label : (k : KeysKind) → labelled (codes "keys=") keys_kind (codes "keys=" ++ keys_token k) ≡ Ok k
 unfolding behind
 keys-label k = keys-again k
 
@@ -62,7 +62,7 @@ fields-again : (s : Setting) (c : ℕ) (k : KeysKind) (j : Bool) → IsSetting s
       codes "reads=" ++ decimal s.reads,
       codes "delta=" ++ decimal s.delta,
       codes "clock=" ++ decimal c,
-      codes "keys=" ++ keys_word k,
+      codes "keys=" ++ keys_token k,
     )
     ≡ Ok (record { numbers = record { f = s.f; shards = s.shards; reads = s.reads; delta = s.delta }; clock = c; keys = k; journal = j })
 unfolding header_fields literal all4 all3
@@ -74,7 +74,7 @@ unfolding said kind_of line_of header journal_fields literal eight_of seven_of s
 said-header s c k true h = rw (fields-again s c k true h.0 h.1 h.2, cluster-again s h.0) refl
 said-header s c k false h = rw (fields-again s c k false h.0 h.1 h.2, cluster-again s h.0) refl
 
-keys-clean : (k : KeysKind) → clean (keys_word k) ≡ true
+keys-clean : (k : KeysKind) → clean (keys_token k) ≡ true
 keys-clean Plain = refl
 keys-clean W4H5 = refl
 keys-clean W4H10 = refl

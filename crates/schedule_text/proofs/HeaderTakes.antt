@@ -12,35 +12,35 @@ use Rattle.schedule_text.specs.declared.line.Line.{Line}
 use Rattle.schedule_text.specs.declared.line.Line.TheVariants.{Header}
 use Rattle.schedule_text.specs.declared.kinds.header.ClusterNumbers.{ClusterNumbers}
 use Rattle.schedule_text.specs.declared.kinds.header.HeaderFields.{HeaderFields}
-use Rattle.schedule_text.specs.Words.{Word, seven_of, eight_of}
+use Rattle.schedule_text.specs.Tokens.{Token, seven_of, eight_of}
 use Rattle.schedule_text.specs.Complaints.{both, all4}
 use Rattle.schedule_text.specs.Fields.{literal, number, keys_kind, labelled}
 use Rattle.schedule_text.specs.Headers.{header, header_fields, journal_fields, cluster_numbers}
 use Rattle.schedule_text.specs.Headers.{cluster_of, accepted, with_cluster, seven_fields, eight_fields}
-use Rattle.schedule_text.specs.Spelling.{line_words, keys_word, journal_words}
+use Rattle.schedule_text.specs.Spelling.{line_tokens, keys_token, journal_tokens}
 use Rattle.schedule_text.specs.Fitting.{IsU64}
-use Rattle.schedule_text.proofs.WordLaws.{and-left, and-right}
+use Rattle.schedule_text.proofs.TokenLaws.{and-left, and-right}
 use Rattle.schedule_text.proofs.ResultTakes.{ok-is, made-takes, both-takes, all4-takes, seven-take, eight-take}
 use Rattle.schedule_text.proofs.FieldTakes.{number-takes, literal-takes, labelled-takes, keys-takes, le-of}
 use Rattle.schedule_text.proofs.KindTakes.{Stands}
 
-label-number : (label w : Word) (n : ℕ) → labelled label number w ≡ Ok n → (label ++ decimal n ≡ w) × IsU64 n
+label-number : (label w : Token) (n : ℕ) → labelled label number w ≡ Ok n → (label ++ decimal n ≡ w) × IsU64 n
 label-number label w n h =
     let l = labelled-takes label number w n h in
     let t = number-takes l.0 n l.2 in
-    (ap (λ (z : Word). label ++ z) t.0 ∙ sym l.1, t.1)
+    (ap (λ (z : Token). label ++ z) t.0 ∙ sym l.1, t.1)
 
-label-keys : (label w : Word) (k : KeysKind) → labelled label keys_kind w ≡ Ok k → label ++ keys_word k ≡ w
+label-keys : (label w : Token) (k : KeysKind) → labelled label keys_kind w ≡ Ok k → label ++ keys_token k ≡ w
 label-keys label w k h =
     let l = labelled-takes label keys_kind w k h in
-    ap (λ (z : Word). label ++ z) (keys-takes l.0 k l.2) ∙ sym l.1
+    ap (λ (z : Token). label ++ z) (keys-takes l.0 k l.2) ∙ sym l.1
 
-abbrev Numbers : Word → Word → Word → Word → ClusterNumbers → Type 0
+abbrev Numbers : Token → Token → Token → Token → ClusterNumbers → Type 0
 Numbers f s r d n =
     (codes "f=" ++ decimal n.f ≡ f) × (codes "shards=" ++ decimal n.shards ≡ s) ×
     (codes "reads=" ++ decimal n.reads ≡ r) × (codes "delta=" ++ decimal n.delta ≡ d) × IsU64 n.delta
 
-numbers-take : (f s r d : Word) (n : ClusterNumbers) → cluster_numbers f s r d ≡ Ok n → Numbers f s r d n
+numbers-take : (f s r d : Token) (n : ClusterNumbers) → cluster_numbers f s r d ≡ Ok n → Numbers f s r d n
 unfolding cluster_numbers
 numbers-take f s r d n h =
     let F : ℕ × ℕ × ℕ × ℕ → ClusterNumbers = λ t. record { f = t.0; shards = t.1; reads = t.2; delta = t.3 } in
@@ -57,21 +57,21 @@ numbers-take f s r d n h =
     subst (Numbers f s r d) m.2 (a.0, b.0, c.0, e.0, e.1)
 
 abbrev Seven : Type 0
-Seven = Word × Word × Word × Word × Word × Word × Word
+Seven = Token × Token × Token × Token × Token × Token × Token
 
-abbrev seven_words : HeaderFields → Seven
-seven_words h = (
+abbrev seven_tokens : HeaderFields → Seven
+seven_tokens h = (
   codes "1",
   codes "f=" ++ decimal h.numbers.f,
   codes "shards=" ++ decimal h.numbers.shards,
   codes "reads=" ++ decimal h.numbers.reads,
   codes "delta=" ++ decimal h.numbers.delta,
   codes "clock=" ++ decimal h.clock,
-  codes "keys=" ++ keys_word h.keys,
+  codes "keys=" ++ keys_token h.keys,
 )
 
 abbrev Told : Bool → Seven → HeaderFields → Type 0
-Told j t h = (seven_words h ≡ t) × (h.journal ≡ j) × IsU64 h.numbers.delta × IsU64 h.clock
+Told j t h = (seven_tokens h ≡ t) × (h.journal ≡ j) × IsU64 h.numbers.delta × IsU64 h.clock
 
 fields-told : (j : Bool) (t : Seven) (h : HeaderFields) → header_fields j t ≡ Ok h → Told j t h
 unfolding header_fields
@@ -121,22 +121,26 @@ cluster-takes n s h = tested (nat_le n.f 6) refl
           },
         )
 
--- the words of a header are its seven, and `journal` or nothing
-abbrev Header_of : List Word → HeaderFields → Type 0
+-- the tokens of a header are its seven, and `journal` or nothing
+abbrev Header_of : List Token → HeaderFields → Type 0
 Header_of ws h =
     (codes "1" ∷ (codes "f=" ++ decimal h.numbers.f)
     ∷ (codes "shards=" ++ decimal h.numbers.shards) ∷ (codes "reads=" ++ decimal h.numbers.reads)
     ∷ (codes "delta=" ++ decimal h.numbers.delta)
-    ∷ (codes "clock=" ++ decimal h.clock) ∷ (codes "keys=" ++ keys_word h.keys) ∷ journal_words h.journal ≡ ws)
+    ∷ (codes "clock=" ++ decimal h.clock) ∷ (codes "keys=" ++ keys_token h.keys) ∷ journal_tokens h.journal ≡ ws)
     × IsU64 h.numbers.delta × IsU64 h.clock
 
-without_journal : (ws : List Word) (t : Seven) (h : HeaderFields) → seven_of ws ≡ Some t → header_fields false t ≡ Ok h → Header_of ws h
+without_journal : (ws : List Token) (t : Seven) (h : HeaderFields) → seven_of ws ≡ Some t → header_fields false t ≡ Ok h → Header_of ws h
 without_journal ws t h s e =
     let f = fields-told false t h e in
-    let p = f.0 in
-    ((λ i. (p i).0 ∷ (p i).1 ∷ (p i).2 ∷ (p i).3 ∷ (p i).4 ∷ (p i).5 ∷ (p i).6 ∷ journal_words (f.1 i)) ∙ sym (seven-take ws t s), f.2, f.3)
+    let p = f.0 in (
+      (λ i. (p i).0 ∷ (p i).1 ∷ (p i).2 ∷ (p i).3 ∷ (p i).4 ∷ (p i).5 ∷ (p i).6 ∷ journal_tokens (f.1 i))
+          ∙ sym (seven-take ws t s),
+      f.2,
+      f.3,
+    )
 
-with_journal : (ws : List Word) (t : Word × Word × Word × Word × Word × Word × Word × Word) (h : HeaderFields) →
+with_journal : (ws : List Token) (t : Token × Token × Token × Token × Token × Token × Token × Token) (h : HeaderFields) →
     eight_of ws ≡ Some t → journal_fields t ≡ Ok h → Header_of ws h
 unfolding journal_fields
 with_journal ws t h s e =
@@ -148,24 +152,24 @@ with_journal ws t h s e =
     let l = literal-takes (codes "journal") t.7 m.0.0 q.0 in
     let f = fields-told true S h (q.1 ∙ ap (λ (z : HeaderFields). Ok z) m.2) in
     let p = f.0 in (
-      (λ i. (p i).0 ∷ (p i).1 ∷ (p i).2 ∷ (p i).3 ∷ (p i).4 ∷ (p i).5 ∷ (p i).6 ∷ journal_words (f.1 i))
+      (λ i. (p i).0 ∷ (p i).1 ∷ (p i).2 ∷ (p i).3 ∷ (p i).4 ∷ (p i).5 ∷ (p i).6 ∷ journal_tokens (f.1 i))
           ∙ (λ i. t.0 ∷ t.1 ∷ t.2 ∷ t.3 ∷ t.4 ∷ t.5 ∷ t.6 ∷ sym l i ∷ []) ∙ sym (eight-take ws t s),
       f.2,
       f.3,
     )
 
-fields-are : (ws : List Word) (h : HeaderFields) → seven_fields (eight_fields (eight_of ws)) (seven_of ws) ≡ Ok h → Header_of ws h
+fields-are : (ws : List Token) (h : HeaderFields) → seven_fields (eight_fields (eight_of ws)) (seven_of ws) ≡ Ok h → Header_of ws h
 fields-are ws h e = tested (seven_of ws) refl (eight_of ws) refl e
   where
-    tested : (a : Option (Word × Word × Word × Word × Word × Word × Word)) →
-        seven_of ws ≡ a → (b : Option (Word × Word × Word × Word × Word × Word × Word × Word)) → eight_of ws ≡ b
+    tested : (a : Option (Token × Token × Token × Token × Token × Token × Token)) →
+        seven_of ws ≡ a → (b : Option (Token × Token × Token × Token × Token × Token × Token × Token)) → eight_of ws ≡ b
         → seven_fields (eight_fields b) a ≡ Ok h → Header_of ws h
     tested (Some t) i b j e = without_journal ws t h i e
     tested None i (Some t) j e = with_journal ws t h j e
     tested None i None j e = cc e
 
-pub header-takes : (ws : List Word) (v : Line) → header ws ≡ Ok v → Stands (codes "basil" ∷ ws) v
-unfolding header line_words
+pub header-takes : (ws : List Token) (v : Line) → header ws ≡ Ok v → Stands (codes "basil" ∷ ws) v
+unfolding header line_tokens
 header-takes ws v h = read (seven_fields (eight_fields (eight_of ws)) (seven_of ws)) refl h
   where
     read : (r : Result HeaderFields Complaint) →
@@ -176,4 +180,4 @@ header-takes ws v h = read (seven_fields (eight_fields (eight_of ws)) (seven_of 
         let s = cluster-takes f.numbers m.0 m.1 in
         let t = fields-are ws f e in
         subst (Stands (codes "basil" ∷ ws)) (ap (λ (z : Setting). Header z f.clock f.keys f.journal) (sym s.0) ∙ m.2)
-        (ap (λ (z : List Word). codes "basil" ∷ z) t.0, (subst IsSetting s.0 s.1, t.1, t.2))
+        (ap (λ (z : List Token). codes "basil" ∷ z) t.0, (subst IsSetting s.0 s.1, t.1, t.2))

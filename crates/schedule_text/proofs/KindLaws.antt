@@ -9,15 +9,15 @@ use Rattle.basil_types.specs.declared.party.Decision.TheVariants.{Commit, Abort}
 use Rattle.schedule_text.specs.declared.line.Line.TheVariants.{Faulty, Begin, Read, Write, Delete, Claim, Prepare}
 use Rattle.schedule_text.specs.declared.line.Line.TheVariants.{Settle, Recover, Invoke, Round, Deliver, Lose, Divert}
 use Rattle.schedule_text.specs.declared.line.Line.TheVariants.{Clock, Vote, Second, Logged, Elect, Decide, Raw, Show, Stop}
-use Rattle.schedule_text.specs.Words.{one_of, two_of, three_of, four_of, five_of, six_of, seven_of}
+use Rattle.schedule_text.specs.Tokens.{one_of, two_of, three_of, four_of, five_of, six_of, seven_of}
 use Rattle.schedule_text.specs.Complaints.{all3, all4, all5}
 use Rattle.schedule_text.specs.Kinds.{kind_of, message_kind_of}
 use Rattle.schedule_text.specs.Lines.{line_of, begin, read, write_of, delete, claim, prepare, call, settle, recover, invoke, round}
 use Rattle.schedule_text.specs.Lines.{deliver, lose, divert, faulty, clock, vote, second, logged, elect, decide, raw, show, stop}
 use Rattle.schedule_text.specs.Reading.{said}
-use Rattle.schedule_text.specs.Spelling.{key_word, value_word, writer_word, party_words, decision_word}
+use Rattle.schedule_text.specs.Spelling.{key_token, value_token, writer_token, party_tokens, decision_token}
 use Rattle.schedule_text.specs.Fitting.{Fits, IsWriter, IsClient}
-use Rattle.schedule_text.proofs.WordLaws.{all_clean, clean, clean-decimal}
+use Rattle.schedule_text.proofs.TokenLaws.{all_clean, clean, clean-decimal}
 use Rattle.schedule_text.proofs.FieldLaws.{number-again, number_in-again, client-again, replica-again, place-again}
 use Rattle.schedule_text.proofs.FieldLaws.{view-again, views-again, name-again, name-clean, writer-again, decision-again}
 use Rattle.schedule_text.proofs.EscapeLaws.{text-again, value-again, key-clean, value-clean, hex-again, hex-clean, frame-again}
@@ -35,11 +35,11 @@ shard-small n h = omega arith
 write-small : (w : ℕ) → w ≤ 2 → w < 2 ^ 64
 write-small w h = omega arith
 
-decision-clean : (d : Decision) → clean (decision_word d) ≡ true
+decision-clean : (d : Decision) → clean (decision_token d) ≡ true
 decision-clean Commit = refl
 decision-clean Abort = refl
 
-writer-clean : (w : Option (List ℕ)) → IsWriter w → clean (writer_word w) ≡ true
+writer-clean : (w : Option (List ℕ)) → IsWriter w → clean (writer_token w) ≡ true
 writer-clean None h = refl
 writer-clean (Some w) h = name-clean w h
 
@@ -51,36 +51,36 @@ said-begin n c t h = rw (name-again n h.0, client-again c h.1, number-again t h.
 pub clean-begin : (n : List ℕ) (c : ℕ) (t : ℕ) → Fits (Begin n c t) → all_clean (codes "begin" ∷ n ∷ decimal c ∷ decimal t ∷ []) ≡ true
 clean-begin n c t h = rw (name-clean n h.0, clean-decimal c (client-small c h.1), clean-decimal t h.2) refl
 
-pub said-read : (n : List ℕ) (k : List ℕ) → Fits (Read n k) → said (codes "read" ∷ n ∷ key_word k ∷ []) ≡ Ok (Read n k)
+pub said-read : (n : List ℕ) (k : List ℕ) → Fits (Read n k) → said (codes "read" ∷ n ∷ key_token k ∷ []) ≡ Ok (Read n k)
 unfolding said kind_of message_kind_of line_of read two_of one_of
 said-read n k h = rw (name-again n h.0, text-again 64 k h.1) refl
 
-pub clean-read : (n : List ℕ) (k : List ℕ) → Fits (Read n k) → all_clean (codes "read" ∷ n ∷ key_word k ∷ []) ≡ true
+pub clean-read : (n : List ℕ) (k : List ℕ) → Fits (Read n k) → all_clean (codes "read" ∷ n ∷ key_token k ∷ []) ≡ true
 clean-read n k h = rw (name-clean n h.0, key-clean k h.1.2) refl
 
 pub said-write : (n : List ℕ) (k : List ℕ) (v : List ℕ) →
-    Fits (Write n k v) → said (codes "write" ∷ n ∷ key_word k ∷ value_word v ∷ []) ≡ Ok (Write n k v)
+    Fits (Write n k v) → said (codes "write" ∷ n ∷ key_token k ∷ value_token v ∷ []) ≡ Ok (Write n k v)
 unfolding said kind_of message_kind_of line_of write_of all3 three_of two_of one_of
 said-write n k v h = rw (name-again n h.0, text-again 64 k h.1, value-again v h.2) refl
 
 pub clean-write : (n : List ℕ) (k : List ℕ) (v : List ℕ) →
-    Fits (Write n k v) → all_clean (codes "write" ∷ n ∷ key_word k ∷ value_word v ∷ []) ≡ true
+    Fits (Write n k v) → all_clean (codes "write" ∷ n ∷ key_token k ∷ value_token v ∷ []) ≡ true
 clean-write n k v h = rw (name-clean n h.0, key-clean k h.1.2, value-clean v h.2.2) refl
 
-pub said-delete : (n : List ℕ) (k : List ℕ) → Fits (Delete n k) → said (codes "delete" ∷ n ∷ key_word k ∷ []) ≡ Ok (Delete n k)
+pub said-delete : (n : List ℕ) (k : List ℕ) → Fits (Delete n k) → said (codes "delete" ∷ n ∷ key_token k ∷ []) ≡ Ok (Delete n k)
 unfolding said kind_of message_kind_of line_of delete two_of one_of
 said-delete n k h = rw (name-again n h.0, text-again 64 k h.1) refl
 
-pub clean-delete : (n : List ℕ) (k : List ℕ) → Fits (Delete n k) → all_clean (codes "delete" ∷ n ∷ key_word k ∷ []) ≡ true
+pub clean-delete : (n : List ℕ) (k : List ℕ) → Fits (Delete n k) → all_clean (codes "delete" ∷ n ∷ key_token k ∷ []) ≡ true
 clean-delete n k h = rw (name-clean n h.0, key-clean k h.1.2) refl
 
 pub said-claim : (n : List ℕ) (k : List ℕ) (w : Option (List ℕ)) →
-    Fits (Claim n k w) → said (codes "claim" ∷ n ∷ key_word k ∷ writer_word w ∷ []) ≡ Ok (Claim n k w)
+    Fits (Claim n k w) → said (codes "claim" ∷ n ∷ key_token k ∷ writer_token w ∷ []) ≡ Ok (Claim n k w)
 unfolding said kind_of message_kind_of line_of claim all3 three_of two_of one_of
 said-claim n k w h = rw (name-again n h.0, text-again 64 k h.1, writer-again w h.2) refl
 
 pub clean-claim : (n : List ℕ) (k : List ℕ) (w : Option (List ℕ)) →
-    Fits (Claim n k w) → all_clean (codes "claim" ∷ n ∷ key_word k ∷ writer_word w ∷ []) ≡ true
+    Fits (Claim n k w) → all_clean (codes "claim" ∷ n ∷ key_token k ∷ writer_token w ∷ []) ≡ true
 clean-claim n k w h = rw (name-clean n h.0, key-clean k h.1.2, writer-clean w h.2) refl
 
 pub said-prepare : (n : List ℕ) → Fits (Prepare n) → said (codes "prepare" ∷ n ∷ []) ≡ Ok (Prepare n)
@@ -141,12 +141,12 @@ pub clean-clock : (s : ℕ) (r : ℕ) (t : ℕ) → Fits (Clock s r t) → all_c
 clean-clock s r t h = rw (clean-decimal s (shard-small s h.0.0), clean-decimal r (replica-small r h.0.1), clean-decimal t h.1) refl
 
 pub said-vote : (s : ℕ) (r : ℕ) (n : List ℕ) (d : Decision) (c : ℕ) →
-    Fits (Vote s r n d c) → said (codes "vote" ∷ decimal s ∷ decimal r ∷ n ∷ decision_word d ∷ decimal c ∷ []) ≡ Ok (Vote s r n d c)
+    Fits (Vote s r n d c) → said (codes "vote" ∷ decimal s ∷ decimal r ∷ n ∷ decision_token d ∷ decimal c ∷ []) ≡ Ok (Vote s r n d c)
 unfolding said kind_of message_kind_of line_of vote all4 all3 five_of four_of three_of two_of one_of
 said-vote s r n d c h = rw (place-again s r h.0, name-again n h.1, decision-again d, client-again c h.2) refl
 
 pub clean-vote : (s : ℕ) (r : ℕ) (n : List ℕ) (d : Decision) (c : ℕ) →
-    Fits (Vote s r n d c) → all_clean (codes "vote" ∷ decimal s ∷ decimal r ∷ n ∷ decision_word d ∷ decimal c ∷ []) ≡ true
+    Fits (Vote s r n d c) → all_clean (codes "vote" ∷ decimal s ∷ decimal r ∷ n ∷ decision_token d ∷ decimal c ∷ []) ≡ true
 clean-vote s r n d c h = rw (
   clean-decimal s (shard-small s h.0.0),
   clean-decimal r (replica-small r h.0.1),
@@ -156,21 +156,22 @@ clean-vote s r n d c h = rw (
 ) refl
 
 pub said-second : (n : List ℕ) (d : Decision) (r : ℕ) →
-    Fits (Second n d r) → said (codes "second" ∷ n ∷ decision_word d ∷ decimal r ∷ []) ≡ Ok (Second n d r)
+    Fits (Second n d r) → said (codes "second" ∷ n ∷ decision_token d ∷ decimal r ∷ []) ≡ Ok (Second n d r)
 unfolding said kind_of message_kind_of line_of second all3 three_of two_of one_of
 said-second n d r h = rw (name-again n h.0, decision-again d, replica-again r h.1) refl
 
 pub clean-second : (n : List ℕ) (d : Decision) (r : ℕ) →
-    Fits (Second n d r) → all_clean (codes "second" ∷ n ∷ decision_word d ∷ decimal r ∷ []) ≡ true
+    Fits (Second n d r) → all_clean (codes "second" ∷ n ∷ decision_token d ∷ decimal r ∷ []) ≡ true
 clean-second n d r h = rw (name-clean n h.0, decision-clean d, clean-decimal r (replica-small r h.1)) refl
 
 pub said-logged : (s : ℕ) (r : ℕ) (n : List ℕ) (d : Decision) (v : ℕ) (w : ℕ) (c : ℕ) → Fits (Logged s r n d v w c) →
-    said (codes "logged" ∷ decimal s ∷ decimal r ∷ n ∷ decision_word d ∷ decimal v ∷ decimal w ∷ decimal c ∷ []) ≡ Ok (Logged s r n d v w c)
+    said (codes "logged" ∷ decimal s ∷ decimal r ∷ n ∷ decision_token d ∷ decimal v ∷ decimal w ∷ decimal c ∷ [])
+    ≡ Ok (Logged s r n d v w c)
 unfolding said kind_of message_kind_of line_of logged all5 all4 all3 seven_of six_of five_of four_of three_of two_of one_of
 said-logged s r n d v w c h = rw (place-again s r h.0, name-again n h.1, decision-again d, views-again v w h.2 h.3, client-again c h.4) refl
 
 pub clean-logged : (s : ℕ) (r : ℕ) (n : List ℕ) (d : Decision) (v : ℕ) (w : ℕ) (c : ℕ) → Fits (Logged s r n d v w c) →
-    all_clean (codes "logged" ∷ decimal s ∷ decimal r ∷ n ∷ decision_word d ∷ decimal v ∷ decimal w ∷ decimal c ∷ []) ≡ true
+    all_clean (codes "logged" ∷ decimal s ∷ decimal r ∷ n ∷ decision_token d ∷ decimal v ∷ decimal w ∷ decimal c ∷ []) ≡ true
 clean-logged s r n d v w c h =
     rw (
       clean-decimal s (shard-small s h.0.0),
@@ -184,12 +185,12 @@ clean-logged s r n d v w c h =
     ) refl
 
 pub said-elect : (s : ℕ) (r : ℕ) (n : List ℕ) (d : Decision) (v : ℕ) →
-    Fits (Elect s r n d v) → said (codes "elect" ∷ decimal s ∷ decimal r ∷ n ∷ decision_word d ∷ decimal v ∷ []) ≡ Ok (Elect s r n d v)
+    Fits (Elect s r n d v) → said (codes "elect" ∷ decimal s ∷ decimal r ∷ n ∷ decision_token d ∷ decimal v ∷ []) ≡ Ok (Elect s r n d v)
 unfolding said kind_of message_kind_of line_of elect all4 all3 five_of four_of three_of two_of one_of
 said-elect s r n d v h = rw (place-again s r h.0, name-again n h.1, decision-again d, view-again v h.2 h.3) refl
 
 pub clean-elect : (s : ℕ) (r : ℕ) (n : List ℕ) (d : Decision) (v : ℕ) →
-    Fits (Elect s r n d v) → all_clean (codes "elect" ∷ decimal s ∷ decimal r ∷ n ∷ decision_word d ∷ decimal v ∷ []) ≡ true
+    Fits (Elect s r n d v) → all_clean (codes "elect" ∷ decimal s ∷ decimal r ∷ n ∷ decision_token d ∷ decimal v ∷ []) ≡ true
 clean-elect s r n d v h = rw (
   clean-decimal s (shard-small s h.0.0),
   clean-decimal r (replica-small r h.0.1),
@@ -199,12 +200,13 @@ clean-elect s r n d v h = rw (
 ) refl
 
 pub said-decide : (s : ℕ) (r : ℕ) (n : List ℕ) (d : Decision) (v : ℕ) (q : ℕ) → Fits (Decide s r n d v q) →
-    said (codes "decide" ∷ decimal s ∷ decimal r ∷ n ∷ decision_word d ∷ decimal v ∷ decimal q ∷ []) ≡ Ok (Decide s r n d v q)
+    said (codes "decide" ∷ decimal s ∷ decimal r ∷ n ∷ decision_token d ∷ decimal v ∷ decimal q ∷ []) ≡ Ok (Decide s r n d v q)
 unfolding said kind_of message_kind_of line_of decide all5 all4 all3 six_of five_of four_of three_of two_of one_of
 said-decide s r n d v q h = rw (place-again s r h.0, name-again n h.1, decision-again d, view-again v h.2 h.3, replica-again q h.4) refl
 
 pub clean-decide : (s : ℕ) (r : ℕ) (n : List ℕ) (d : Decision) (v : ℕ) (q : ℕ) →
-    Fits (Decide s r n d v q) → all_clean (codes "decide" ∷ decimal s ∷ decimal r ∷ n ∷ decision_word d ∷ decimal v ∷ decimal q ∷ []) ≡ true
+    Fits (Decide s r n d v q) → all_clean
+    (codes "decide" ∷ decimal s ∷ decimal r ∷ n ∷ decision_token d ∷ decimal v ∷ decimal q ∷ []) ≡ true
 clean-decide s r n d v q h = rw (
   clean-decimal s (shard-small s h.0.0),
   clean-decimal r (replica-small r h.0.1),
@@ -237,37 +239,37 @@ clean-stop s r i w b h = rw (
   hex-clean b h.5,
 ) refl
 
-pub said-faulty : (p : Party) → Fits (Faulty p) → said (codes "faulty" ∷ party_words p) ≡ Ok (Faulty p)
+pub said-faulty : (p : Party) → Fits (Faulty p) → said (codes "faulty" ∷ party_tokens p) ≡ Ok (Faulty p)
 unfolding said kind_of message_kind_of line_of faulty
 said-faulty p h = rw (only_party-again p h) refl
 
-pub clean-faulty : (p : Party) → Fits (Faulty p) → all_clean (codes "faulty" ∷ party_words p) ≡ true
+pub clean-faulty : (p : Party) → Fits (Faulty p) → all_clean (codes "faulty" ∷ party_tokens p) ≡ true
 clean-faulty p h = party-clean p h
 
-pub said-divert : (i : ℕ) (p : Party) → Fits (Divert i p) → said (codes "divert" ∷ decimal i ∷ party_words p) ≡ Ok (Divert i p)
+pub said-divert : (i : ℕ) (p : Party) → Fits (Divert i p) → said (codes "divert" ∷ decimal i ∷ party_tokens p) ≡ Ok (Divert i p)
 unfolding said kind_of message_kind_of line_of divert
 said-divert i p h = rw (number-again i h.0, only_party-again p h.1) refl
 
-pub clean-divert : (i : ℕ) (p : Party) → Fits (Divert i p) → all_clean (codes "divert" ∷ decimal i ∷ party_words p) ≡ true
+pub clean-divert : (i : ℕ) (p : Party) → Fits (Divert i p) → all_clean (codes "divert" ∷ decimal i ∷ party_tokens p) ≡ true
 clean-divert i p h = rw (clean-decimal i h.0, party-clean p h.1) refl
 
 pub said-raw : (a b : Party) (f : List ℕ) →
-    Fits (Raw a b f) → said (codes "raw" ∷ (party_words a ++ party_words b ++ encode_lower f ∷ [])) ≡ Ok (Raw a b f)
+    Fits (Raw a b f) → said (codes "raw" ∷ (party_tokens a ++ party_tokens b ++ encode_lower f ∷ [])) ≡ Ok (Raw a b f)
 unfolding said kind_of message_kind_of line_of raw all3 one_of
 said-raw a b f h =
     rw (
-      append_assoc (party_words a) (party_words b) (encode_lower f ∷ []),
-      party-again a (party_words b ++ encode_lower f ∷ []) h.0,
+      append_assoc (party_tokens a) (party_tokens b) (encode_lower f ∷ []),
+      party-again a (party_tokens b ++ encode_lower f ∷ []) h.0,
       party-again b (encode_lower f ∷ []) h.1,
       frame-again f h.2,
     ) refl
 
 pub clean-raw : (a b : Party) (f : List ℕ) →
-    Fits (Raw a b f) → all_clean (codes "raw" ∷ (party_words a ++ party_words b ++ encode_lower f ∷ [])) ≡ true
+    Fits (Raw a b f) → all_clean (codes "raw" ∷ (party_tokens a ++ party_tokens b ++ encode_lower f ∷ [])) ≡ true
 clean-raw a b f h =
     rw (
-      list_all-append clean (party_words a ++ party_words b) (encode_lower f ∷ []),
-      list_all-append clean (party_words a) (party_words b),
+      list_all-append clean (party_tokens a ++ party_tokens b) (encode_lower f ∷ []),
+      list_all-append clean (party_tokens a) (party_tokens b),
       party-clean a h.0,
       party-clean b h.1,
       hex-clean f h.2.2,

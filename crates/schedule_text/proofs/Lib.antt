@@ -2,7 +2,7 @@ pub mod Cutting
 pub mod Digits
 pub mod Unescaping
 pub mod Joining
-pub mod WordLaws
+pub mod TokenLaws
 pub mod FieldLaws
 pub mod EscapeLaws
 pub mod PartyLaws

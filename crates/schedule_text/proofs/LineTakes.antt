@@ -11,11 +11,11 @@ use Rattle.schedule_text.specs.declared.line.Line.{Line}
 use Rattle.schedule_text.specs.declared.line.Line.TheVariants.{Skipped}
 use Rattle.schedule_text.specs.declared.kinds.Kind.{Kind}
 use Rattle.schedule_text.specs.declared.kinds.Kind.TheVariants as kind
-use Rattle.schedule_text.specs.Words.{Word, words}
+use Rattle.schedule_text.specs.Tokens.{Token, tokens}
 use Rattle.schedule_text.specs.Kinds.{kind_of, message_kind_of}
 use Rattle.schedule_text.specs.Fields.{number}
 use Rattle.schedule_text.specs.Lines.{line_of}
-use Rattle.schedule_text.specs.Spelling.{spelling, line_words}
+use Rattle.schedule_text.specs.Spelling.{spelling, line_tokens}
 use Rattle.schedule_text.specs.declared.line.LineFault.{LineFault}
 use Rattle.schedule_text.specs.declared.line.LineFault.TheVariants.{BadLine}
 use Rattle.schedule_text.specs.declared.reason.Reason.TheVariants as reasons
@@ -32,41 +32,41 @@ use Rattle.schedule_text.proofs.KindTakes.{deliver-takes, lose-takes, divert-tak
 use Rattle.schedule_text.proofs.KindTakes.{logged-takes, elect-takes, decide-takes, raw-takes, show-takes, stop-takes}
 use Rattle.schedule_text.proofs.HeaderTakes.{header-takes}
 
-abbrev kind_word : Kind → Word
-kind_word kind.Basil = codes "basil"
-kind_word kind.Faulty = codes "faulty"
-kind_word kind.Begin = codes "begin"
-kind_word kind.Read = codes "read"
-kind_word kind.Write = codes "write"
-kind_word kind.Delete = codes "delete"
-kind_word kind.Claim = codes "claim"
-kind_word kind.Prepare = codes "prepare"
-kind_word kind.Settle = codes "settle"
-kind_word kind.Recover = codes "recover"
-kind_word kind.Invoke = codes "invoke"
-kind_word kind.Round = codes "round"
-kind_word kind.Deliver = codes "deliver"
-kind_word kind.Lose = codes "lose"
-kind_word kind.Divert = codes "divert"
-kind_word kind.Clock = codes "clock"
-kind_word kind.Vote = codes "vote"
-kind_word kind.Second = codes "second"
-kind_word kind.Logged = codes "logged"
-kind_word kind.Elect = codes "elect"
-kind_word kind.Decide = codes "decide"
-kind_word kind.Raw = codes "raw"
-kind_word kind.Show = codes "show"
-kind_word kind.Stop = codes "stop"
+abbrev kind_token : Kind → Token
+kind_token kind.Basil = codes "basil"
+kind_token kind.Faulty = codes "faulty"
+kind_token kind.Begin = codes "begin"
+kind_token kind.Read = codes "read"
+kind_token kind.Write = codes "write"
+kind_token kind.Delete = codes "delete"
+kind_token kind.Claim = codes "claim"
+kind_token kind.Prepare = codes "prepare"
+kind_token kind.Settle = codes "settle"
+kind_token kind.Recover = codes "recover"
+kind_token kind.Invoke = codes "invoke"
+kind_token kind.Round = codes "round"
+kind_token kind.Deliver = codes "deliver"
+kind_token kind.Lose = codes "lose"
+kind_token kind.Divert = codes "divert"
+kind_token kind.Clock = codes "clock"
+kind_token kind.Vote = codes "vote"
+kind_token kind.Second = codes "second"
+kind_token kind.Logged = codes "logged"
+kind_token kind.Elect = codes "elect"
+kind_token kind.Decide = codes "decide"
+kind_token kind.Raw = codes "raw"
+kind_token kind.Show = codes "show"
+kind_token kind.Stop = codes "stop"
 
-if-kind : (w word : Word) (k' : Kind) (other : Option Kind) (k : Kind) →
-    word ≡ kind_word k' → (other ≡ Some k → w ≡ kind_word k) → (if bytes_eq w word then Some k' else other) ≡ Some k → w ≡ kind_word k
-if-kind w word k' other k e next h = tested (bytes_eq w word) refl h
+if-kind : (w token : Token) (k' : Kind) (other : Option Kind) (k : Kind) →
+    token ≡ kind_token k' → (other ≡ Some k → w ≡ kind_token k) → (if bytes_eq w token then Some k' else other) ≡ Some k → w ≡ kind_token k
+if-kind w token k' other k e next h = tested (bytes_eq w token) refl h
   where
-    tested : (b : Bool) → bytes_eq w word ≡ b → (if b then Some k' else other) ≡ Some k → w ≡ kind_word k
-    tested true i h = text-is w word i ∙ e ∙ ap kind_word (some-is k' k h)
+    tested : (b : Bool) → bytes_eq w token ≡ b → (if b then Some k' else other) ≡ Some k → w ≡ kind_token k
+    tested true i h = text-is w token i ∙ e ∙ ap kind_token (some-is k' k h)
     tested false i h = next h
 
-message_kind-takes : (w : Word) (k : Kind) → message_kind_of w ≡ Some k → w ≡ kind_word k
+message_kind-takes : (w : Token) (k : Kind) → message_kind_of w ≡ Some k → w ≡ kind_token k
 unfolding message_kind_of
 message_kind-takes w k h = if-kind w (codes "round") kind.Round _ k refl
     (λ h. if-kind w (codes "deliver") kind.Deliver _ k refl
@@ -83,7 +83,7 @@ message_kind-takes w k h = if-kind w (codes "round") kind.Round _ k refl
     (λ h. if-kind w (codes "stop") kind.Stop _ k refl
     (λ h. cc h) h) h) h) h) h) h) h) h) h) h) h) h) h
 
-kind-takes : (w : Word) (k : Kind) → kind_of w ≡ Some k → w ≡ kind_word k
+kind-takes : (w : Token) (k : Kind) → kind_of w ≡ Some k → w ≡ kind_token k
 unfolding kind_of
 kind-takes w k h = if-kind w (codes "basil") kind.Basil _ k refl
     (λ h. if-kind w (codes "faulty") kind.Faulty _ k refl
@@ -98,7 +98,7 @@ kind-takes w k h = if-kind w (codes "basil") kind.Basil _ k refl
     (λ h. if-kind w (codes "invoke") kind.Invoke _ k refl
     (λ h. message_kind-takes w k h) h) h) h) h) h) h) h) h) h) h) h
 
-line-takes : (k : Kind) (ws : List Word) (v : Line) → line_of k ws ≡ Ok v → Stands (kind_word k ∷ ws) v
+line-takes : (k : Kind) (ws : List Token) (v : Line) → line_of k ws ≡ Ok v → Stands (kind_token k ∷ ws) v
 unfolding line_of
 line-takes kind.Basil ws v h = header-takes ws v h
 line-takes kind.Faulty ws v h = faulty-takes ws v h
@@ -125,32 +125,32 @@ line-takes kind.Raw ws v h = raw-takes ws v h
 line-takes kind.Show ws v h = show-takes ws v h
 line-takes kind.Stop ws v h = stop-takes ws v h
 
-said-takes : (ws : List Word) (v : Line) → said ws ≡ Ok v → Stands ws v
+said-takes : (ws : List Token) (v : Line) → said ws ≡ Ok v → Stands ws v
 unfolding said
 said-takes [] v h = cc h
 said-takes (first ∷ rest) v h = known (kind_of first) refl h
   where
     known : (o : Option Kind) → kind_of first ≡ o → of_kind o rest ≡ Ok v → Stands (first ∷ rest) v
     known None i h = cc h
-    known (Some k) i h = subst (λ (z : Word). Stands (z ∷ rest) v) (sym (kind-takes first k i)) (line-takes k rest v h)
+    known (Some k) i h = subst (λ (z : Token). Stands (z ∷ rest) v) (sym (kind-takes first k i)) (line-takes k rest v h)
 
-joined-again : (line : List ℕ) (v : Line) → Stands (words line) v → spelling v ≡ line
-joined-again line v s = ap (λ (z : List Word). join_with_byte 32 z) s.0 ∙ join_with_byte-slice_split 32 line
+joined-again : (line : List ℕ) (v : Line) → Stands (tokens line) v → spelling v ≡ line
+joined-again line v s = ap (λ (z : List Token). join_with_byte 32 z) s.0 ∙ join_with_byte-slice_split 32 line
 
 -- what a line without a comment says
-not-skipped : (b : ℕ) (line : List ℕ) (v : Line) → Stands (words (b ∷ line)) v → v ≢ Skipped
-unfolding line_words
-not-skipped b line v s e = cc (joined-again (b ∷ line) Skipped (subst (Stands (words (b ∷ line))) e s))
+not-skipped : (b : ℕ) (line : List ℕ) (v : Line) → Stands (tokens (b ∷ line)) v → v ≢ Skipped
+unfolding line_tokens
+not-skipped b line v s e = cc (joined-again (b ∷ line) Skipped (subst (Stands (tokens (b ∷ line))) e s))
 
 value-says : (line : List ℕ) (v : Line) → line_value line ≡ Ok v → Says line v
 unfolding line_value
 value-says [] v h = inl (sym (ok-is Skipped v h), refl)
 value-says (b ∷ line) v h = tested (b == 35) refl h
   where
-    tested : (q : Bool) → (b == 35) ≡ q → (if q then Ok Skipped else said (words (b ∷ line))) ≡ Ok v → Says (b ∷ line) v
+    tested : (q : Bool) → (b == 35) ≡ q → (if q then Ok Skipped else said (tokens (b ∷ line))) ≡ Ok v → Says (b ∷ line) v
     tested true i h = inl (sym (ok-is Skipped v h), i)
     tested false i h =
-        let s = said-takes (words (b ∷ line)) v h in
+        let s = said-takes (tokens (b ∷ line)) v h in
         inr (not-skipped b line v s, s.1, joined-again (b ∷ line) v s)
 
 skips : (line : List ℕ) → is_skipped line ≡ true → line_value line ≡ Ok Skipped

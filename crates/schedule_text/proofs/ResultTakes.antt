@@ -2,7 +2,7 @@
 use Rattle.std.proofs.Common.{◌≡◌, List, [], ◌∷◌, Bool, true, false, refl, ap, ◌∙◌, Result, Ok, Err, Option, Some, None, if◌then◌else◌}
 use Rattle.std.specs.Prelude.{option_map}
 use Rattle.schedule_text.specs.declared.complaint.Complaint.{Complaint}
-use Rattle.schedule_text.specs.Words.{Word, one_of, two_of, three_of, four_of, five_of, six_of, seven_of, eight_of}
+use Rattle.schedule_text.specs.Tokens.{Token, one_of, two_of, three_of, four_of, five_of, six_of, seven_of, eight_of}
 use Rattle.schedule_text.specs.Complaints.{both, made, all3, all4, all5}
 use Rattle.schedule_text.specs.Lines.{fields}
 
@@ -79,73 +79,73 @@ map-takes : {A B : Type 0} (f : A → B) (o : Option A) (y : B) → option_map f
 map-takes f None y h = cc h
 map-takes f (Some x) y h = (x, refl, some-is (f x) y h)
 
-pub one-takes : (ws : List Word) (a : Word) → one_of ws ≡ Some a → ws ≡ a ∷ []
+pub one-takes : (ws : List Token) (a : Token) → one_of ws ≡ Some a → ws ≡ a ∷ []
 unfolding one_of
 one-takes [] a h = cc h
-one-takes (x ∷ []) a h = ap (λ (z : Word). z ∷ []) (some-is x a h)
+one-takes (x ∷ []) a h = ap (λ (z : Token). z ∷ []) (some-is x a h)
 one-takes (x ∷ y ∷ ws) a h = cc h
 
-pub two-takes : (ws : List Word) (t : Word × Word) → two_of ws ≡ Some t → ws ≡ t.0 ∷ t.1 ∷ []
+pub two-takes : (ws : List Token) (t : Token × Token) → two_of ws ≡ Some t → ws ≡ t.0 ∷ t.1 ∷ []
 unfolding two_of
 two-takes [] t h = cc h
 two-takes (x ∷ ws) t h =
-    let f : Word → Word × Word = λ u. (x, u) in
+    let f : Token → Token × Token = λ u. (x, u) in
     let m = map-takes f (one_of ws) t h in
-    ap (λ (r : List Word). x ∷ r) (one-takes ws m.0 m.1) ∙ ap (λ (z : Word × Word). z.0 ∷ z.1 ∷ []) m.2
+    ap (λ (r : List Token). x ∷ r) (one-takes ws m.0 m.1) ∙ ap (λ (z : Token × Token). z.0 ∷ z.1 ∷ []) m.2
 
-pub three-take : (ws : List Word) (t : Word × Word × Word) → three_of ws ≡ Some t → ws ≡ t.0 ∷ t.1 ∷ t.2 ∷ []
+pub three-take : (ws : List Token) (t : Token × Token × Token) → three_of ws ≡ Some t → ws ≡ t.0 ∷ t.1 ∷ t.2 ∷ []
 unfolding three_of
 three-take [] t h = cc h
 three-take (x ∷ ws) t h =
-    let f : (Word × Word) → Word × Word × Word = λ u. (x, u.0, u.1) in
+    let f : (Token × Token) → Token × Token × Token = λ u. (x, u.0, u.1) in
     let m = map-takes f (two_of ws) t h in
-    ap (λ (r : List Word). x ∷ r) (two-takes ws m.0 m.1) ∙ ap (λ (z : Word × Word × Word). z.0 ∷ z.1 ∷ z.2 ∷ []) m.2
+    ap (λ (r : List Token). x ∷ r) (two-takes ws m.0 m.1) ∙ ap (λ (z : Token × Token × Token). z.0 ∷ z.1 ∷ z.2 ∷ []) m.2
 
-pub four-take : (ws : List Word) (t : Word × Word × Word × Word) → four_of ws ≡ Some t → ws ≡ t.0 ∷ t.1 ∷ t.2 ∷ t.3 ∷ []
+pub four-take : (ws : List Token) (t : Token × Token × Token × Token) → four_of ws ≡ Some t → ws ≡ t.0 ∷ t.1 ∷ t.2 ∷ t.3 ∷ []
 unfolding four_of
 four-take [] t h = cc h
 four-take (x ∷ ws) t h =
-    let f : (Word × Word × Word) → Word × Word × Word × Word = λ u. (x, u.0, u.1, u.2) in
+    let f : (Token × Token × Token) → Token × Token × Token × Token = λ u. (x, u.0, u.1, u.2) in
     let m = map-takes f (three_of ws) t h in
-    ap (λ (r : List Word). x ∷ r) (three-take ws m.0 m.1) ∙ ap (λ (z : Word × Word × Word × Word). z.0 ∷ z.1 ∷ z.2 ∷ z.3 ∷ []) m.2
+    ap (λ (r : List Token). x ∷ r) (three-take ws m.0 m.1) ∙ ap (λ (z : Token × Token × Token × Token). z.0 ∷ z.1 ∷ z.2 ∷ z.3 ∷ []) m.2
 
-pub five-take : (ws : List Word) (t : Word × Word × Word × Word × Word) → five_of ws ≡ Some t → ws ≡ t.0 ∷ t.1 ∷ t.2 ∷ t.3 ∷ t.4 ∷ []
+pub five-take : (ws : List Token) (t : Token × Token × Token × Token × Token) → five_of ws ≡ Some t → ws ≡ t.0 ∷ t.1 ∷ t.2 ∷ t.3 ∷ t.4 ∷ []
 unfolding five_of
 five-take [] t h = cc h
 five-take (x ∷ ws) t h =
-    let f : (Word × Word × Word × Word) → Word × Word × Word × Word × Word = λ u. (x, u.0, u.1, u.2, u.3) in
+    let f : (Token × Token × Token × Token) → Token × Token × Token × Token × Token = λ u. (x, u.0, u.1, u.2, u.3) in
     let m = map-takes f (four_of ws) t h in
-    ap (λ (r : List Word). x ∷ r) (four-take ws m.0 m.1)
-    ∙ ap (λ (z : Word × Word × Word × Word × Word). z.0 ∷ z.1 ∷ z.2 ∷ z.3 ∷ z.4 ∷ []) m.2
+    ap (λ (r : List Token). x ∷ r) (four-take ws m.0 m.1)
+    ∙ ap (λ (z : Token × Token × Token × Token × Token). z.0 ∷ z.1 ∷ z.2 ∷ z.3 ∷ z.4 ∷ []) m.2
 
-pub six-take : (ws : List Word) (t : Word × Word × Word × Word × Word × Word) →
+pub six-take : (ws : List Token) (t : Token × Token × Token × Token × Token × Token) →
     six_of ws ≡ Some t → ws ≡ t.0 ∷ t.1 ∷ t.2 ∷ t.3 ∷ t.4 ∷ t.5 ∷ []
 unfolding six_of
 six-take [] t h = cc h
 six-take (x ∷ ws) t h =
-    let f : (Word × Word × Word × Word × Word) → Word × Word × Word × Word × Word × Word = λ u. (x, u.0, u.1, u.2, u.3, u.4) in
+    let f : (Token × Token × Token × Token × Token) → Token × Token × Token × Token × Token × Token = λ u. (x, u.0, u.1, u.2, u.3, u.4) in
     let m = map-takes f (five_of ws) t h in
-    ap (λ (r : List Word). x ∷ r) (five-take ws m.0 m.1)
-    ∙ ap (λ (z : Word × Word × Word × Word × Word × Word). z.0 ∷ z.1 ∷ z.2 ∷ z.3 ∷ z.4 ∷ z.5 ∷ []) m.2
+    ap (λ (r : List Token). x ∷ r) (five-take ws m.0 m.1)
+    ∙ ap (λ (z : Token × Token × Token × Token × Token × Token). z.0 ∷ z.1 ∷ z.2 ∷ z.3 ∷ z.4 ∷ z.5 ∷ []) m.2
 
-pub seven-take : (ws : List Word) (t : Word × Word × Word × Word × Word × Word × Word) →
+pub seven-take : (ws : List Token) (t : Token × Token × Token × Token × Token × Token × Token) →
     seven_of ws ≡ Some t → ws ≡ t.0 ∷ t.1 ∷ t.2 ∷ t.3 ∷ t.4 ∷ t.5 ∷ t.6 ∷ []
 unfolding seven_of
 seven-take [] t h = cc h
 seven-take (x ∷ ws) t h =
-    let f : (Word × Word × Word × Word × Word × Word) → Word × Word × Word × Word × Word × Word × Word =
+    let f : (Token × Token × Token × Token × Token × Token) → Token × Token × Token × Token × Token × Token × Token =
     λ u. (x, u.0, u.1, u.2, u.3, u.4, u.5) in
     let m = map-takes f (six_of ws) t h in
-    ap (λ (r : List Word). x ∷ r) (six-take ws m.0 m.1)
-    ∙ ap (λ (z : Word × Word × Word × Word × Word × Word × Word). z.0 ∷ z.1 ∷ z.2 ∷ z.3 ∷ z.4 ∷ z.5 ∷ z.6 ∷ []) m.2
+    ap (λ (r : List Token). x ∷ r) (six-take ws m.0 m.1)
+    ∙ ap (λ (z : Token × Token × Token × Token × Token × Token × Token). z.0 ∷ z.1 ∷ z.2 ∷ z.3 ∷ z.4 ∷ z.5 ∷ z.6 ∷ []) m.2
 
-pub eight-take : (ws : List Word) (t : Word × Word × Word × Word × Word × Word × Word × Word) →
+pub eight-take : (ws : List Token) (t : Token × Token × Token × Token × Token × Token × Token × Token) →
     eight_of ws ≡ Some t → ws ≡ t.0 ∷ t.1 ∷ t.2 ∷ t.3 ∷ t.4 ∷ t.5 ∷ t.6 ∷ t.7 ∷ []
 unfolding eight_of
 eight-take [] t h = cc h
 eight-take (x ∷ ws) t h =
-    let f : (Word × Word × Word × Word × Word × Word × Word) → Word × Word × Word × Word × Word × Word × Word × Word =
+    let f : (Token × Token × Token × Token × Token × Token × Token) → Token × Token × Token × Token × Token × Token × Token × Token =
     λ u. (x, u.0, u.1, u.2, u.3, u.4, u.5, u.6) in
     let m = map-takes f (seven_of ws) t h in
-    ap (λ (r : List Word). x ∷ r) (seven-take ws m.0 m.1)
-    ∙ ap (λ (z : Word × Word × Word × Word × Word × Word × Word × Word). z.0 ∷ z.1 ∷ z.2 ∷ z.3 ∷ z.4 ∷ z.5 ∷ z.6 ∷ z.7 ∷ []) m.2
+    ap (λ (r : List Token). x ∷ r) (seven-take ws m.0 m.1)
+    ∙ ap (λ (z : Token × Token × Token × Token × Token × Token × Token × Token). z.0 ∷ z.1 ∷ z.2 ∷ z.3 ∷ z.4 ∷ z.5 ∷ z.6 ∷ z.7 ∷ []) m.2

@@ -15,8 +15,8 @@ behind-nothing None = refl
 behind-nothing (Some rest) = refl
 
 -- where nothing is left, these are all the bytes
-pub all-read : (word rest front : List ℕ) →
-    length rest ≡ 0 → unescaped word ≡ behind_bytes front (unescaped rest) → Some front ≡ unescaped word
+pub all-read : (token rest front : List ℕ) →
+    length rest ≡ 0 → unescaped token ≡ behind_bytes front (unescaped rest) → Some front ≡ unescaped token
 unfolding unescaped
-all-read word [] front e h = ap (λ t. Some t) (sym (append-nil front)) ∙ sym h
-all-read word (b ∷ rest) front e h = absurd (omega arith)
+all-read token [] front e h = ap (λ t. Some t) (sym (append-nil front)) ∙ sym h
+all-read token (b ∷ rest) front e h = absurd (omega arith)

@@ -1,4 +1,4 @@
--- What one word of a line says.
+-- What one token of a line says.
 use Rattle.std.specs.Prelude.{ℕ, ◌+◌, ◌-◌, ◌*◌, ◌^◌, List, [], ◌∷◌, length, Bool, false, not}
 use Rattle.std.specs.Prelude.{◌&&◌, ◌||◌, ◌==◌, nat_le, nat_lt, if◌then◌else◌, slice_index}
 use Rattle.std.specs.Prelude.{take, drop, codes, bytes_eq, Option, Some, None, Result, Ok, Err}
@@ -13,25 +13,26 @@ use Rattle.schedule_text.specs.declared.line.KeysKind.{KeysKind}
 use Rattle.schedule_text.specs.declared.line.KeysKind.TheVariants.{Plain, W4H5, W4H10, W8H5, W8H10, Batch}
 use Rattle.schedule_text.specs.declared.complaint.Complaint.{Complaint}
 use Rattle.schedule_text.specs.declared.complaint.Complaint.TheVariants.{Misspelt, OutOfRange, OutOfSize}
-use Rattle.schedule_text.specs.Words.{Word}
+use Rattle.schedule_text.specs.Tokens.{Token}
 use Rattle.schedule_text.specs.Complaints.{both, made}
 
--- this very word
-unfoldable pub literal : List ℕ → Word → Result (Unit {0}) Complaint
-literal text word = if bytes_eq word text then Ok tt else Err Misspelt
+-- this very token
+unfoldable pub literal : List ℕ → Token → Result (Unit {0}) Complaint
+literal text token = if bytes_eq token text then Ok tt else Err Misspelt
 
 abbrev pub is_digit : ℕ → Bool
 is_digit b = nat_le 48 b && nat_le b 57
 
 -- no zero stands before another digit
-abbrev pub is_canonical : Word → Bool
-is_canonical word = length word == 1 || not (slice_index word 0 == 48)
+abbrev pub is_canonical : Token → Bool
+is_canonical token = length token == 1 || not (slice_index token 0 == 48)
 
 -- a number below 2 ^ 64 in decimal digits
-unfoldable pub number : Word → Result ℕ Complaint
-number word =
-    if nat_lt 0 (length word) && list_all is_digit word then
-    (if is_canonical word && nat_lt (digits_value 10 word) (2 ^ 64) then Ok (digits_value 10 word) else Err OutOfRange)
+unfoldable pub number : Token → Result ℕ Complaint
+number token =
+    if nat_lt 0 (length token) && list_all is_digit token then
+    (if is_canonical token && nat_lt (digits_value 10 token)
+    (2 ^ 64) then Ok (digits_value 10 token) else Err OutOfRange)
     else Err Misspelt
 
 abbrev pub in_range : ℕ → ℕ → Result ℕ Complaint → Result ℕ Complaint
@@ -39,33 +40,33 @@ in_range least most (Ok n) = if nat_le least n && nat_le n most then Ok n else E
 in_range least most (Err c) = Err c
 
 -- a number from the least to the most that its place takes
-unfoldable pub number_in : ℕ → ℕ → Word → Result ℕ Complaint
-number_in least most word = in_range least most (number word)
+unfoldable pub number_in : ℕ → ℕ → Token → Result ℕ Complaint
+number_in least most token = in_range least most (number token)
 
 -- the widest ranges that any cluster gives
-abbrev pub shard : Word → Result ℕ Complaint
-shard word = number_in 0 7 word
+abbrev pub shard : Token → Result ℕ Complaint
+shard token = number_in 0 7 token
 
-abbrev pub replica : Word → Result ℕ Complaint
-replica word = number_in 0 30 word
+abbrev pub replica : Token → Result ℕ Complaint
+replica token = number_in 0 30 token
 
-abbrev pub client : Word → Result ℕ Complaint
-client word = number_in 1 16 word
+abbrev pub client : Token → Result ℕ Complaint
+client token = number_in 1 16 token
 
 -- a view to which an election leads
-abbrev pub view : Word → Result ℕ Complaint
-view word = number_in 1 (2 ^ 64 - 1) word
+abbrev pub view : Token → Result ℕ Complaint
+view token = number_in 1 (2 ^ 64 - 1) token
 
 -- the first or the second write of a step
-abbrev pub write : Word → Result ℕ Complaint
-write word = number_in 1 2 word
+abbrev pub write : Token → Result ℕ Complaint
+write token = number_in 1 2 token
 
 abbrev pub in_order : Result (ℕ × ℕ) Complaint → Result (ℕ × ℕ) Complaint
 in_order (Ok views) = if nat_le views.0 views.1 then Ok views else Err OutOfRange
 in_order (Err c) = Err c
 
 -- a decided view, and a current view that isn't below it
-unfoldable pub views : Word → Word → Result (ℕ × ℕ) Complaint
+unfoldable pub views : Token → Token → Result (ℕ × ℕ) Complaint
 views decided current = in_order (both (number decided) (number current))
 
 abbrev pub is_lower : ℕ → Bool
@@ -75,21 +76,21 @@ abbrev pub is_name_byte : ℕ → Bool
 is_name_byte b = is_lower b || is_digit b
 
 -- a lower-case letter and up to 15 lower-case letters or digits
-abbrev pub is_name : Word → Bool
+abbrev pub is_name : Token → Bool
 is_name [] = false
 is_name (first ∷ rest) = is_lower first && list_all is_name_byte rest && nat_le (length rest) 15
 
-unfoldable pub name : Word → Result (List ℕ) Complaint
-name word = if is_name word then Ok word else Err Misspelt
+unfoldable pub name : Token → Result (List ℕ) Complaint
+name token = if is_name token then Ok token else Err Misspelt
 
 -- a name, or `-` for none
-unfoldable pub writer : Word → Result (Option (List ℕ)) Complaint
-writer word = if bytes_eq word (codes "-") then Ok None else made Some (name word)
+unfoldable pub writer : Token → Result (Option (List ℕ)) Complaint
+writer token = if bytes_eq token (codes "-") then Ok None else made Some (name token)
 
-unfoldable pub decision : Word → Result Decision Complaint
-decision word =
-    if bytes_eq word (codes "commit") then Ok Commit
-    else if bytes_eq word (codes "abort") then Ok Abort
+unfoldable pub decision : Token → Result Decision Complaint
+decision token =
+    if bytes_eq token (codes "commit") then Ok Commit
+    else if bytes_eq token (codes "abort") then Ok Abort
     else Err Misspelt
 
 -- the bytes that stand for themselves in a key or value: 0x21 to 0x7e other than `%` and `:`
@@ -121,8 +122,8 @@ onto (Some b) (Some bytes) = Some (b ∷ bytes)
 onto (Some b) None = None
 onto None bytes = None
 
--- the bytes that a word spells, each by itself or by its escape
-unfoldable pub unescaped : Word → Option (List ℕ)
+-- the bytes that a token spells, each by itself or by its escape
+unfoldable pub unescaped : Token → Option (List ℕ)
 unescaped [] = Some []
 unescaped (b ∷ []) = if is_plain b then Some (b ∷ []) else None
 unescaped (b ∷ c ∷ []) = if is_plain b then onto (Some b) (unescaped (c ∷ [])) else None
@@ -134,53 +135,53 @@ abbrev pub sized : ℕ → Option (List ℕ) → Result (List ℕ) Complaint
 sized most None = Err Misspelt
 sized most (Some bytes) = if nat_le (length bytes) most then Ok bytes else Err OutOfSize
 
--- a word of some bytes, at most this many
-unfoldable pub text : ℕ → Word → Result (List ℕ) Complaint
+-- a token of some bytes, at most this many
+unfoldable pub text : ℕ → Token → Result (List ℕ) Complaint
 text most [] = Err Misspelt
 text most (b ∷ rest) = sized most (unescaped (b ∷ rest))
 
-abbrev pub key : Word → Result (List ℕ) Complaint
-key word = text 64 word
+abbrev pub key : Token → Result (List ℕ) Complaint
+key token = text 64 token
 
 -- `%` alone is the empty value
-unfoldable pub value : Word → Result (List ℕ) Complaint
-value word = if bytes_eq word (codes "%") then Ok [] else text 256 word
+unfoldable pub value : Token → Result (List ℕ) Complaint
+value token = if bytes_eq token (codes "%") then Ok [] else text 256 token
 
 abbrev pub spelt : Result (List ℕ) FromHexError → Result (List ℕ) Complaint
 spelt (Ok bytes) = Ok bytes
 spelt (Err e) = Err Misspelt
 
 -- an even number of lower-case hex digits, at least two
-unfoldable pub hex : Word → Result (List ℕ) Complaint
-hex word = if nat_lt 0 (length word) && list_all is_lower_hex word then spelt (decode_of word) else Err Misspelt
+unfoldable pub hex : Token → Result (List ℕ) Complaint
+hex token = if nat_lt 0 (length token) && list_all is_lower_hex token then spelt (decode_of token) else Err Misspelt
 
 abbrev pub sized_frame : Result (List ℕ) Complaint → Result (List ℕ) Complaint
 sized_frame (Ok bytes) = if nat_le (length bytes) frame_limit then Ok bytes else Err OutOfSize
 sized_frame (Err c) = Err c
 
 -- the hex of a frame that isn't above its limit
-unfoldable pub frame : Word → Result (List ℕ) Complaint
-frame word = sized_frame (hex word)
+unfoldable pub frame : Token → Result (List ℕ) Complaint
+frame token = sized_frame (hex token)
 
 -- how the parties sign
-unfoldable pub keys_kind : Word → Result KeysKind Complaint
-keys_kind word =
-    if bytes_eq word (codes "plain") then Ok Plain
-    else if bytes_eq word (codes "w4h5") then Ok W4H5
-    else if bytes_eq word (codes "w4h10") then Ok W4H10
-    else if bytes_eq word (codes "w8h5") then Ok W8H5
-    else if bytes_eq word (codes "w8h10") then Ok W8H10
-    else if bytes_eq word (codes "batch") then Ok Batch
+unfoldable pub keys_kind : Token → Result KeysKind Complaint
+keys_kind token =
+    if bytes_eq token (codes "plain") then Ok Plain
+    else if bytes_eq token (codes "w4h5") then Ok W4H5
+    else if bytes_eq token (codes "w4h10") then Ok W4H10
+    else if bytes_eq token (codes "w8h5") then Ok W8H5
+    else if bytes_eq token (codes "w8h10") then Ok W8H10
+    else if bytes_eq token (codes "batch") then Ok Batch
     else Err Misspelt
 
--- what stands behind the label in a word that begins with it
-unfoldable pub behind : List ℕ → Word → Option Word
-behind label word = if bytes_eq (take (length label) word) label then Some (drop (length label) word) else None
+-- what stands behind the label in a token that begins with it
+unfoldable pub behind : List ℕ → Token → Option Token
+behind label token = if bytes_eq (take (length label) token) label then Some (drop (length label) token) else None
 
-abbrev pub where_named : {Z : Type 0} → (Word → Result Z Complaint) → Option Word → Result Z Complaint
+abbrev pub where_named : {Z : Type 0} → (Token → Result Z Complaint) → Option Token → Result Z Complaint
 where_named field None = Err Misspelt
-where_named field (Some word) = field word
+where_named field (Some token) = field token
 
 -- a field behind its label
-abbrev pub labelled : {Z : Type 0} → List ℕ → (Word → Result Z Complaint) → Word → Result Z Complaint
-labelled label field word = where_named field (behind label word)
+abbrev pub labelled : {Z : Type 0} → List ℕ → (Token → Result Z Complaint) → Token → Result Z Complaint
+labelled label field token = where_named field (behind label token)

@@ -1,6 +1,6 @@
 pub mod Complaints
 pub mod Limits
-pub mod Words
+pub mod Tokens
 pub mod Fields
 pub mod Parties
 pub mod Headers

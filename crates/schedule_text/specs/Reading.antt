@@ -10,17 +10,17 @@ use Rattle.schedule_text.specs.declared.complaint.Complaint.{Complaint}
 use Rattle.schedule_text.specs.declared.complaint.Complaint.TheVariants.{Misspelt, OutOfSize}
 use Rattle.schedule_text.specs.declared.reason.Reason.TheVariants as reasons
 use Rattle.schedule_text.specs.Complaints.{reason_of}
-use Rattle.schedule_text.specs.Words.{Word, words}
+use Rattle.schedule_text.specs.Tokens.{Token, tokens}
 use Rattle.schedule_text.specs.Kinds.{kind_of}
 use Rattle.schedule_text.specs.Limits.{longest_line, most_lines}
 use Rattle.schedule_text.specs.Lines.{line_of}
 
-abbrev pub of_kind : Option Kind → List Word → Result Line Complaint
+abbrev pub of_kind : Option Kind → List Token → Result Line Complaint
 of_kind None rest = Err Misspelt
 of_kind (Some kind) rest = line_of kind rest
 
--- what the first word and those behind it say
-unfoldable pub said : List Word → Result Line Complaint
+-- what the first token and those behind it say
+unfoldable pub said : List Token → Result Line Complaint
 said [] = Err Misspelt
 said (first ∷ rest) = of_kind (kind_of first) rest
 
@@ -31,7 +31,7 @@ is_skipped (b ∷ rest) = b == 35
 
 -- a skipped line is so whatever follows
 unfoldable pub line_value : List ℕ → Result Line Complaint
-line_value line = if is_skipped line then Ok Skipped else said (words line)
+line_value line = if is_skipped line then Ok Skipped else said (tokens line)
 
 -- no line stands behind the millionth
 abbrev pub numbered : ℕ → Result Line Complaint → Result Line Complaint
@@ -48,10 +48,10 @@ line_at line number =
     if nat_lt longest_line (length line) then Err (BadLine number reasons.OutOfSize)
     else answered number (numbered number (line_value line))
 
-abbrev pub begins_a_header : List Word → Bool
+abbrev pub begins_a_header : List Token → Bool
 begins_a_header [] = false
 begins_a_header (first ∷ rest) = bytes_eq first (codes "basil")
 
--- the first word is `basil`
+-- the first token is `basil`
 unfoldable pub is_header : List ℕ → Bool
-is_header line = begins_a_header (words line)
+is_header line = begins_a_header (tokens line)

@@ -1,16 +1,16 @@
-//! Why a word or a line isn't read.
+//! Why a token or a line isn't read.
 
 ghost use Rattle.std.specs.Prelude.{◌≡◌};
 ghost use Rattle.schedule_text.specs.Complaints.{reason_of, first_of, both, all3, all4, all5};
 
 use crate::reason::Reason;
 
-/// Why a word or a line isn't read. Where there are several, the one with the least reason counts.
+/// Why a token or a line isn't read. Where there are several, the one with the least reason counts.
 #[derive(Clone, Copy, Debug, PartialEq, Eq)]
 pub enum Complaint {
-    /// Reason 1: a header whose words are right, and whose cluster is refused.
+    /// Reason 1: a header whose tokens are right, and whose cluster is refused.
     Refused,
-    /// Reason 2: an unknown word, a wrong number of words, or a misspelt word.
+    /// Reason 2: an unknown token, a wrong number of tokens, or a misspelt token.
     Misspelt,
     /// Reason 3: a number that isn't canonical or is out of range.
     OutOfRange,

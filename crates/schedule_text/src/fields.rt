@@ -1,4 +1,4 @@
-//! What one word of a line says.
+//! What one token of a line says.
 
 pub mod escapes;
 pub mod frames;

@@ -1,4 +1,4 @@
-//! The kinds of lines, by their first words, and what the words behind say.
+//! The kinds of lines, by their first tokens, and what the tokens behind say.
 
 ghost use Rattle.std.specs.Prelude.{◌≡◌};
 ghost use Rattle.schedule_text.specs.Kinds;
@@ -10,7 +10,7 @@ pub mod replicas;
 
 use crate::fields::spellings::is_text;
 
-/// The kinds of lines, by their first words.
+/// The kinds of lines, by their first tokens.
 #[derive(Clone, Copy, PartialEq, Eq)]
 pub enum Kind {
     Basil,
@@ -40,67 +40,67 @@ pub enum Kind {
 }
 
 #[tactic(auto, unfolding(crate::specs::Kinds::kind_of))]
-/// The kind that a first word names.
-pub fn kind_of(word: &[u8]) -> Option<Kind>
-    ensures { result ≡ Kinds.kind_of word.now }
+/// The kind that a first token names.
+pub fn kind_of(token: &[u8]) -> Option<Kind>
+    ensures { result ≡ Kinds.kind_of token.now }
 {
-    if is_text(word, b"basil") {
+    if is_text(token, b"basil") {
         Some(Kind::Basil)
-    } else if is_text(word, b"faulty") {
+    } else if is_text(token, b"faulty") {
         Some(Kind::Faulty)
-    } else if is_text(word, b"begin") {
+    } else if is_text(token, b"begin") {
         Some(Kind::Begin)
-    } else if is_text(word, b"read") {
+    } else if is_text(token, b"read") {
         Some(Kind::Read)
-    } else if is_text(word, b"write") {
+    } else if is_text(token, b"write") {
         Some(Kind::Write)
-    } else if is_text(word, b"delete") {
+    } else if is_text(token, b"delete") {
         Some(Kind::Delete)
-    } else if is_text(word, b"claim") {
+    } else if is_text(token, b"claim") {
         Some(Kind::Claim)
-    } else if is_text(word, b"prepare") {
+    } else if is_text(token, b"prepare") {
         Some(Kind::Prepare)
-    } else if is_text(word, b"settle") {
+    } else if is_text(token, b"settle") {
         Some(Kind::Settle)
-    } else if is_text(word, b"recover") {
+    } else if is_text(token, b"recover") {
         Some(Kind::Recover)
-    } else if is_text(word, b"invoke") {
+    } else if is_text(token, b"invoke") {
         Some(Kind::Invoke)
     } else {
-        message_kind_of(word)
+        message_kind_of(token)
     }
 }
 
 #[tactic(auto, unfolding(crate::specs::Kinds::message_kind_of))]
-/// The kind that a first word names, of those that speak of messages or of faulty replicas.
-fn message_kind_of(word: &[u8]) -> Option<Kind>
-    ensures { result ≡ Kinds.message_kind_of word.now }
+/// The kind that a first token names, of those that speak of messages or of faulty replicas.
+fn message_kind_of(token: &[u8]) -> Option<Kind>
+    ensures { result ≡ Kinds.message_kind_of token.now }
 {
-    if is_text(word, b"round") {
+    if is_text(token, b"round") {
         Some(Kind::Round)
-    } else if is_text(word, b"deliver") {
+    } else if is_text(token, b"deliver") {
         Some(Kind::Deliver)
-    } else if is_text(word, b"lose") {
+    } else if is_text(token, b"lose") {
         Some(Kind::Lose)
-    } else if is_text(word, b"divert") {
+    } else if is_text(token, b"divert") {
         Some(Kind::Divert)
-    } else if is_text(word, b"clock") {
+    } else if is_text(token, b"clock") {
         Some(Kind::Clock)
-    } else if is_text(word, b"vote") {
+    } else if is_text(token, b"vote") {
         Some(Kind::Vote)
-    } else if is_text(word, b"second") {
+    } else if is_text(token, b"second") {
         Some(Kind::Second)
-    } else if is_text(word, b"logged") {
+    } else if is_text(token, b"logged") {
         Some(Kind::Logged)
-    } else if is_text(word, b"elect") {
+    } else if is_text(token, b"elect") {
         Some(Kind::Elect)
-    } else if is_text(word, b"decide") {
+    } else if is_text(token, b"decide") {
         Some(Kind::Decide)
-    } else if is_text(word, b"raw") {
+    } else if is_text(token, b"raw") {
         Some(Kind::Raw)
-    } else if is_text(word, b"show") {
+    } else if is_text(token, b"show") {
         Some(Kind::Show)
-    } else if is_text(word, b"stop") {
+    } else if is_text(token, b"stop") {
         Some(Kind::Stop)
     } else {
         None

@@ -9,5 +9,5 @@ pub mod line;
 pub mod lines;
 pub mod reading;
 pub mod reason;
-pub mod words;
+pub mod tokens;
 pub mod writing;

@@ -27,7 +27,7 @@ pub enum KeysKind {
 /// and a client 1 to 16: the widest ranges that any cluster gives.
 #[derive(Drop)]
 pub enum Line {
-    /// `basil 1 f=F shards=N reads=Q delta=D clock=T keys=K`, and after it the word `journal` or nothing.
+    /// `basil 1 f=F shards=N reads=Q delta=D clock=T keys=K`, and after it the token `journal` or nothing.
     Header {
         cluster: Cluster,
         clock: u64,

@@ -1,7 +1,7 @@
 //! Reading a line.
 
 ghost use Rattle.std.specs.Prelude.{◌≡◌, ◌≢◌, IfOk, IfErr, option_copied, bytes_eq, codes};
-ghost use Rattle.schedule_text.specs.Words.{words, words_after};
+ghost use Rattle.schedule_text.specs.Tokens.{tokens, tokens_after};
 ghost use Rattle.schedule_text.specs.Lines.{line_of};
 ghost use Rattle.schedule_text.specs.Reading;
 ghost use Rattle.schedule_text.specs.Reading.{line_at, line_value, said, numbered};
@@ -21,7 +21,7 @@ use crate::kinds::replicas::{
 };
 use crate::kinds::{Kind, kind_of};
 use crate::line::{Line, LineFault};
-use crate::words::cut;
+use crate::tokens::cut;
 use basil_types::memory::NoMemory;
 use std::alloc::Global;
 
@@ -32,13 +32,13 @@ pub const LONGEST_LINE: usize = 2_200_000;
 pub const MOST_LINES: u64 = 1_000_000;
 
 #[tactic(auto, unfolding(crate::specs::Lines::line_of))]
-/// What the words behind the first one say.
+/// What the tokens behind the first one say.
 fn read_rest(
     alloc: Global,
     kind: Kind,
     rest: Option<&[u8]>,
 ) -> Result<Result<Line, Complaint>, NoMemory>
-    ensures { IfOk result (λ r. r ≡ line_of kind (words_after (option_copied rest.entry))) }
+    ensures { IfOk result (λ r. r ≡ line_of kind (tokens_after (option_copied rest.entry))) }
 {
     match kind {
         Kind::Basil => Ok(read_header(rest)),
@@ -69,9 +69,9 @@ fn read_rest(
 }
 
 #[tactic(auto, unfolding(crate::specs::Reading::said))]
-/// What the words of a line say.
-fn read_words(alloc: Global, line: &[u8]) -> Result<Result<Line, Complaint>, NoMemory>
-    ensures { IfOk result (λ r. r ≡ said (words line.now)) }
+/// What the tokens of a line say.
+fn read_tokens(alloc: Global, line: &[u8]) -> Result<Result<Line, Complaint>, NoMemory>
+    ensures { IfOk result (λ r. r ≡ said (tokens line.now)) }
 {
     let (first, rest) = cut(line);
     match kind_of(first) {
@@ -98,7 +98,7 @@ fn read_value(alloc: Global, line: &[u8]) -> Result<Result<Line, Complaint>, NoM
     if is_skipped(line) {
         return Ok(Ok(Line::Skipped));
     }
-    read_words(alloc, line)
+    read_tokens(alloc, line)
 }
 
 /// The value of a line with this number, unless it stands behind the millionth.
@@ -116,11 +116,11 @@ fn read_numbered(value: Result<Line, Complaint>, number: u64) -> Result<Line, Co
 /// Reads one line of a schedule, without its newline. `number` is its place in the schedule, from 1.
 ///
 /// A refused line gives its number and its first reason of those that the line and its number show alone. A line above
-/// 2,200,000 bytes is `OutOfSize`, and none of its bytes is looked at. Otherwise the least reason counts: `NoHeader` for
-/// a header whose cluster is refused, `Misspelt`, `OutOfRange` for a number out of form or out of the widest range that
-/// any cluster gives, `OutOfSize` for a key, value or frame out of size and for a line behind the millionth. Skipped
-/// lines have these limits too. A schedule's first line, and a later header, have reasons of their own, which are the
-/// caller's.
+/// 2,200,000 bytes is `OutOfSize`, and none of its bytes is looked at. Otherwise the least reason counts: `NoHeader`
+/// for a header whose cluster is refused, `Misspelt`, `OutOfRange` for a number out of form or out of the widest range
+/// that any cluster gives, `OutOfSize` for a key, value or frame out of size and for a line behind the millionth.
+/// Skipped lines have these limits too. A schedule's first line, and a later header, have reasons of their own, which
+/// are the caller's.
 pub fn read_line(alloc: Global, line: &[u8], number: u64) -> Result<Line, LineFault>
     ensures value { IfOk result (λ value. line_at line.now number ≡ Ok value) }
     ensures refused { IfErr result (λ fault. fault ≢ LineFault.NoMemory → line_at line.now number ≡ Err fault) }
@@ -144,7 +144,7 @@ pub fn read_line(alloc: Global, line: &[u8], number: u64) -> Result<Line, LineFa
 }
 
 #[tactic(auto, unfolding(crate::specs::Reading::is_header))]
-/// Whether a line's first word is `basil`. Looks at no byte behind that word.
+/// Whether a line's first token is `basil`. Looks at no byte behind that token.
 pub fn is_header(line: &[u8]) -> bool
     ensures { result ≡ Reading.is_header line.now }
 {

@@ -10,7 +10,7 @@ use std::fmt;
 pub enum Reason {
     /// 1: the first line that isn't skipped is no header whose cluster is accepted.
     NoHeader,
-    /// 2: an unknown word, a wrong number of words, a misspelt word, or a second header.
+    /// 2: an unknown token, a wrong number of tokens, a misspelt token, or a second header.
     Misspelt,
     /// 3: a number that isn't canonical or is out of range.
     OutOfRange,

@@ -2,8 +2,8 @@
 
 ghost use Rattle.std.specs.Prelude.{◌≡◌, ◌++◌, ◌∷◌, [], OnOk, OnErr, IfOk};
 ghost use Rattle.std.specs.List.{flat_map, join_with_byte};
-ghost use Rattle.schedule_text.specs.Spelling.{spelling, key_word, value_word};
-ghost use Rattle.schedule_text.specs.Pieces.{piece_words, spaced};
+ghost use Rattle.schedule_text.specs.Spelling.{spelling, key_token, value_token};
+ghost use Rattle.schedule_text.specs.Pieces.{piece_tokens, spaced};
 
 mod pieces;
 
@@ -16,9 +16,9 @@ use basil_types::cluster::Cluster;
 use basil_types::memory::NoMemory;
 use std::alloc::Global;
 
-/// Appends these pieces, each word behind a space.
+/// Appends these pieces, each token behind a space.
 fn push_pieces(out: &mut Vec<u8>, pieces: &[Piece]) -> Result<(), NoMemory>
-    ensures { OnOk result (out.new.items ≡ out.old.items ++ spaced (flat_map piece_words pieces.now)) }
+    ensures { OnOk result (out.new.items ≡ out.old.items ++ spaced (flat_map piece_tokens pieces.now)) }
 {
     for piece in pieces {
         push_piece(out, *piece)?;
@@ -27,16 +27,16 @@ fn push_pieces(out: &mut Vec<u8>, pieces: &[Piece]) -> Result<(), NoMemory>
 }
 
 #[tactic(auto, using(crate::proofs::Joining::joins))]
-/// The text of a first word and the pieces behind it.
+/// The text of a first token and the pieces behind it.
 fn text_of_pieces(alloc: Global, first: &[u8], pieces: &[Piece]) -> Result<Vec<u8>, NoMemory>
-    ensures { IfOk result (λ text. text.items ≡ join_with_byte 32 (first.now ∷ flat_map piece_words pieces.now)) }
+    ensures { IfOk result (λ text. text.items ≡ join_with_byte 32 (first.now ∷ flat_map piece_tokens pieces.now)) }
 {
     let mut text = Vec::from_slice(alloc, first)?;
     push_pieces(&mut text, pieces)?;
     Ok(text)
 }
 
-#[tactic(auto, unfolding(crate::specs::Spelling::line_words))]
+#[tactic(auto, unfolding(crate::specs::Spelling::line_tokens))]
 /// The text of a header.
 fn text_of_header(
     alloc: Global,
@@ -63,7 +63,7 @@ fn text_of_header(
     )
 }
 
-#[tactic(auto, unfolding(crate::specs::Spelling::line_words))]
+#[tactic(auto, unfolding(crate::specs::Spelling::line_tokens))]
 /// The text of a line, kind by kind.
 fn text_of(alloc: Global, line: &Line) -> Result<Vec<u8>, NoMemory>
     ensures { IfOk result (λ text. text.items ≡ spelling line.now) }
@@ -248,18 +248,18 @@ pub fn write_line(line: &Line, out: &mut Vec<u8>) -> Result<(), NoMemory>
     Ok(())
 }
 
-/// The word that spells a key, or want of memory.
+/// The token that spells a key, or want of memory.
 pub fn spell_key(alloc: Global, key: &[u8]) -> Result<Vec<u8>, NoMemory>
-    ensures { IfOk result (λ word. word.items ≡ key_word key.now) }
+    ensures { IfOk result (λ token. token.items ≡ key_token key.now) }
 {
-    let mut word = Vec::new(alloc);
-    push_escaped(&mut word, key)?;
-    Ok(word)
+    let mut token = Vec::new(alloc);
+    push_escaped(&mut token, key)?;
+    Ok(token)
 }
 
-/// The word that spells a value, or want of memory.
+/// The token that spells a value, or want of memory.
 pub fn spell_value(alloc: Global, value: &[u8]) -> Result<Vec<u8>, NoMemory>
-    ensures { IfOk result (λ word. word.items ≡ value_word value.now) }
+    ensures { IfOk result (λ token. token.items ≡ value_token value.now) }
 {
     if value.is_empty() {
         return Ok(Vec::from_slice(alloc, b"%")?);

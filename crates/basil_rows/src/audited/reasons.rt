@@ -6,9 +6,9 @@ use std::alloc::Global;
 use std::test::Fail;
 
 const REASONS: &[Audited] = &[
-    ("an unknown first word", b"frob\n", "line 1 reason 2"),
+    ("an unknown first token", b"frob\n", "line 1 reason 2"),
     (
-        "a word of a schedule",
+        "a token of a schedule",
         b"begin t1 1 10\n",
         "line 1 reason 2",
     ),
@@ -17,8 +17,8 @@ const REASONS: &[Audited] = &[
         b"basil 1 f=0 shards=1 reads=1 delta=100 clock=50 keys=plain\n",
         "line 1 reason 2",
     ),
-    ("a word too few", b"tx t1 10\n", "line 1 reason 2"),
-    ("a word too many", b"tx t1 10 1 1\n", "line 1 reason 2"),
+    ("a token too few", b"tx t1 10\n", "line 1 reason 2"),
+    ("a token too many", b"tx t1 10 1 1\n", "line 1 reason 2"),
     ("two spaces", b"tx t1  10 1\n", "line 1 reason 2"),
     (
         "a name with a capital letter",
@@ -89,7 +89,7 @@ const REASONS: &[Audited] = &[
         "serial",
     ),
     (
-        "a misspelt word before a number out of range",
+        "a misspelt token before a number out of range",
         b"tx T1 10 17\n",
         "line 1 reason 2",
     ),

@@ -1,4 +1,4 @@
-//! Clocks, rounds, notes, and words that are none.
+//! Clocks, rounds, notes, and tokens that are none.
 
 use crate::lines::{Row, are_told};
 

@@ -1,4 +1,4 @@
-//! Lines against their values: each kind, each field with a value of its own, and each word that a field may have.
+//! Lines against their values: each kind, each field with a value of its own, and each token that a field may have.
 
 use crate::lines::spells;
 use crate::support::joined;
@@ -38,8 +38,8 @@ const TEXTS: &[&[u8]] = &[
     b"stop 1 3 4 2 0506",
 ];
 
-/// The first word of a kind's lines.
-fn first_word(line: &Line) -> &'static str {
+/// The first token of a kind's lines.
+fn first_token(line: &Line) -> &'static str {
     match line {
         Line::Header { .. } => "basil",
         Line::Skipped => "#",
@@ -69,9 +69,9 @@ fn first_word(line: &Line) -> &'static str {
     }
 }
 
-/// Whether a line is of the kind that its first word tells.
+/// Whether a line is of the kind that its first token tells.
 fn is_of_its_kind(line: &Line, text: &[u8]) -> bool {
-    text.split(|byte| *byte == b' ').next() == Some(first_word(line).as_bytes())
+    text.split(|byte| *byte == b' ').next() == Some(first_token(line).as_bytes())
 }
 
 /// That a value is this text.
@@ -308,10 +308,10 @@ fn is_header_with(line: &Line, kind: KeysKind, with_journal: bool) -> bool {
     }
 }
 
-/// Whether a header with these last words is read as one with these keys.
-fn has_keys(alloc: Global, words: &[u8], kind: KeysKind, journal: bool) -> Result<bool, NoMemory> {
+/// Whether a header with these last tokens is read as one with these keys.
+fn has_keys(alloc: Global, tokens: &[u8], kind: KeysKind, journal: bool) -> Result<bool, NoMemory> {
     let front: &[u8] = b"basil 1 f=1 shards=2 reads=3 delta=4 clock=5 keys=";
-    let text = joined(alloc, &[front, words])?;
+    let text = joined(alloc, &[front, tokens])?;
     match read_line(alloc, &text, 1) {
         Ok(line) => Ok(is_header_with(&line, kind, journal) && spells(alloc, &line, &text)),
         Err(_) => Ok(false),
@@ -319,9 +319,9 @@ fn has_keys(alloc: Global, words: &[u8], kind: KeysKind, journal: bool) -> Resul
 }
 
 #[test]
-fn each_word_for_keys_is_told(rt: HostRuntime) -> Result<(), Fail> {
-    for &(words, kind, journal) in KEYS {
-        assert!(rt; has_keys(rt.alloc(), words, kind, journal)?, "{words:?}");
+fn each_token_for_keys_is_told(rt: HostRuntime) -> Result<(), Fail> {
+    for &(tokens, kind, journal) in KEYS {
+        assert!(rt; has_keys(rt.alloc(), tokens, kind, journal)?, "{tokens:?}");
     }
     Ok(())
 }

@@ -5,16 +5,16 @@ use crate::support::HEADER;
 use std::test::Fail;
 
 const REFUSED: &[Refused] = &[
-    ("no line begins with this word", b"frob\n", 2, 2),
-    ("a first word has a capital letter", b"Round\n", 2, 2),
+    ("no line begins with this token", b"frob\n", 2, 2),
+    ("a first token has a capital letter", b"Round\n", 2, 2),
     ("a line begins with a space", b" round\n", 2, 2),
     ("a line ends with a space", b"begin t1 1 10 \n", 2, 2),
-    ("two spaces part two words", b"begin t1  1 10\n", 2, 2),
-    ("a tab parts two words", b"begin\tt1 1 10\n", 2, 2),
+    ("two spaces part two tokens", b"begin t1  1 10\n", 2, 2),
+    ("a tab parts two tokens", b"begin\tt1 1 10\n", 2, 2),
     ("begin lacks the time", b"begin t1 1\n", 2, 2),
-    ("begin has a word too many", b"begin t1 1 10 10\n", 2, 2),
+    ("begin has a token too many", b"begin t1 1 10 10\n", 2, 2),
     ("prepare lacks the name", b"prepare\n", 2, 2),
-    ("round has a word too many", b"round 1\n", 2, 2),
+    ("round has a token too many", b"round 1\n", 2, 2),
     ("write lacks the value", b"write t1 a\n", 2, 2),
     ("delete lacks the key", b"delete t1\n", 2, 2),
     ("delete has a value", b"delete t1 a b\n", 2, 2),
@@ -28,7 +28,7 @@ const REFUSED: &[Refused] = &[
     ("a letter is escaped", b"write t1 %61 v\n", 2, 2),
     ("a colon isn't escaped", b"write t1 a:b v\n", 2, 2),
     ("a byte isn't ASCII", b"write t1 \xc3\xa9 v\n", 2, 2),
-    ("a second header has one word", b"basil\n", 2, 2),
+    ("a second header has one token", b"basil\n", 2, 2),
     (
         "a second header is misspelt, though it is the same as the first",
         b"basil 1 f=0 shards=1 reads=1 delta=100 clock=50 keys=plain\n",

@@ -26,14 +26,14 @@ const REFUSED: &[Refused] = &[
     ("a skipped line counts", b"# note\nround\n", 2, 1),
     ("a byte isn't ASCII", b"\xff\n", 1, 1),
     (
-        "the first word is misspelt",
+        "the first token is misspelt",
         b"\n\
         basin 1 f=0 shards=1 reads=1 delta=100 clock=50 keys=plain\n",
         2,
         1,
     ),
     (
-        "the second word isn't 1",
+        "the second token isn't 1",
         b"basil 2 f=0 shards=1 reads=1 delta=100 clock=50 keys=plain\n",
         1,
         1,

@@ -45,26 +45,26 @@ fn escape(percent: u8, high: u8, low: u8) -> Option<u8>
 }
 
 #[tactic(auto, unfolding(crate::specs::Fields::unescaped))]
-/// The first byte that a word spells, and what is left of the word.
-fn next_byte(word: &[u8]) -> Option<(u8, &[u8])>
-    requires { 0 < length word.now }
-    ensures value { MatchOption result (unescaped word.entry.now ≡ None)
-        (λ t. unescaped word.entry.now ≡ onto (Some t.0) (unescaped t.1.now)) }
-    ensures shorter { IfSome result (λ t. length t.1.now < length word.entry.now) }
+/// The first byte that a token spells, and what is left of the token.
+fn next_byte(token: &[u8]) -> Option<(u8, &[u8])>
+    requires { 0 < length token.now }
+    ensures value { MatchOption result (unescaped token.entry.now ≡ None)
+        (λ t. unescaped token.entry.now ≡ onto (Some t.0) (unescaped t.1.now)) }
+    ensures shorter { IfSome result (λ t. length t.1.now < length token.entry.now) }
 {
-    match word {
+    match token {
         [byte, rest @ ..] if is_plain(*byte) => Some((*byte, rest)),
         [percent, high, low, rest @ ..] => Some((escape(*percent, *high, *low)?, rest)),
         _ => None,
     }
 }
 
-/// The bytes that a word spells, each by itself or by its escape.
-fn unescape(alloc: Global, word: &[u8]) -> Result<Option<Bytes>, NoMemory>
-    ensures { IfOk result (λ bytes. bytes ≡ unescaped word.now) }
+/// The bytes that a token spells, each by itself or by its escape.
+fn unescape(alloc: Global, token: &[u8]) -> Result<Option<Bytes>, NoMemory>
+    ensures { IfOk result (λ bytes. bytes ≡ unescaped token.now) }
 {
     let mut bytes = Vec::new(alloc);
-    let mut rest = word;
+    let mut rest = token;
     'bytes: while !rest.is_empty() {
         match next_byte(rest) {
             Some((byte, more)) => {
@@ -79,13 +79,13 @@ fn unescape(alloc: Global, word: &[u8]) -> Result<Option<Bytes>, NoMemory>
 
 #[tactic(auto, unfolding(crate::specs::Fields::text))]
 /// One byte or more, at most so many.
-fn read_text(alloc: Global, word: &[u8], most: usize) -> Result<Result<Bytes, Complaint>, NoMemory>
-    ensures { IfOk result (λ r. r ≡ text most word.now) }
+fn read_text(alloc: Global, token: &[u8], most: usize) -> Result<Result<Bytes, Complaint>, NoMemory>
+    ensures { IfOk result (λ r. r ≡ text most token.now) }
 {
-    if word.is_empty() {
+    if token.is_empty() {
         return Ok(Err(Complaint::Misspelt));
     }
-    let Some(bytes) = unescape(alloc, word)? else {
+    let Some(bytes) = unescape(alloc, token)? else {
         return Ok(Err(Complaint::Misspelt));
     };
     if bytes.as_slice().len() > most {
@@ -95,19 +95,19 @@ fn read_text(alloc: Global, word: &[u8], most: usize) -> Result<Result<Bytes, Co
 }
 
 /// A key: 1 to 64 bytes.
-pub fn read_key(alloc: Global, word: &[u8]) -> Result<Result<Bytes, Complaint>, NoMemory>
-    ensures { IfOk result (λ r. r ≡ text 64 word.now) }
+pub fn read_key(alloc: Global, token: &[u8]) -> Result<Result<Bytes, Complaint>, NoMemory>
+    ensures { IfOk result (λ r. r ≡ text 64 token.now) }
 {
-    read_text(alloc, word, 64)
+    read_text(alloc, token, 64)
 }
 
 #[tactic(auto, unfolding(crate::specs::Fields::value))]
 /// A value: 0 to 256 bytes. `%` alone is the empty one.
-pub fn read_value(alloc: Global, word: &[u8]) -> Result<Result<Bytes, Complaint>, NoMemory>
-    ensures { IfOk result (λ r. r ≡ value word.now) }
+pub fn read_value(alloc: Global, token: &[u8]) -> Result<Result<Bytes, Complaint>, NoMemory>
+    ensures { IfOk result (λ r. r ≡ value token.now) }
 {
-    if is_text(word, b"%") {
+    if is_text(token, b"%") {
         return Ok(Ok(Bytes::from_vec(Vec::new(alloc))));
     }
-    read_text(alloc, word, 256)
+    read_text(alloc, token, 256)
 }

@@ -20,21 +20,21 @@ fn is_lower_hex(byte: u8) -> bool
 }
 
 /// Whether each byte is a lower-case hex digit.
-fn are_lower_hex(word: &[u8]) -> bool
-    ensures { result ≡ list_all is_lower_hex word.now }
+fn are_lower_hex(token: &[u8]) -> bool
+    ensures { result ≡ list_all is_lower_hex token.now }
 {
-    word.iter().all(|b| is_lower_hex(*b))
+    token.iter().all(|b| is_lower_hex(*b))
 }
 
 #[tactic(auto, unfolding(crate::specs::Fields::hex))]
 /// An even number of lower-case hex digits, at least two.
-pub fn read_hex(alloc: Global, word: &[u8]) -> Result<Result<Bytes, Complaint>, NoMemory>
-    ensures { IfOk result (λ r. r ≡ hex word.now) }
+pub fn read_hex(alloc: Global, token: &[u8]) -> Result<Result<Bytes, Complaint>, NoMemory>
+    ensures { IfOk result (λ r. r ≡ hex token.now) }
 {
-    if word.is_empty() || !are_lower_hex(word) {
+    if token.is_empty() || !are_lower_hex(token) {
         return Ok(Err(Complaint::Misspelt));
     }
-    match hex::decode(alloc, word) {
+    match hex::decode(alloc, token) {
         Ok(bytes) => Ok(Ok(Bytes::from_vec(bytes))),
         Err(fault) => {
             if fault == FromHexError::OutOfMemory {
@@ -48,10 +48,10 @@ pub fn read_hex(alloc: Global, word: &[u8]) -> Result<Result<Bytes, Complaint>, 
 
 #[tactic(auto, unfolding(crate::specs::Fields::frame))]
 /// The hex of a frame of at most `FRAME_LIMIT` bytes.
-pub fn read_frame(alloc: Global, word: &[u8]) -> Result<Result<Bytes, Complaint>, NoMemory>
-    ensures { IfOk result (λ r. r ≡ frame word.now) }
+pub fn read_frame(alloc: Global, token: &[u8]) -> Result<Result<Bytes, Complaint>, NoMemory>
+    ensures { IfOk result (λ r. r ≡ frame token.now) }
 {
-    match read_hex(alloc, word)? {
+    match read_hex(alloc, token)? {
         Ok(bytes) => {
             if bytes.as_slice().len() > FRAME_LIMIT {
                 Ok(Err(Complaint::OutOfSize))

@@ -26,10 +26,10 @@ fn are_name_bytes(bytes: &[u8]) -> bool
 }
 
 /// Whether this is a lower-case letter and up to 15 lower-case letters or digits.
-fn is_name(word: &[u8]) -> bool
-    ensures { result ≡ Rattle.schedule_text.specs.Fields.is_name word.now }
+fn is_name(token: &[u8]) -> bool
+    ensures { result ≡ Rattle.schedule_text.specs.Fields.is_name token.now }
 {
-    match word {
+    match token {
         [] => false,
         [first, rest @ ..] => is_lower(*first) && are_name_bytes(rest) && rest.len() <= 15,
     }
@@ -37,24 +37,27 @@ fn is_name(word: &[u8]) -> bool
 
 #[tactic(auto, unfolding(crate::specs::Fields::name))]
 /// A name, or the complaint that this is none.
-pub fn read_name(alloc: Global, word: &[u8]) -> Result<Result<Bytes, Complaint>, NoMemory>
-    ensures { IfOk result (λ r. r ≡ name word.now) }
+pub fn read_name(alloc: Global, token: &[u8]) -> Result<Result<Bytes, Complaint>, NoMemory>
+    ensures { IfOk result (λ r. r ≡ name token.now) }
 {
-    if !is_name(word) {
+    if !is_name(token) {
         return Ok(Err(Complaint::Misspelt));
     }
-    Ok(Ok(Bytes::copy_of(alloc, word)?))
+    Ok(Ok(Bytes::copy_of(alloc, token)?))
 }
 
 #[tactic(auto, unfolding(crate::specs::Fields::writer))]
 /// A name, or none, spelled `-`.
-pub fn read_writer(alloc: Global, word: &[u8]) -> Result<Result<Option<Bytes>, Complaint>, NoMemory>
-    ensures { IfOk result (λ r. r ≡ writer word.now) }
+pub fn read_writer(
+    alloc: Global,
+    token: &[u8],
+) -> Result<Result<Option<Bytes>, Complaint>, NoMemory>
+    ensures { IfOk result (λ r. r ≡ writer token.now) }
 {
-    if is_text(word, b"-") {
+    if is_text(token, b"-") {
         return Ok(Ok(None));
     }
-    match read_name(alloc, word)? {
+    match read_name(alloc, token)? {
         Ok(name) => Ok(Ok(Some(name))),
         Err(complaint) => Ok(Err(complaint)),
     }

@@ -16,10 +16,10 @@ pub fn is_digit(byte: u8) -> bool
 }
 
 /// Whether each byte is a decimal digit.
-fn is_digits(word: &[u8]) -> bool
-    ensures { result ≡ list_all is_digit word.now }
+fn is_digits(token: &[u8]) -> bool
+    ensures { result ≡ list_all is_digit token.now }
 {
-    word.iter().all(|b| is_digit(*b))
+    token.iter().all(|b| is_digit(*b))
 }
 
 /// The number that one or more digits write, where it is below 2^64.
@@ -37,24 +37,24 @@ fn value_of(digits: &[u8]) -> Option<u64>
 
 #[tactic(auto, unfolding(crate::specs::Fields::number))]
 /// A number below 2^64 in decimal digits, without leading zeros.
-pub fn read_number(word: &[u8]) -> Result<u64, Complaint>
-    ensures { result ≡ number word.now }
+pub fn read_number(token: &[u8]) -> Result<u64, Complaint>
+    ensures { result ≡ number token.now }
 {
-    if word.is_empty() || !is_digits(word) {
+    if token.is_empty() || !is_digits(token) {
         return Err(Complaint::Misspelt);
     }
-    if word.len() != 1 && word[0] == b'0' {
+    if token.len() != 1 && token[0] == b'0' {
         return Err(Complaint::OutOfRange);
     }
-    value_of(word).ok_or(Complaint::OutOfRange)
+    value_of(token).ok_or(Complaint::OutOfRange)
 }
 
 #[tactic(auto, unfolding(crate::specs::Fields::number_in))]
 /// A number from the least to the most that its place takes.
-pub fn read_number_in(word: &[u8], least: u64, most: u64) -> Result<u64, Complaint>
-    ensures { result ≡ number_in least most word.now }
+pub fn read_number_in(token: &[u8], least: u64, most: u64) -> Result<u64, Complaint>
+    ensures { result ≡ number_in least most token.now }
 {
-    let number = read_number(word)?;
+    let number = read_number(token)?;
     if number < least || most < number {
         return Err(Complaint::OutOfRange);
     }
@@ -63,46 +63,46 @@ pub fn read_number_in(word: &[u8], least: u64, most: u64) -> Result<u64, Complai
 
 #[tactic(auto, unfolding(crate::specs::Fields::number_in))]
 /// The same where the most is below 256.
-fn read_small(word: &[u8], least: u8, most: u8) -> Result<u8, Complaint>
-    ensures { result ≡ number_in least most word.now }
+fn read_small(token: &[u8], least: u8, most: u8) -> Result<u8, Complaint>
+    ensures { result ≡ number_in least most token.now }
 {
-    let number = read_number_in(word, u64::from(least), u64::from(most))?;
+    let number = read_number_in(token, u64::from(least), u64::from(most))?;
     Ok(number as u8)
 }
 
 /// A shard: 0 to 7.
-pub fn read_shard(word: &[u8]) -> Result<u8, Complaint>
-    ensures { result ≡ number_in 0 7 word.now }
+pub fn read_shard(token: &[u8]) -> Result<u8, Complaint>
+    ensures { result ≡ number_in 0 7 token.now }
 {
-    read_small(word, 0, 7)
+    read_small(token, 0, 7)
 }
 
 /// A replica's index in its shard: 0 to 30.
-pub fn read_replica(word: &[u8]) -> Result<u8, Complaint>
-    ensures { result ≡ number_in 0 30 word.now }
+pub fn read_replica(token: &[u8]) -> Result<u8, Complaint>
+    ensures { result ≡ number_in 0 30 token.now }
 {
-    read_small(word, 0, 30)
+    read_small(token, 0, 30)
 }
 
 /// A client's number: 1 to 16.
-pub fn read_client(word: &[u8]) -> Result<u8, Complaint>
-    ensures { result ≡ number_in 1 16 word.now }
+pub fn read_client(token: &[u8]) -> Result<u8, Complaint>
+    ensures { result ≡ number_in 1 16 token.now }
 {
-    read_small(word, 1, 16)
+    read_small(token, 1, 16)
 }
 
 /// A view to which an election leads: at least 1.
-pub fn read_view(word: &[u8]) -> Result<u64, Complaint>
-    ensures { result ≡ number_in 1 (2 ^ 64 - 1) word.now }
+pub fn read_view(token: &[u8]) -> Result<u64, Complaint>
+    ensures { result ≡ number_in 1 (2 ^ 64 - 1) token.now }
 {
-    read_number_in(word, 1, u64::MAX)
+    read_number_in(token, 1, u64::MAX)
 }
 
 /// The first or the second write of a step: 1 or 2.
-pub fn read_write(word: &[u8]) -> Result<u64, Complaint>
-    ensures { result ≡ number_in 1 2 word.now }
+pub fn read_write(token: &[u8]) -> Result<u64, Complaint>
+    ensures { result ≡ number_in 1 2 token.now }
 {
-    read_number_in(word, 1, 2)
+    read_number_in(token, 1, 2)
 }
 
 #[tactic(auto, unfolding(crate::specs::Fields::views))]

@@ -1,13 +1,13 @@
-//! Parties, which are two or three words.
+//! Parties, which are two or three tokens.
 
 ghost use Rattle.std.specs.Prelude.{◌≡◌, option_copied, MatchOption, None, Some};
-ghost use Rattle.schedule_text.specs.Words.{words_after};
+ghost use Rattle.schedule_text.specs.Tokens.{tokens_after};
 ghost use Rattle.schedule_text.specs.Parties.{party, replica_party, client_party, place};
 
 use crate::complaint::{Complaint, read_both};
 use crate::fields::numbers::{read_client, read_replica, read_shard};
 use crate::fields::spellings::is_text;
-use crate::words::next;
+use crate::tokens::next;
 use basil_types::party::Party;
 
 /// A replica's shard, and its index there.
@@ -19,8 +19,8 @@ pub fn read_place(shard: &[u8], replica: &[u8]) -> Result<(u8, u8), Complaint>
 
 /// `S R`, and what stands behind.
 fn read_replica_party(rest: Option<&[u8]>) -> Option<(Result<Party, Complaint>, Option<&[u8]>)>
-    ensures { MatchOption result (replica_party (words_after (option_copied rest.entry)) ≡ None)
-        (λ t. replica_party (words_after (option_copied rest.entry)) ≡ Some (t.0, words_after (option_copied t.1))) }
+    ensures { MatchOption result (replica_party (tokens_after (option_copied rest.entry)) ≡ None)
+        (λ t. replica_party (tokens_after (option_copied rest.entry)) ≡ Some (t.0, tokens_after (option_copied t.1))) }
 {
     let (shard, rest) = next(rest)?;
     let (replica, rest) = next(rest)?;
@@ -33,8 +33,8 @@ fn read_replica_party(rest: Option<&[u8]>) -> Option<(Result<Party, Complaint>, 
 
 /// `C`, and what stands behind.
 fn read_client_party(rest: Option<&[u8]>) -> Option<(Result<Party, Complaint>, Option<&[u8]>)>
-    ensures { MatchOption result (client_party (words_after (option_copied rest.entry)) ≡ None)
-        (λ t. client_party (words_after (option_copied rest.entry)) ≡ Some (t.0, words_after (option_copied t.1))) }
+    ensures { MatchOption result (client_party (tokens_after (option_copied rest.entry)) ≡ None)
+        (λ t. client_party (tokens_after (option_copied rest.entry)) ≡ Some (t.0, tokens_after (option_copied t.1))) }
 {
     let (client, rest) = next(rest)?;
     let party = match read_client(client) {
@@ -45,10 +45,10 @@ fn read_client_party(rest: Option<&[u8]>) -> Option<(Result<Party, Complaint>, O
 }
 
 #[tactic(auto, unfolding(crate::specs::Parties::party))]
-/// `replica S R` or `client C`, and what stands behind; none where the words begin otherwise.
+/// `replica S R` or `client C`, and what stands behind; none where the tokens begin otherwise.
 pub fn read_party(rest: Option<&[u8]>) -> Option<(Result<Party, Complaint>, Option<&[u8]>)>
-    ensures { MatchOption result (party (words_after (option_copied rest.entry)) ≡ None)
-        (λ t. party (words_after (option_copied rest.entry)) ≡ Some (t.0, words_after (option_copied t.1))) }
+    ensures { MatchOption result (party (tokens_after (option_copied rest.entry)) ≡ None)
+        (λ t. party (tokens_after (option_copied rest.entry)) ≡ Some (t.0, tokens_after (option_copied t.1))) }
 {
     let (kind, rest) = next(rest)?;
     if is_text(kind, b"replica") {

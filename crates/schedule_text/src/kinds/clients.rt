@@ -1,7 +1,7 @@
 //! Lines of clients: transactions, and the calls on them.
 
 ghost use Rattle.std.specs.Prelude.{◌≡◌, IfOk, option_copied, List, ℕ};
-ghost use Rattle.schedule_text.specs.Words.{words_after};
+ghost use Rattle.schedule_text.specs.Tokens.{tokens_after};
 ghost use Rattle.schedule_text.specs.Lines.{begin, read, write_of, delete, claim};
 ghost use Rattle.schedule_text.specs.Lines.{prepare, call, settle, recover, invoke};
 
@@ -10,7 +10,7 @@ use crate::fields::escapes::{read_key, read_value};
 use crate::fields::names::{read_name, read_writer};
 use crate::fields::numbers::{read_client, read_number};
 use crate::line::Line;
-use crate::words::{one, three, two};
+use crate::tokens::{one, three, two};
 use basil_types::bytes::Bytes;
 use basil_types::memory::NoMemory;
 use std::alloc::Global;
@@ -18,7 +18,7 @@ use std::alloc::Global;
 #[tactic(auto, unfolding(crate::specs::Lines::begin))]
 /// `begin NAME C TIME`
 pub fn read_begin(alloc: Global, rest: Option<&[u8]>) -> Result<Result<Line, Complaint>, NoMemory>
-    ensures { IfOk result (λ r. r ≡ begin (words_after (option_copied rest.entry))) }
+    ensures { IfOk result (λ r. r ≡ begin (tokens_after (option_copied rest.entry))) }
 {
     let Some((name, client, time)) = three(rest) else {
         return Ok(Err(Complaint::Misspelt));
@@ -37,7 +37,7 @@ pub fn read_begin(alloc: Global, rest: Option<&[u8]>) -> Result<Result<Line, Com
 #[tactic(auto, unfolding(crate::specs::Lines::read))]
 /// `read NAME KEY`
 pub fn read_read(alloc: Global, rest: Option<&[u8]>) -> Result<Result<Line, Complaint>, NoMemory>
-    ensures { IfOk result (λ r. r ≡ read (words_after (option_copied rest.entry))) }
+    ensures { IfOk result (λ r. r ≡ read (tokens_after (option_copied rest.entry))) }
 {
     let Some((name, key)) = two(rest) else {
         return Ok(Err(Complaint::Misspelt));
@@ -52,7 +52,7 @@ pub fn read_read(alloc: Global, rest: Option<&[u8]>) -> Result<Result<Line, Comp
 #[tactic(auto, unfolding(crate::specs::Lines::write_of))]
 /// `write NAME KEY VALUE`
 pub fn read_write(alloc: Global, rest: Option<&[u8]>) -> Result<Result<Line, Complaint>, NoMemory>
-    ensures { IfOk result (λ r. r ≡ write_of (words_after (option_copied rest.entry))) }
+    ensures { IfOk result (λ r. r ≡ write_of (tokens_after (option_copied rest.entry))) }
 {
     let Some((name, key, value)) = three(rest) else {
         return Ok(Err(Complaint::Misspelt));
@@ -71,7 +71,7 @@ pub fn read_write(alloc: Global, rest: Option<&[u8]>) -> Result<Result<Line, Com
 #[tactic(auto, unfolding(crate::specs::Lines::delete))]
 /// `delete NAME KEY`
 pub fn read_delete(alloc: Global, rest: Option<&[u8]>) -> Result<Result<Line, Complaint>, NoMemory>
-    ensures { IfOk result (λ r. r ≡ delete (words_after (option_copied rest.entry))) }
+    ensures { IfOk result (λ r. r ≡ delete (tokens_after (option_copied rest.entry))) }
 {
     let Some((name, key)) = two(rest) else {
         return Ok(Err(Complaint::Misspelt));
@@ -86,7 +86,7 @@ pub fn read_delete(alloc: Global, rest: Option<&[u8]>) -> Result<Result<Line, Co
 #[tactic(auto, unfolding(crate::specs::Lines::claim))]
 /// `claim NAME KEY WRITER`
 pub fn read_claim(alloc: Global, rest: Option<&[u8]>) -> Result<Result<Line, Complaint>, NoMemory>
-    ensures { IfOk result (λ r. r ≡ claim (words_after (option_copied rest.entry))) }
+    ensures { IfOk result (λ r. r ≡ claim (tokens_after (option_copied rest.entry))) }
 {
     let Some((name, key, writer)) = three(rest) else {
         return Ok(Err(Complaint::Misspelt));
@@ -105,7 +105,7 @@ pub fn read_claim(alloc: Global, rest: Option<&[u8]>) -> Result<Result<Line, Com
 #[tactic(auto, unfolding(crate::specs::Lines::prepare))]
 /// `prepare NAME`
 pub fn read_prepare(alloc: Global, rest: Option<&[u8]>) -> Result<Result<Line, Complaint>, NoMemory>
-    ensures { IfOk result (λ r. r ≡ prepare (words_after (option_copied rest.entry))) }
+    ensures { IfOk result (λ r. r ≡ prepare (tokens_after (option_copied rest.entry))) }
 {
     let Some(name) = one(rest) else {
         return Ok(Err(Complaint::Misspelt));
@@ -120,7 +120,7 @@ pub fn read_prepare(alloc: Global, rest: Option<&[u8]>) -> Result<Result<Line, C
 #[tactic(auto, unfolding(crate::specs::Lines::call))]
 /// `NAME C`: a client, and the transaction that it is to go on with.
 fn read_call(alloc: Global, rest: Option<&[u8]>) -> Result<Result<(Bytes, u8), Complaint>, NoMemory>
-    ensures { IfOk result (λ r. r ≡ call (words_after (option_copied rest.entry))) }
+    ensures { IfOk result (λ r. r ≡ call (tokens_after (option_copied rest.entry))) }
 {
     let Some((name, client)) = two(rest) else {
         return Ok(Err(Complaint::Misspelt));
@@ -131,7 +131,7 @@ fn read_call(alloc: Global, rest: Option<&[u8]>) -> Result<Result<(Bytes, u8), C
 #[tactic(auto, unfolding(crate::specs::Lines::settle))]
 /// `settle NAME C`
 pub fn read_settle(alloc: Global, rest: Option<&[u8]>) -> Result<Result<Line, Complaint>, NoMemory>
-    ensures { IfOk result (λ r. r ≡ settle (words_after (option_copied rest.entry))) }
+    ensures { IfOk result (λ r. r ≡ settle (tokens_after (option_copied rest.entry))) }
 {
     match read_call(alloc, rest)? {
         Ok((name, client)) => Ok(Ok(Line::Settle { name, client })),
@@ -142,7 +142,7 @@ pub fn read_settle(alloc: Global, rest: Option<&[u8]>) -> Result<Result<Line, Co
 #[tactic(auto, unfolding(crate::specs::Lines::recover))]
 /// `recover NAME C`
 pub fn read_recover(alloc: Global, rest: Option<&[u8]>) -> Result<Result<Line, Complaint>, NoMemory>
-    ensures { IfOk result (λ r. r ≡ recover (words_after (option_copied rest.entry))) }
+    ensures { IfOk result (λ r. r ≡ recover (tokens_after (option_copied rest.entry))) }
 {
     match read_call(alloc, rest)? {
         Ok((name, client)) => Ok(Ok(Line::Recover { name, client })),
@@ -153,7 +153,7 @@ pub fn read_recover(alloc: Global, rest: Option<&[u8]>) -> Result<Result<Line, C
 #[tactic(auto, unfolding(crate::specs::Lines::invoke))]
 /// `invoke NAME C`
 pub fn read_invoke(alloc: Global, rest: Option<&[u8]>) -> Result<Result<Line, Complaint>, NoMemory>
-    ensures { IfOk result (λ r. r ≡ invoke (words_after (option_copied rest.entry))) }
+    ensures { IfOk result (λ r. r ≡ invoke (tokens_after (option_copied rest.entry))) }
 {
     match read_call(alloc, rest)? {
         Ok((name, client)) => Ok(Ok(Line::Invoke { name, client })),

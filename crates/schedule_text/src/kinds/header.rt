@@ -1,15 +1,15 @@
 //! The header of a schedule.
 
 ghost use Rattle.std.specs.Prelude.{◌≡◌, option_copied, true, false};
-ghost use Rattle.schedule_text.specs.Words.{words_after};
+ghost use Rattle.schedule_text.specs.Tokens.{tokens_after};
 ghost use Rattle.schedule_text.specs.Headers.{cluster_numbers, header_fields, journal_fields};
 ghost use Rattle.schedule_text.specs.Headers.{seven_fields, eight_fields, cluster_of, header};
-ghost use Rattle.schedule_text.specs.Words.{seven_of, eight_of};
+ghost use Rattle.schedule_text.specs.Tokens.{seven_of, eight_of};
 
 use crate::complaint::{Complaint, read_all4, read_both};
 use crate::fields::spellings::{read_labelled_keys, read_labelled_number, read_literal};
 use crate::line::{KeysKind, Line};
-use crate::words::{eight, seven};
+use crate::tokens::{eight, seven};
 use basil_types::cluster::Cluster;
 
 /// A cluster's numbers as a header spells them, before it is known whether there is such a cluster.
@@ -21,7 +21,7 @@ pub struct ClusterNumbers {
     pub delta: u64,
 }
 
-/// What a header's words say.
+/// What a header's tokens say.
 #[derive(Clone, Copy)]
 pub struct HeaderFields {
     pub numbers: ClusterNumbers,
@@ -60,20 +60,20 @@ fn read_numbers(
 #[tactic(auto, unfolding(crate::specs::Headers::header_fields))]
 /// `1 f=F shards=N reads=Q delta=D clock=T keys=K`
 fn read_fields(
-    words: (&[u8], &[u8], &[u8], &[u8], &[u8], &[u8], &[u8]),
+    tokens: (&[u8], &[u8], &[u8], &[u8], &[u8], &[u8], &[u8]),
     journal: bool,
 ) -> Result<HeaderFields, Complaint>
     ensures { result ≡ header_fields journal (
-      words.entry.0.now,
-      words.entry.1.now,
-      words.entry.2.now,
-      words.entry.3.now,
-      words.entry.4.now,
-      words.entry.5.now,
-      words.entry.6.now,
+      tokens.entry.0.now,
+      tokens.entry.1.now,
+      tokens.entry.2.now,
+      tokens.entry.3.now,
+      tokens.entry.4.now,
+      tokens.entry.5.now,
+      tokens.entry.6.now,
     ) }
 {
-    let (version, f, shards, reads, delta, clock, keys) = words;
+    let (version, f, shards, reads, delta, clock, keys) = tokens;
     let fields = read_all4(
         read_literal(version, b"1"),
         read_numbers(f, shards, reads, delta),
@@ -94,20 +94,20 @@ fn read_fields(
 #[tactic(auto, unfolding(crate::specs::Headers::journal_fields))]
 /// The same with `journal` behind.
 fn read_journal_fields(
-    words: (&[u8], &[u8], &[u8], &[u8], &[u8], &[u8], &[u8], &[u8]),
+    tokens: (&[u8], &[u8], &[u8], &[u8], &[u8], &[u8], &[u8], &[u8]),
 ) -> Result<HeaderFields, Complaint>
     ensures { result ≡ journal_fields (
-      words.entry.0.now,
-      words.entry.1.now,
-      words.entry.2.now,
-      words.entry.3.now,
-      words.entry.4.now,
-      words.entry.5.now,
-      words.entry.6.now,
-      words.entry.7.now,
+      tokens.entry.0.now,
+      tokens.entry.1.now,
+      tokens.entry.2.now,
+      tokens.entry.3.now,
+      tokens.entry.4.now,
+      tokens.entry.5.now,
+      tokens.entry.6.now,
+      tokens.entry.7.now,
     ) }
 {
-    let (version, f, shards, reads, delta, clock, keys, last) = words;
+    let (version, f, shards, reads, delta, clock, keys, last) = tokens;
     let fields = read_fields((version, f, shards, reads, delta, clock, keys), true);
     let (_last, fields) = read_both(read_literal(last, b"journal"), fields)?;
     Ok(fields)
@@ -133,16 +133,16 @@ fn read_cluster(numbers: ClusterNumbers) -> Result<Cluster, Complaint>
     }
 }
 
-/// The seven words of a header, or the eight of one with `journal`.
-fn read_words(rest: Option<&[u8]>) -> Result<HeaderFields, Complaint>
-    ensures { result ≡ seven_fields (eight_fields (eight_of (words_after (option_copied rest.entry))))
-        (seven_of (words_after (option_copied rest.entry))) }
+/// The seven tokens of a header, or the eight of one with `journal`.
+fn read_tokens(rest: Option<&[u8]>) -> Result<HeaderFields, Complaint>
+    ensures { result ≡ seven_fields (eight_fields (eight_of (tokens_after (option_copied rest.entry))))
+        (seven_of (tokens_after (option_copied rest.entry))) }
 {
-    if let Some(words) = seven(rest) {
-        return read_fields(words, false);
+    if let Some(tokens) = seven(rest) {
+        return read_fields(tokens, false);
     }
     match eight(rest) {
-        Some(words) => read_journal_fields(words),
+        Some(tokens) => read_journal_fields(tokens),
         None => Err(Complaint::Misspelt),
     }
 }
@@ -150,9 +150,9 @@ fn read_words(rest: Option<&[u8]>) -> Result<HeaderFields, Complaint>
 #[tactic(auto, unfolding(crate::specs::Headers::header))]
 /// `basil 1 f=F shards=N reads=Q delta=D clock=T keys=K`, with `journal` at its end or without.
 pub fn read_header(rest: Option<&[u8]>) -> Result<Line, Complaint>
-    ensures { result ≡ header (words_after (option_copied rest.entry)) }
+    ensures { result ≡ header (tokens_after (option_copied rest.entry)) }
 {
-    let fields = read_words(rest)?;
+    let fields = read_tokens(rest)?;
     let cluster = read_cluster(fields.numbers)?;
     Ok(Line::Header {
         cluster,

@@ -1,7 +1,7 @@
 //! Lines on the messages of the pool, on parties and on frames.
 
 ghost use Rattle.std.specs.Prelude.{◌≡◌, IfOk, option_copied};
-ghost use Rattle.schedule_text.specs.Words.{words_after};
+ghost use Rattle.schedule_text.specs.Tokens.{tokens_after};
 ghost use Rattle.schedule_text.specs.Parties.{only_party};
 ghost use Rattle.schedule_text.specs.Lines.{round, deliver, lose, divert, faulty, raw, show};
 
@@ -10,7 +10,7 @@ use crate::fields::frames::read_frame;
 use crate::fields::numbers::read_number;
 use crate::fields::parties::read_party;
 use crate::line::Line;
-use crate::words::{next, one};
+use crate::tokens::{next, one};
 use basil_types::memory::NoMemory;
 use basil_types::party::Party;
 use std::alloc::Global;
@@ -18,7 +18,7 @@ use std::alloc::Global;
 #[tactic(auto, unfolding(crate::specs::Lines::round))]
 /// `round`
 pub fn read_round(rest: Option<&[u8]>) -> Result<Line, Complaint>
-    ensures { result ≡ round (words_after (option_copied rest.entry)) }
+    ensures { result ≡ round (tokens_after (option_copied rest.entry)) }
 {
     match next(rest) {
         None => Ok(Line::Round),
@@ -29,7 +29,7 @@ pub fn read_round(rest: Option<&[u8]>) -> Result<Line, Complaint>
 #[tactic(auto, unfolding(crate::specs::Lines::deliver))]
 /// `deliver I`
 pub fn read_deliver(rest: Option<&[u8]>) -> Result<Line, Complaint>
-    ensures { result ≡ deliver (words_after (option_copied rest.entry)) }
+    ensures { result ≡ deliver (tokens_after (option_copied rest.entry)) }
 {
     let Some(message) = one(rest) else {
         return Err(Complaint::Misspelt);
@@ -43,7 +43,7 @@ pub fn read_deliver(rest: Option<&[u8]>) -> Result<Line, Complaint>
 #[tactic(auto, unfolding(crate::specs::Lines::lose))]
 /// `lose I`
 pub fn read_lose(rest: Option<&[u8]>) -> Result<Line, Complaint>
-    ensures { result ≡ lose (words_after (option_copied rest.entry)) }
+    ensures { result ≡ lose (tokens_after (option_copied rest.entry)) }
 {
     let Some(message) = one(rest) else {
         return Err(Complaint::Misspelt);
@@ -55,9 +55,9 @@ pub fn read_lose(rest: Option<&[u8]>) -> Result<Line, Complaint>
 }
 
 #[tactic(auto, unfolding(crate::specs::Parties::only_party))]
-/// A party, and no word behind.
+/// A party, and no token behind.
 fn read_only_party(rest: Option<&[u8]>) -> Result<Party, Complaint>
-    ensures { result ≡ only_party (words_after (option_copied rest.entry)) }
+    ensures { result ≡ only_party (tokens_after (option_copied rest.entry)) }
 {
     let Some((party, rest)) = read_party(rest) else {
         return Err(Complaint::Misspelt);
@@ -71,7 +71,7 @@ fn read_only_party(rest: Option<&[u8]>) -> Result<Party, Complaint>
 #[tactic(auto, unfolding(crate::specs::Lines::faulty))]
 /// `faulty PARTY`
 pub fn read_faulty(rest: Option<&[u8]>) -> Result<Line, Complaint>
-    ensures { result ≡ faulty (words_after (option_copied rest.entry)) }
+    ensures { result ≡ faulty (tokens_after (option_copied rest.entry)) }
 {
     match read_only_party(rest) {
         Ok(party) => Ok(Line::Faulty { party }),
@@ -82,7 +82,7 @@ pub fn read_faulty(rest: Option<&[u8]>) -> Result<Line, Complaint>
 #[tactic(auto, unfolding(crate::specs::Lines::divert))]
 /// `divert I PARTY`
 pub fn read_divert(rest: Option<&[u8]>) -> Result<Line, Complaint>
-    ensures { result ≡ divert (words_after (option_copied rest.entry)) }
+    ensures { result ≡ divert (tokens_after (option_copied rest.entry)) }
 {
     let Some((message, rest)) = next(rest) else {
         return Err(Complaint::Misspelt);
@@ -96,7 +96,7 @@ pub fn read_divert(rest: Option<&[u8]>) -> Result<Line, Complaint>
 #[tactic(auto, unfolding(crate::specs::Lines::raw))]
 /// `raw PARTY PARTY HEX`
 pub fn read_raw(alloc: Global, rest: Option<&[u8]>) -> Result<Result<Line, Complaint>, NoMemory>
-    ensures { IfOk result (λ r. r ≡ raw (words_after (option_copied rest.entry))) }
+    ensures { IfOk result (λ r. r ≡ raw (tokens_after (option_copied rest.entry))) }
 {
     let Some((from, rest)) = read_party(rest) else {
         return Ok(Err(Complaint::Misspelt));
@@ -116,7 +116,7 @@ pub fn read_raw(alloc: Global, rest: Option<&[u8]>) -> Result<Result<Line, Compl
 #[tactic(auto, unfolding(crate::specs::Lines::show))]
 /// `show HEX`
 pub fn read_show(alloc: Global, rest: Option<&[u8]>) -> Result<Result<Line, Complaint>, NoMemory>
-    ensures { IfOk result (λ r. r ≡ show (words_after (option_copied rest.entry))) }
+    ensures { IfOk result (λ r. r ≡ show (tokens_after (option_copied rest.entry))) }
 {
     let Some(frame) = one(rest) else {
         return Ok(Err(Complaint::Misspelt));

@@ -1,7 +1,7 @@
 //! Lines on replicas: their clocks and stops, and what faulty ones say.
 
 ghost use Rattle.std.specs.Prelude.{◌≡◌, IfOk, option_copied};
-ghost use Rattle.schedule_text.specs.Words.{words_after};
+ghost use Rattle.schedule_text.specs.Tokens.{tokens_after};
 ghost use Rattle.schedule_text.specs.Lines.{clock, vote, second, logged, elect, decide, stop};
 
 use crate::complaint::{Complaint, read_all3, read_all4, read_all5, read_both};
@@ -13,14 +13,14 @@ use crate::fields::numbers::{
 use crate::fields::parties::read_place;
 use crate::fields::spellings::read_decision;
 use crate::line::Line;
-use crate::words::{five, seven, six, three};
+use crate::tokens::{five, seven, six, three};
 use basil_types::memory::NoMemory;
 use std::alloc::Global;
 
 #[tactic(auto, unfolding(crate::specs::Lines::clock))]
 /// `clock S R T`
 pub fn read_clock(rest: Option<&[u8]>) -> Result<Line, Complaint>
-    ensures { result ≡ clock (words_after (option_copied rest.entry)) }
+    ensures { result ≡ clock (tokens_after (option_copied rest.entry)) }
 {
     let Some((shard, replica, moment)) = three(rest) else {
         return Err(Complaint::Misspelt);
@@ -38,7 +38,7 @@ pub fn read_clock(rest: Option<&[u8]>) -> Result<Line, Complaint>
 #[tactic(auto, unfolding(crate::specs::Lines::vote))]
 /// `vote S R NAME D C`
 pub fn read_vote(alloc: Global, rest: Option<&[u8]>) -> Result<Result<Line, Complaint>, NoMemory>
-    ensures { IfOk result (λ r. r ≡ vote (words_after (option_copied rest.entry))) }
+    ensures { IfOk result (λ r. r ≡ vote (tokens_after (option_copied rest.entry))) }
 {
     let Some((shard, replica, name, decision, client)) = five(rest) else {
         return Ok(Err(Complaint::Misspelt));
@@ -64,7 +64,7 @@ pub fn read_vote(alloc: Global, rest: Option<&[u8]>) -> Result<Result<Line, Comp
 #[tactic(auto, unfolding(crate::specs::Lines::second))]
 /// `second NAME D R`
 pub fn read_second(alloc: Global, rest: Option<&[u8]>) -> Result<Result<Line, Complaint>, NoMemory>
-    ensures { IfOk result (λ r. r ≡ second (words_after (option_copied rest.entry))) }
+    ensures { IfOk result (λ r. r ≡ second (tokens_after (option_copied rest.entry))) }
 {
     let Some((name, decision, replica)) = three(rest) else {
         return Ok(Err(Complaint::Misspelt));
@@ -87,7 +87,7 @@ pub fn read_second(alloc: Global, rest: Option<&[u8]>) -> Result<Result<Line, Co
 #[tactic(auto, unfolding(crate::specs::Lines::logged))]
 /// `logged S R NAME D DECIDED CURRENT C`
 pub fn read_logged(alloc: Global, rest: Option<&[u8]>) -> Result<Result<Line, Complaint>, NoMemory>
-    ensures { IfOk result (λ r. r ≡ logged (words_after (option_copied rest.entry))) }
+    ensures { IfOk result (λ r. r ≡ logged (tokens_after (option_copied rest.entry))) }
 {
     let Some((shard, replica, name, decision, decided, current, client)) = seven(rest) else {
         return Ok(Err(Complaint::Misspelt));
@@ -118,7 +118,7 @@ pub fn read_logged(alloc: Global, rest: Option<&[u8]>) -> Result<Result<Line, Co
 #[tactic(auto, unfolding(crate::specs::Lines::elect))]
 /// `elect S R NAME D VIEW`
 pub fn read_elect(alloc: Global, rest: Option<&[u8]>) -> Result<Result<Line, Complaint>, NoMemory>
-    ensures { IfOk result (λ r. r ≡ elect (words_after (option_copied rest.entry))) }
+    ensures { IfOk result (λ r. r ≡ elect (tokens_after (option_copied rest.entry))) }
 {
     let Some((shard, replica, name, decision, view)) = five(rest) else {
         return Ok(Err(Complaint::Misspelt));
@@ -144,7 +144,7 @@ pub fn read_elect(alloc: Global, rest: Option<&[u8]>) -> Result<Result<Line, Com
 #[tactic(auto, unfolding(crate::specs::Lines::decide))]
 /// `decide S R NAME D VIEW Q`
 pub fn read_decide(alloc: Global, rest: Option<&[u8]>) -> Result<Result<Line, Complaint>, NoMemory>
-    ensures { IfOk result (λ r. r ≡ decide (words_after (option_copied rest.entry))) }
+    ensures { IfOk result (λ r. r ≡ decide (tokens_after (option_copied rest.entry))) }
 {
     let Some((shard, replica, name, decision, view, to)) = six(rest) else {
         return Ok(Err(Complaint::Misspelt));
@@ -172,7 +172,7 @@ pub fn read_decide(alloc: Global, rest: Option<&[u8]>) -> Result<Result<Line, Co
 #[tactic(auto, unfolding(crate::specs::Lines::stop))]
 /// `stop S R I W HEX`
 pub fn read_stop(alloc: Global, rest: Option<&[u8]>) -> Result<Result<Line, Complaint>, NoMemory>
-    ensures { IfOk result (λ r. r ≡ stop (words_after (option_copied rest.entry))) }
+    ensures { IfOk result (λ r. r ≡ stop (tokens_after (option_copied rest.entry))) }
 {
     let Some((shard, replica, message, write, bytes)) = five(rest) else {
         return Ok(Err(Complaint::Misspelt));

@@ -3,7 +3,7 @@ use Rattle.basil_types.specs.Causes.{Rose, TookPrefix}
 use Rattle.basil_cli.specs.Answers.{counted}
 use Rattle.basil_cli.specs.Outcome.{link_fault_text, read_fault_text}
 use Rattle.basil_cli.specs.declared.status.Status.TheVariants as ends
-use Rattle.basil_cli.proofs.Wordings.{ending_answers, ending_told, fault_answers}
+use Rattle.basil_cli.proofs.Arguments.{ending_answers, ending_told, fault_answers}
 use Rattle.basil_cli.proofs.run.run_command.Goals as goal
 
 pub returns-in-Ok-clause-answers : goal.returns-in-Ok-clause-answers

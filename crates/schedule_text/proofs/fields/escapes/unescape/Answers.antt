@@ -6,5 +6,5 @@ use Rattle.schedule_text.proofs.fields.escapes.unescape.Goals as goal
 pub returns : goal.returns
 returns c =
     ap (λ t. Some t) c.from_vec.ensures
-    ∙ all-read c.args.word.now c.bytes.rest.now c.bytes.bytes.items
+    ∙ all-read c.args.token.now c.bytes.rest.now c.bytes.bytes.items
     (eqb-true (length c.bytes.rest.now) 0 (sym c.is_empty.ensures ∙ c.bytes-test.false)) c.bytes.invariant

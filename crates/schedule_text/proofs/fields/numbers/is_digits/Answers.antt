@@ -6,4 +6,4 @@ use Rattle.schedule_text.proofs.fields.numbers.is_digits.Goals as goal
 
 pub returns : goal.returns
 returns c =
-    all_from_yields_List is_digit _ _ _ c.all.ensures.ran (YieldsList-from_slice c.args.word.now cc) (λ x b q k. search (rules, tests))
+    all_from_yields_List is_digit _ _ _ c.all.ensures.ran (YieldsList-from_slice c.args.token.now cc) (λ x b q k. search (rules, tests))

@@ -1,4 +1,4 @@
--- The words of a load: short, and with no newline.
+-- The tokens of a load: short, and with no newline.
 use Rattle.std.proofs.Common.{◌≡◌, ℕ, zero, suc, ◌+◌, ◌*◌, ◌^◌, ◌<◌, ◌≤◌, ◌==◌, List, [], ◌∷◌, ◌++◌, Bool, true, false}
 use Rattle.std.proofs.Common.{not, codes, length, get_or, refl, ap, ◌∙◌, subst, sym, rules, arith, tests, length-append}
 use Rattle.std.proofs.lemmas.Fmt.{IsAscii-decimal, digits_decimal, length-decimal-le}
@@ -12,7 +12,7 @@ use Rattle.std.specs.Prelude.{nat_le}
 use Rattle.std.specs.Str.Parse.{digits_value}
 use Rattle.schedule_text.specs.Fields.{is_digit, is_name_byte}
 use Rattle.schedule_text.specs.Fitting.{HasBytes, IsName}
-use Rattle.schedule_text.specs.Spelling.{key_word, spelled_byte, value_word}
+use Rattle.schedule_text.specs.Spelling.{key_token, spelled_byte, value_token}
 use Rattle.load_maker.specs.Loads as Loads
 
 -- ---- digits
@@ -60,14 +60,14 @@ key-fits n h = (omega arith, omega (arith, ten-digits n (omega arith)), bytes-of
 pub value-fits : (i : ℕ) → i < 2 ^ 32 → HasBytes 0 256 (Loads.value_of i)
 value-fits i h = (omega arith, omega (arith, ten-digits i h), bytes-of 118 i (omega arith) (omega arith))
 
--- ---- words that are short and have no newline
+-- ---- tokens that are short and have no newline
 
 abbrev pub is_inside : ℕ → Bool
 is_inside b = not (b == 10)
 
-pub record IsTidy (word : List ℕ) : Type 0 where
-  pub short : length word ≤ 33
-  pub inside : list_all is_inside word ≡ true
+pub record IsTidy (token : List ℕ) : Type 0 where
+  pub short : length token ≤ 33
+  pub inside : list_all is_inside token ≡ true
 
 abbrev pub AllTidy : List (List ℕ) → Type 0
 AllTidy [] = Unit {0}
@@ -119,14 +119,14 @@ digits-spelled (b ∷ ds) h =
 no-zero : (n : ℕ) → (suc n == 0) ≡ false
 no-zero n = grind (arith, common_steps)
 
-key-spelled : (n : ℕ) → n < 16 → key_word (Loads.key_of n) ≡ Loads.key_of n
+key-spelled : (n : ℕ) → n < 16 → key_token (Loads.key_of n) ≡ Loads.key_of n
 key-spelled n h = ap (λ t. 107 ∷ t) (digits-spelled (decimal n) (are-digits n (omega arith)))
 
-value-spelled : (i : ℕ) → i < 2 ^ 32 → value_word (Loads.value_of i) ≡ Loads.value_of i
+value-spelled : (i : ℕ) → i < 2 ^ 32 → value_token (Loads.value_of i) ≡ Loads.value_of i
 value-spelled i h = rw (no-zero (length (decimal i))) (ap (λ t. 118 ∷ t) (digits-spelled (decimal i) (are-digits i h)))
 
-pub key-tidy : (n : ℕ) → n < 16 → IsTidy (key_word (Loads.key_of n))
+pub key-tidy : (n : ℕ) → n < 16 → IsTidy (key_token (Loads.key_of n))
 key-tidy n h = subst IsTidy (sym (key-spelled n h)) (labelled-tidy (codes "k") n (omega arith) refl (omega arith))
 
-pub value-tidy : (i : ℕ) → i < 2 ^ 32 → IsTidy (value_word (Loads.value_of i))
+pub value-tidy : (i : ℕ) → i < 2 ^ 32 → IsTidy (value_token (Loads.value_of i))
 value-tidy i h = subst IsTidy (sym (value-spelled i h)) (labelled-tidy (codes "v") i (omega arith) refl h)

@@ -1,4 +1,4 @@
--- Words without spaces, joined by spaces, are cut into the same words.
+-- Tokens without spaces, joined by spaces, are cut into the same tokens.
 use Rattle.std.proofs.Common.{◌≡◌, ℕ, List, [], ◌∷◌, Bool, true, false, not, ◌&&◌, eqb, refl, ap, ◌∙◌, arith, ◌<◌, ◌^◌, get_or}
 use Rattle.std.proofs.lemmas.Grind.{common_steps}
 use Rattle.std.proofs.lemmas.List.Splits.{slice_split_at, slice_split_none}
@@ -6,14 +6,14 @@ use Rattle.std.proofs.lemmas.List.Sums.{AllPass-from_list_all}
 use Rattle.std.specs.List.{All, list_all, join_with_byte}
 use Rattle.std.specs.Fmt.{decimal}
 use Rattle.std.proofs.lemmas.Fmt.{digits_decimal}
-use Rattle.schedule_text.specs.Words.{words}
+use Rattle.schedule_text.specs.Tokens.{tokens}
 use Rattle.schedule_text.specs.Fields.{is_digit}
 use Rattle.schedule_text.proofs.Digits.{own}
 
 abbrev pub is_other : ℕ → Bool
 is_other b = not (eqb b 32)
 
--- no space stands in the word
+-- no space stands in the token
 abbrev pub clean : List ℕ → Bool
 clean w = list_all is_other w
 
@@ -35,13 +35,13 @@ not-true false h = refl
 no-space : (w : List ℕ) → clean w ≡ true → All (λ b. eqb b 32 ≡ false) w
 no-space w h = λ k d l. not-true (eqb (get_or w k d) 32) (AllPass-from_list_all is_other w h k d l)
 
-pub words-again : (first : List ℕ) (rest : List (List ℕ)) →
-    all_clean (first ∷ rest) ≡ true → words (join_with_byte 32 (first ∷ rest)) ≡ first ∷ rest
-words-again first [] h = slice_split_none (λ b. eqb b 32) first (no-space first (and-left (clean first) true h))
-words-again first (w ∷ rest) h =
+pub tokens-again : (first : List ℕ) (rest : List (List ℕ)) →
+    all_clean (first ∷ rest) ≡ true → tokens (join_with_byte 32 (first ∷ rest)) ≡ first ∷ rest
+tokens-again first [] h = slice_split_none (λ b. eqb b 32) first (no-space first (and-left (clean first) true h))
+tokens-again first (w ∷ rest) h =
     slice_split_at (λ b. eqb b 32) first 32
     (join_with_byte 32 (w ∷ rest)) (no-space first (and-left (clean first) (all_clean (w ∷ rest)) h)) refl
-    ∙ ap (λ t. first ∷ t) (words-again w rest (and-right (clean first) (all_clean (w ∷ rest)) h))
+    ∙ ap (λ t. first ∷ t) (tokens-again w rest (and-right (clean first) (all_clean (w ∷ rest)) h))
 
 -- a test that follows from another
 pub all-weaker : (p q : ℕ → Bool) → ((b : ℕ) → p b ≡ true → q b ≡ true) → (w : List ℕ) → list_all p w ≡ true → list_all q w ≡ true

@@ -1,13 +1,13 @@
 use Rattle.std.proofs.Common.{arith, sym}
 use Rattle.std.proofs.lemmas.Grind.{common_steps}
-use Rattle.schedule_text.specs.Words.{words_after}
+use Rattle.schedule_text.specs.Tokens.{tokens_after}
 use Rattle.schedule_text.proofs.Cutting.{split-Some, split-None}
-use Rattle.schedule_text.proofs.words.cut.Goals as goal
+use Rattle.schedule_text.proofs.tokens.cut.Goals as goal
 
 pub returns-in-Some : goal.returns-in-Some
-unfolding words_after
+unfolding tokens_after
 returns-in-Some c = grind (arith, common_steps, split-Some c.args.line.now c.in-Some.at (sym c.in-Some.ensures))
 
 pub returns-in-None : goal.returns-in-None
-unfolding words_after
+unfolding tokens_after
 returns-in-None c = split-None _ (sym c.in-None.ensures)

@@ -1,11 +1,11 @@
--- What holds of words that are a command, and of words that aren't, whatever links give.
+-- What holds of arguments that are a command, and of arguments that aren't, whatever links give.
 use Rattle.std.proofs.Common.{◌≡◌, ℕ, List, ◌++◌, Bool, false, Option, Some, None, Result, Ok, Err, inr, refl, sym, subst}
 use Rattle.std.specs.Prelude.{IfOk, IfSome}
 use Rattle.basil_types.specs.Links.{LinkState}
 use Rattle.schedule_replay.proofs.RoadLaws.{carries_as, carries_none}
 use Rattle.basil_cli.specs.Answers.{Answers, Counts, IsTold}
-use Rattle.basil_cli.specs.Commands.{runs, words_carried}
-use Rattle.basil_cli.specs.Linked.{ByWords}
+use Rattle.basil_cli.specs.Commands.{runs, arguments_carried}
+use Rattle.basil_cli.specs.Linked.{ByArguments}
 use Rattle.basil_cli.specs.Outcome.{Outcome, Usage}
 use Rattle.basil_cli.specs.Output.{outcome_with, output_of}
 use Rattle.basil_cli.specs.Parts.{outcome_is}
@@ -31,17 +31,17 @@ runs_not Audit h = refl
 
 module _ (o : Option Command) where
   -- a fact of what links give, and one that follows from it
-  by_words : (a b : Option LinkState) (left : Option (List ℕ)) (P Q : List ℕ → List (List ℕ) → Type 0) →
+  by_arguments : (a b : Option LinkState) (left : Option (List ℕ)) (P Q : List ℕ → List (List ℕ) → Type 0) →
       ((bytes : List ℕ) (coming : List (List ℕ)) → P bytes coming → Q bytes coming) →
-      IfSome left (λ bytes. ByWords o a b (P bytes)) → IfSome left (λ bytes. ByWords o a b (Q bytes))
-  by_words a b None P Q turn h = tt
-  by_words a b (Some bytes) P Q turn h = carries_as (words_carried o) h (λ gave so later. turn bytes (gave ++ later) (so later))
+      IfSome left (λ bytes. ByArguments o a b (P bytes)) → IfSome left (λ bytes. ByArguments o a b (Q bytes))
+  by_arguments a b None P Q turn h = tt
+  by_arguments a b (Some bytes) P Q turn h = carries_as (arguments_carried o) h (λ gave so later. turn bytes (gave ++ later) (so later))
 
   -- where links aren't used
   unlinked : (a : Option LinkState) (left : Option (List ℕ)) (Q : List ℕ → List (List ℕ) → Type 0) →
-      IfSome left (λ bytes. (coming : List (List ℕ)) → Q bytes coming) → IfSome left (λ bytes. ByWords o a a (Q bytes))
+      IfSome left (λ bytes. (coming : List (List ℕ)) → Q bytes coming) → IfSome left (λ bytes. ByArguments o a a (Q bytes))
   unlinked a None Q h = tt
-  unlinked a (Some bytes) Q h = carries_none (words_carried o) refl (λ later. h later)
+  unlinked a (Some bytes) Q h = carries_none (arguments_carried o) refl (λ later. h later)
 
   always : (left : Option (List ℕ)) (Q : List ℕ → List (List ℕ) → Type 0) → ((bytes : List ℕ) (coming : List (List ℕ)) → Q bytes coming) →
       IfSome left (λ bytes. (coming : List (List ℕ)) → Q bytes coming)
@@ -53,7 +53,7 @@ module _ (o : Option Command) where
 module _ (command : Command) (a : Option LinkState) (left : Option (List ℕ)) where
   pub ended_alone : (result : Result Ending InputFail) →
       IfOk result (λ e. IfSome left (λ bytes. (coming : List (List ℕ)) → outcome_is e ≡ output_of command coming bytes)) →
-      IfSome left (λ bytes. ByWords (Some command) a a (λ coming. IfOk result (λ e. outcome_is e ≡ output_of command coming bytes)))
+      IfSome left (λ bytes. ByArguments (Some command) a a (λ coming. IfOk result (λ e. outcome_is e ≡ output_of command coming bytes)))
   ended_alone (Ok e) h = unlinked (Some command) a left (λ bytes coming. outcome_is e ≡ output_of command coming bytes) h
   ended_alone (Err f) h =
       unlinked (Some command) a left (λ bytes coming. Unit {0})
@@ -61,7 +61,8 @@ module _ (command : Command) (a : Option LinkState) (left : Option (List ℕ)) w
 
   pub through_alone : (new : Option (List ℕ)) (result : Result Ending InputFail) →
       IfOk result (λ _. IfSome left (λ bytes. (coming : List (List ℕ)) → IsReadThrough (is_enough command coming) bytes new)) →
-      IfSome left (λ bytes. ByWords (Some command) a a (λ coming. IfOk result (λ _. IsReadThrough (is_enough command coming) bytes new)))
+      IfSome left
+      (λ bytes. ByArguments (Some command) a a (λ coming. IfOk result (λ _. IsReadThrough (is_enough command coming) bytes new)))
   through_alone new (Ok e) h = unlinked (Some command) a left (λ bytes coming. IsReadThrough (is_enough command coming) bytes new) h
   through_alone new (Err f) h =
       unlinked (Some command) a left (λ bytes coming. Unit {0})
@@ -69,80 +70,80 @@ module _ (command : Command) (a : Option LinkState) (left : Option (List ℕ)) w
 
   pub soon_alone : (new : Option (List ℕ)) →
       IfSome left (λ bytes. (coming : List (List ℕ)) → StopsSoon (is_enough command coming) bytes new) →
-      IfSome left (λ bytes. ByWords (Some command) a a (λ coming. StopsSoon (is_enough command coming) bytes new))
+      IfSome left (λ bytes. ByArguments (Some command) a a (λ coming. StopsSoon (is_enough command coming) bytes new))
   soon_alone new h = unlinked (Some command) a left (λ bytes coming. StopsSoon (is_enough command coming) bytes new) h
 
 -- ---- what is answered of an ending, and of none
 
 module _ (command : Command) (a b : Option LinkState) (left : Option (List ℕ)) (status : Status) where
   pub ending_answers : (ending : Ending) (counts : Counts) (old new : Option (List ℕ)) →
-      IfSome left (λ bytes. ByWords (Some command) a b (λ coming. outcome_is ending ≡ output_of command coming bytes)) →
+      IfSome left (λ bytes. ByArguments (Some command) a b (λ coming. outcome_is ending ≡ output_of command coming bytes)) →
       Answers status (outcome_is ending) counts old new →
-      IfSome left (λ bytes. ByWords (Some command) a b (λ coming. Answers status (output_of command coming bytes) counts old new))
+      IfSome left (λ bytes. ByArguments (Some command) a b (λ coming. Answers status (output_of command coming bytes) counts old new))
   ending_answers ending counts old new h answers =
-      by_words (Some command) a b left (λ bytes coming. outcome_is ending ≡ output_of command coming bytes)
+      by_arguments (Some command) a b left (λ bytes coming. outcome_is ending ≡ output_of command coming bytes)
       (λ bytes coming. Answers status (output_of command coming bytes) counts old new)
       (λ bytes coming e. subst (λ (o : Outcome). Answers status o counts old new) e answers) h
 
   pub ending_told : (ending : Ending) →
-      IfSome left (λ bytes. ByWords (Some command) a b (λ coming. outcome_is ending ≡ output_of command coming bytes)) →
+      IfSome left (λ bytes. ByArguments (Some command) a b (λ coming. outcome_is ending ≡ output_of command coming bytes)) →
       IsTold status (outcome_is ending) →
-      IfSome left (λ bytes. ByWords (Some command) a b (λ coming. IsTold status (output_of command coming bytes)))
+      IfSome left (λ bytes. ByArguments (Some command) a b (λ coming. IsTold status (output_of command coming bytes)))
   ending_told ending h told =
-      by_words (Some command) a b left (λ bytes coming. outcome_is ending ≡ output_of command coming bytes)
+      by_arguments (Some command) a b left (λ bytes coming. outcome_is ending ≡ output_of command coming bytes)
       (λ bytes coming. IsTold status (output_of command coming bytes))
       (λ bytes coming e. subst (λ (o : Outcome). IsTold status o) e told) h
 
   -- where there is no ending, whatever the outcome is
   pub fault_answers : (source : Option (List ℕ)) (counts : Counts) (old new : Option (List ℕ)) →
-      IfSome left (λ bytes. ByWords (Some command) a b (λ coming. StopsSoon (is_enough command coming) bytes source)) →
+      IfSome left (λ bytes. ByArguments (Some command) a b (λ coming. StopsSoon (is_enough command coming) bytes source)) →
       ((o : Outcome) → Answers status o counts old new) →
-      IfSome left (λ bytes. ByWords (Some command) a b (λ coming. Answers status (output_of command coming bytes) counts old new))
+      IfSome left (λ bytes. ByArguments (Some command) a b (λ coming. Answers status (output_of command coming bytes) counts old new))
   fault_answers source counts old new h answers =
-      by_words (Some command) a b left (λ bytes coming. StopsSoon (is_enough command coming) bytes source)
+      by_arguments (Some command) a b left (λ bytes coming. StopsSoon (is_enough command coming) bytes source)
       (λ bytes coming. Answers status (output_of command coming bytes) counts old new)
       (λ bytes coming soon. answers (output_of command coming bytes)) h
 
   pub fault_told : (source : Option (List ℕ)) →
-      IfSome left (λ bytes. ByWords (Some command) a b (λ coming. StopsSoon (is_enough command coming) bytes source)) →
+      IfSome left (λ bytes. ByArguments (Some command) a b (λ coming. StopsSoon (is_enough command coming) bytes source)) →
       ((o : Outcome) → IsTold status o) →
-      IfSome left (λ bytes. ByWords (Some command) a b (λ coming. IsTold status (output_of command coming bytes)))
+      IfSome left (λ bytes. ByArguments (Some command) a b (λ coming. IsTold status (output_of command coming bytes)))
   fault_told source h told =
-      by_words (Some command) a b left (λ bytes coming. StopsSoon (is_enough command coming) bytes source)
+      by_arguments (Some command) a b left (λ bytes coming. StopsSoon (is_enough command coming) bytes source)
       (λ bytes coming. IsTold status (output_of command coming bytes)) (λ bytes coming soon. told (output_of command coming bytes)) h
 
--- ---- words
+-- ---- arguments
 
 module _ (o : Option Command) (a : Option LinkState) (left : Option (List ℕ)) where
-  -- words that aren't a command
+  -- arguments that aren't a command
   pub usage_answers : (status : Status) (counts : Counts) (old new : Option (List ℕ)) → o ≡ None → Answers status Usage counts old new →
-      IfSome left (λ bytes. ByWords o a a (λ coming. Answers status (outcome_with o coming bytes) counts old new))
+      IfSome left (λ bytes. ByArguments o a a (λ coming. Answers status (outcome_with o coming bytes) counts old new))
   usage_answers status counts old new none answers =
       unlinked o a left (λ bytes coming. Answers status (outcome_with o coming bytes) counts old new)
       (always o left (λ bytes coming. Answers status (outcome_with o coming bytes) counts old new)
       (λ bytes coming. subst (λ (x : Option Command). Answers status (outcome_with x coming bytes) counts old new) (sym none) answers))
 
   pub usage_told : (status : Status) → o ≡ None → IsTold status Usage →
-      IfSome left (λ bytes. ByWords o a a (λ coming. IsTold status (outcome_with o coming bytes)))
+      IfSome left (λ bytes. ByArguments o a a (λ coming. IsTold status (outcome_with o coming bytes)))
   usage_told status none told =
       unlinked o a left (λ bytes coming. IsTold status (outcome_with o coming bytes))
       (always o left (λ bytes coming. IsTold status (outcome_with o coming bytes))
       (λ bytes coming. subst (λ (x : Option Command). IsTold status (outcome_with x coming bytes)) (sym none) told))
 
-  -- where memory is wanting for the words
+  -- where memory is wanting for the arguments
   pub wanting_answers : (counts : Counts) (old : Option (List ℕ)) →
-      IfSome left (λ bytes. ByWords o a a (λ coming. Answers ends.NoMemory (outcome_with o coming bytes) counts old old))
+      IfSome left (λ bytes. ByArguments o a a (λ coming. Answers ends.NoMemory (outcome_with o coming bytes) counts old old))
   wanting_answers counts old =
       unlinked o a left (λ bytes coming. Answers ends.NoMemory (outcome_with o coming bytes) counts old old)
       (always o left (λ bytes coming. Answers ends.NoMemory (outcome_with o coming bytes) counts old old) (λ bytes coming. refl))
 
-  pub wanting_told : IfSome left (λ bytes. ByWords o a a (λ coming. IsTold ends.NoMemory (outcome_with o coming bytes)))
+  pub wanting_told : IfSome left (λ bytes. ByArguments o a a (λ coming. IsTold ends.NoMemory (outcome_with o coming bytes)))
   wanting_told =
       unlinked o a left (λ bytes coming. IsTold ends.NoMemory (outcome_with o coming bytes))
       (always o left (λ bytes coming. IsTold ends.NoMemory (outcome_with o coming bytes)) (λ bytes coming. inr refl))
 
 -- where nothing was taken of the source either
-pub untaken_words : (o : Option Command) (a : Option LinkState) (left : Option (List ℕ)) →
-    IfSome left (λ bytes. ByWords o a a (λ coming. StopsSoonFor o coming bytes left))
-untaken_words o a None = tt
-untaken_words o a (Some bytes) = carries_none (words_carried o) refl (λ later. untaken_for o later bytes)
+pub untaken_arguments : (o : Option Command) (a : Option LinkState) (left : Option (List ℕ)) →
+    IfSome left (λ bytes. ByArguments o a a (λ coming. StopsSoonFor o coming bytes left))
+untaken_arguments o a None = tt
+untaken_arguments o a (Some bytes) = carries_none (arguments_carried o) refl (λ later. untaken_for o later bytes)
