@@ -1,4 +1,5 @@
-//! The program: it hands its arguments, standard input, standard output and the sockets of this machine to the top call.
+//! The program: it hands its arguments, standard input, standard output and the sockets of this machine to the top
+//! call.
 #![tactic(auto)]
 
 mod input;

@@ -23,7 +23,8 @@ use Rattle.cluster_nodes.specs.Standings.{HoldsAs}
 use Rattle.cluster_run.specs.declared.fault.WorldFault.{WorldFault}
 use Rattle.cluster_run.specs.declared.fault.WorldFault.TheVariants as worlds
 use Rattle.cluster_run.specs.Events as events
-use Rattle.cluster_run.specs.Events.{at_client, at_tx, begins, begins_in, begun_by, by_client, called, claims_at, reads_at, set_begun, unless_formed, with_begun, writes_at}
+use Rattle.cluster_run.specs.Events.{at_client, at_tx, begins, begins_in, begun_by, by_client, called, claims_at, reads_at, set_begun}
+use Rattle.cluster_run.specs.Events.{unless_formed, with_begun, writes_at}
 use Rattle.client_core.specs.Slots.{put_write}
 use Rattle.cluster_run.specs.Parts.{client_self, noted, send}
 use Rattle.cluster_run.specs.States.{BegunValue, Setup, State, client_at, is_faulty}

@@ -91,7 +91,8 @@ module _ {V S : Type 0} (v : verifiers.Ghosts V) (g : signers.Ghosts S) (s : Set
 
   -- it is kept, and sent
   module _ (q : Party) (own : q ≡ client) (t : TransactionValue) (is : t ≡ built_of b) where
-    pub first_goes : (old mid kept new : Engine V S v g) (messages : List Envelope) (signature : List ℕ) (r : Result (Unit {0}) WatchFault) →
+    pub first_goes : (old mid kept new : Engine V S v g) (messages : List Envelope)
+        (signature : List ℕ) (r : Result (Unit {0}) WatchFault) →
         Shows s old st → slice_get st.begun tx ≡ Some b → mid ≡ record old { pens = mid.pens } →
         LiesAs g mid.pens s (after_lie st q u.words).lied → messages ≡ map framed (u.sent (faulty_signature s st q u.words)) →
         signature ≡ faulty_signature s st q u.words → HasRoomFor old.pool messages → kept.pool ≡ mid.pool →
@@ -125,7 +126,8 @@ module _ {V S : Type 0} (v : verifiers.Ghosts V) (g : signers.Ghosts S) (s : Set
         ≡ unless_refused (or_else (option_map worlds.Call (forming_fault b)) (adding.exhausted s b st)) (prepares_lie s tx b st)
     prepared_is =
         ap (λ o. option_map_or (λ x. prepares_at s tx x st) o (Ok st)) at
-        ∙ ap (λ o. option_map_or (λ slot. prepares_own s tx b slot st) o (unless_refused (prepare_fault s b st) (prepares_lie s tx b st))) none
+        ∙ ap (λ o. option_map_or (λ slot. prepares_own s tx b slot st) o
+        (unless_refused (prepare_fault s b st) (prepares_lie s tx b st))) none
         ∙ ap (λ o. unless_refused o (prepares_lie s tx b st)) (law s b st)
 
     prepared_by : (o : Option CallFault) (left : Bool) → forming_fault b ≡ o → has_left s st client ≡ left →
@@ -134,7 +136,8 @@ module _ {V S : Type 0} (v : verifiers.Ghosts V) (g : signers.Ghosts S) (s : Set
     prepared_by o left a l =
         prepared_is
         ∙ ap (λ x. unless_refused (or_else (option_map worlds.Call x) (adding.exhausted s b st)) (prepares_lie s tx b st)) a
-        ∙ ap (λ x. unless_refused (or_else (option_map worlds.Call o) (cond x None (Some (worlds.Exhausted client)))) (prepares_lie s tx b st)) l
+        ∙ ap (λ x. unless_refused (or_else (option_map worlds.Call o) (cond x None (Some (worlds.Exhausted client))))
+        (prepares_lie s tx b st)) l
 
     pub prepare_exhausted : (q : Party) → q ≡ client → (e : StepFault) (r : Result (Unit {0}) StepFault) → IsErrAnd r (λ x. x ≡ e) →
         forming_fault b ≡ None → (e ≡ exhausted q) × (has_left s st q ≡ false) → Comes s st prepared core r

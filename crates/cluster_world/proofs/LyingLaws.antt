@@ -1,5 +1,6 @@
 -- Faulty parties sign and send.
-use Rattle.std.proofs.Common.{◌≡◌, ◌∙◌, ◌<◌, ◌≤◌, ℕ, ◌+◌, ◌-◌, Bool, true, false, cond, List, [], ◌∷◌, ◌++◌, length, map, refl, sym, ap, subst, arith}
+use Rattle.std.proofs.Common.{◌≡◌, ◌∙◌, ◌<◌, ◌≤◌, ℕ, ◌+◌, ◌-◌, Bool, true, false, cond, List, [], ◌∷◌, ◌++◌, length, map, refl, sym, ap}
+use Rattle.std.proofs.Common.{subst, arith}
 use Rattle.std.specs.Result.{IsErrAnd}
 use Rattle.std.specs.Option.{option_map_or}
 use Rattle.std.specs.Prelude.{Option, Some, None, Result, Ok, Err, nat_le, nat_lt, ◌&&◌, slice_get}
@@ -39,7 +40,8 @@ use Rattle.cluster_world.specs.Lying.{CanSay, exhausted, says, says_as}
 use Rattle.cluster_world.specs.Sending.{Goes, HasRoomFor, full_of, mail_from, mails, room_of}
 use Rattle.cluster_world.specs.Shows.{Shows, Stands}
 use Rattle.cluster_world.proofs.AskingLaws.{room_left}
-use Rattle.cluster_world.proofs.SendingLaws.{Leaves, comes_err, enters_by, fits_room, full_by, goes_on, mails_same, room_by, same_size, within_limits}
+use Rattle.cluster_world.proofs.SendingLaws.{Leaves, comes_err, enters_by, fits_room, full_by, goes_on, mails_same, room_by, same_size}
+use Rattle.cluster_world.proofs.SendingLaws.{within_limits}
 
 -- ---- room
 
@@ -84,7 +86,8 @@ module _ {V S : Type 0} (v : verifiers.Ghosts V) (g : signers.Ghosts S) (s : Set
       subst (λ q. Comes s st (says_as s q u st) core (Err e)) (sym own)
       (subst (λ x. Comes s st (says_as s p u st) core (Err x)) (sym is) (
         full_by s after (map (mail_of p) mail)
-            (sym (fits_room s after core.pool p mail (within_limits core.pool room leaves) (same_size core.pool.posts st.pool h.posts) h.stands.limits)
+            (sym (fits_room s after core.pool p mail (within_limits core.pool room leaves)
+            (same_size core.pool.posts st.pool h.posts) h.stands.limits)
             ∙ sym (room_tells core.pool room mail count bytes leaves c b) ∙ sym lacks)
             ∙ ap (λ q. Err (worlds.PoolFull (length q) (pool_bytes q))) (sym h.posts),
         h,
@@ -151,7 +154,8 @@ module _ {V S : Type 0} (v : verifiers.Ghosts V) (g : signers.Ghosts S) (s : Set
       lies_not e (Err x) err lacks =
           subst (λ y. Comes s st event core (Err y)) (sym (err ∙ lacks.0 ∙ ap exhausted same)) (
             lies_so
-                ∙ ap (λ b. cond b (enter s (mail_of p (lie f st).envelope ∷ []) (after_lie st p (lie f st).words)) (Err (worlds.Exhausted p)))
+                ∙ ap (λ b. cond b (enter s (mail_of p (lie f st).envelope ∷ []) (after_lie st p (lie f st).words))
+                (Err (worlds.Exhausted p)))
                 (ap (has_left s st) (sym same) ∙ lacks.1),
             h,
           )
@@ -163,7 +167,8 @@ module _ {V S : Type 0} (v : verifiers.Ghosts V) (g : signers.Ghosts S) (s : Set
       lies_said u new r left meant said =
           subst (λ x. Comes s st x new r)
           (meant
-          ∙ sym (ap (λ b. cond b (enter s (mail_of p (lie f st).envelope ∷ []) (after_lie st p (lie f st).words)) (Err (worlds.Exhausted p)))
+          ∙ sym (ap (λ b. cond b (enter s (mail_of p (lie f st).envelope ∷ []) (after_lie st p (lie f st).words))
+          (Err (worlds.Exhausted p)))
           (ap (has_left s st) (sym same) ∙ left))
           ∙ sym lies_so) said
 

@@ -1,5 +1,6 @@
 -- Frames are seen, and enter the pool.
-use Rattle.std.proofs.Common.{◌≡◌, ◌∙◌, ◌<◌, ◌≤◌, ℕ, ◌+◌, ◌-◌, Bool, true, false, cond, List, [], ◌∷◌, ◌++◌, length, map, refl, sym, ap, subst, arith, inl, inr, ◌⊎◌, suc}
+use Rattle.std.proofs.Common.{◌≡◌, ◌∙◌, ◌<◌, ◌≤◌, ℕ, ◌+◌, ◌-◌, Bool, true, false, cond, List, [], ◌∷◌, ◌++◌, length, map, refl, sym, ap}
+use Rattle.std.proofs.Common.{subst, arith, inl, inr, ◌⊎◌, suc}
 use Rattle.std.specs.Result.{IsErrAnd}
 use Rattle.std.specs.Prelude.{Option, Some, None, Result, Ok, Err, nat_le, sum, ◌&&◌, ⊤}
 use Rattle.std.proofs.lemmas.Bool.{leb-true, le-leb}
@@ -30,7 +31,8 @@ use Rattle.premise_watch.specs.Marks.{MarkValue, Signature, Text, marks}
 use Rattle.cluster_nodes.specs.Handling.{Holds, fits}
 use Rattle.cluster_run.specs.declared.fault.WorldFault.{WorldFault}
 use Rattle.cluster_run.specs.declared.fault.WorldFault.TheVariants as worlds
-use Rattle.cluster_run.specs.Parts.{Mail, mail_bytes, has_room, posted, read_frame, see, see_message, enter, enter_all, mail_of, noted, saw, send, unless_broken}
+use Rattle.cluster_run.specs.Parts.{Mail, mail_bytes, has_room, posted, read_frame, see, see_message, enter, enter_all, mail_of, noted, saw}
+use Rattle.cluster_run.specs.Parts.{send, unless_broken}
 use Rattle.cluster_run.specs.States.{Setup, State}
 use Rattle.run_sight.specs.Sights.{BreaksByFrame, Ends, Notes, Sees, SeesFrame, SightValue, sight_of, taken_back}
 use Rattle.run_sight.specs.declared.sight.Sight.{Sight}

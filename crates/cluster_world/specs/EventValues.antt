@@ -3,8 +3,10 @@ use Rattle.std.specs.Prelude.{[], true, false}
 use Rattle.cluster_run.specs.Events as events
 use Rattle.cluster_run.specs.Events.{EventValue}
 use Rattle.cluster_world.specs.declared.event.Event.{Event}
-use Rattle.cluster_world.specs.declared.event.Event.TheVariants.{Begin, Read, Write, Delete, Claim, Prepare, Settle, Recover, Invoke}
-use Rattle.cluster_world.specs.declared.event.Event.TheVariants.{Deliver, Lose, Divert, Clock, Vote, Second, Logged, Elect, Decide, Raw, Show}
+use Rattle.cluster_world.specs.declared.event.Event.TheVariants.{Begin, Read, Write, Delete, Claim, Prepare, Settle}
+use Rattle.cluster_world.specs.declared.event.Event.TheVariants.{Recover, Invoke}
+use Rattle.cluster_world.specs.declared.event.Event.TheVariants.{Deliver, Lose, Divert, Clock, Vote, Second, Logged}
+use Rattle.cluster_world.specs.declared.event.Event.TheVariants.{Elect, Decide, Raw, Show}
 
 abbrev pub event_value : Event → EventValue
 event_value (Begin client time) = events.Begin client time

@@ -1,6 +1,7 @@
 //! Clients begin transactions, and read and write in them.
 
-ghost use Rattle.std.specs.Prelude.{◌≡◌, ◌<◌, ◌&&◌, suc, true, None, Some, Ok, IfOk, OnOk, length, nat_le, option_map, slice_get, vec_capacity, vec_len};
+ghost use Rattle.std.specs.Prelude.{◌≡◌, ◌<◌, ◌&&◌, suc, true, None, Some, Ok, IfOk, OnOk, length, nat_le, option_map};
+ghost use Rattle.std.specs.Prelude.{slice_get, vec_capacity, vec_len};
 ghost use Rattle.basil_types.specs.declared.party.Party.TheVariants as parties;
 ghost use Rattle.client_core.specs.Calls.{call_begin, call_write};
 ghost use Rattle.client_core.specs.Clients.{ClientValue};

@@ -82,8 +82,8 @@ impl<V: Verifier, S: Signer> Engine<V, S> {
         }
     }
 
-    /// A faulty party signs what it says, which enters the pool. PoolFull where there is no room for it: no signature is
-    /// spent.
+    /// A faulty party signs what it says, which enters the pool. PoolFull where there is no room for it: no signature
+    /// is spent.
     fn say(&mut self, party: Party, lie: Lie) -> Result<(), StepFault>
         requires left { 0 < left_in S.Signer self.old.pens party }
         requires ready { CanBeSaid (size_in S.Signer self.old.pens party) lie }
@@ -135,7 +135,8 @@ impl<V: Verifier, S: Signer> Engine<V, S> {
         client: u8,
     ) -> Result<(), StepFault>
         ensures { (s : Setup) (st : State) → Shows s self.old st → Comes s st
-            (events.happens s (events.Logged place.shard place.index tx logged.decision logged.decided logged.current client) st)
+            (events.happens s (events.Logged place.shard place.index tx logged.decision logged.decided logged.current
+            client) st)
             self.new result }
     {
         let Some(formed) = self.said_by(tx) else {
@@ -192,7 +193,8 @@ impl<V: Verifier, S: Signer> Engine<V, S> {
         to: u8,
     ) -> Result<(), StepFault>
         ensures { (s : Setup) (st : State) → Shows s self.old st → Comes s st
-            (events.happens s (events.Decide place.shard place.index tx said.decision said.view to) st) self.new result }
+            (events.happens s (events.Decide place.shard place.index tx said.decision said.view to) st) self.new
+            result }
     {
         let Some(formed) = self.said_by(tx) else {
             return Ok(());
@@ -251,15 +253,16 @@ impl<V: Verifier, S: Signer> Engine<V, S> {
     /// Keeps what a faulty client formed.
     fn keep_said(&mut self, tx: usize, formed: Formed)
         requires { tx < length self.old.begun.items }
-        ensures kept { (s : Setup) (st : State) (b : BegunValue) → Stands s self.old st → slice_get st.begun tx ≡ Some b →
+        ensures kept { (s : Setup) (st : State) (b : BegunValue) → Stands s self.old st → slice_get st.begun tx ≡ Some b
+            →
             Stands s self.new (events.set_begun tx (record b { formed = Some formed }) st) }
         ensures pool { self.new.pool ≡ self.old.pool }
     {
         self.begun[tx].set_formed(Some(formed));
     }
 
-    /// A faulty client signs and sends the first stage of its transaction, and keeps it with the signature. PoolFull where
-    /// there is no room for it: no signature is spent.
+    /// A faulty client signs and sends the first stage of its transaction, and keeps it with the signature. PoolFull
+    /// where there is no room for it: no signature is spent.
     fn say_first(
         &mut self,
         tx: usize,

@@ -52,7 +52,8 @@ impl<V: Verifier, S: Signer> Engine<V, S> {
     fn react(&mut self, message: u64, took: Took) -> Result<(), StepFault>
         requires { IsTaken self.old.pool took }
         ensures { (s : Setup) (st before : State) (pool : PoolValue) (handles : Handles) →
-            self.old.pool.posts ≡ st.pool → Takes s st pool handles self.old (Ok took) → Comes s before (handles message st) self.new result }
+            self.old.pool.posts ≡ st.pool → Takes s st pool handles self.old (Ok took)
+            → Comes s before (handles message st) self.new result }
     {
         match took {
             Took::Nothing => Ok(()),

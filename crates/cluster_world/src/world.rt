@@ -34,8 +34,8 @@ use premise_watch::laws::counted_are_few;
 use run_kit::Kit;
 use std::alloc::Global;
 
-/// A run of a cluster: its replicas and clients, the messages between them, and what was seen of them. Contracts see the
-/// states of a run that it shows.
+/// A run of a cluster: its replicas and clients, the messages between them, and what was seen of them. Contracts see
+/// the states of a run that it shows.
 ///
 /// A world that hasn't ended is a run without a breach: its type carries the run, and `is_safe` says that it is safe.
 #[derive(Drop)]
@@ -102,7 +102,8 @@ impl<K: Kit> World<K> {
         K: Drop,
         requires members { AreMembers beginning.cluster faulty }
         requires few { AreCounted beginning.cluster.f faulty }
-        ensures shows { IfOk result (λ world. let s = setup_of beginning faulty (K.value kit) in Shows s world.core (start s)) }
+        ensures shows { IfOk result (λ world. let s = setup_of beginning faulty (K.value kit) in Shows s world.core
+            (start s)) }
         ensures kit { IfOk result (λ world. world.kit ≡ kit) }
         ensures going { IfOk result (λ world. world.ended ≡ false) }
     {
@@ -138,8 +139,9 @@ impl<K: Kit> World<K> {
         self.ended
     }
 
-    /// A world that hasn't ended is safe: it shows what a run comes to in which no transaction has both certificates, and each
-    /// committed transaction of a correct client read, per key, what the latest committed writer before it wrote.
+    /// A world that hasn't ended is safe: it shows what a run comes to in which no transaction has both certificates,
+    /// and each committed transaction of a correct client read, per key, what the latest committed writer before it
+    /// wrote.
     pub fn is_safe(&self)
         requires { self.now.ended ≡ false }
         ensures { ∥ RanSafely self.now.core (K.value self.now.kit) ∥₁ }

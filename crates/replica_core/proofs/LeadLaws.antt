@@ -1,5 +1,6 @@
 -- Kept election words may stand in frames, and so may those of a proposal.
-use Rattle.std.proofs.Common.{◌≡◌, ℕ, suc, ◌+◌, ◌<◌, ◌≤◌, Bool, true, false, cond, List, [], ◌∷◌, ◌++◌, All, length, map, filter, Option, Some, None, refl, ap, subst, arith}
+use Rattle.std.proofs.Common.{◌≡◌, ℕ, suc, ◌+◌, ◌<◌, ◌≤◌, Bool, true, false, cond, List, [], ◌∷◌, ◌++◌, All, length, map, filter, Option}
+use Rattle.std.proofs.Common.{Some, None, refl, ap, subst, arith}
 use Rattle.std.specs.Prelude.{IfSome, slice_index}
 use Rattle.std.specs.List.Sorted.{IsPermutation, IsStrictlyIncreasing}
 use Rattle.std.proofs.lemmas.List.Elements.{All-filter, All-map, All-push, All-head, All-tail}

@@ -43,7 +43,15 @@ propose_planned seat accepts signing book t m id view q p law left named viewed 
     let g = signing.gives book.pen.spent p.words in
     let all = range_with_len 0 (replicas seat.home.cluster.f) in
     let decide : ℕ → List ℕ → DecideValue =
-    λ v s. record { transaction = t; shard = seat.home.shard; replica = seat.index; decision = q.decision; view = v; words = map as_listed q.words; signature = s } in
+    λ v s. record {
+      transaction = t;
+      shard = seat.home.shard;
+      replica = seat.index;
+      decision = q.decision;
+      view = v;
+      words = map as_listed q.words;
+      signature = s;
+    } in
     let sent : ℕ → List ℕ → List Envelope =
     λ v w. map framed
     (map
@@ -53,7 +61,8 @@ propose_planned seat accepts signing book t m id view q p law left named viewed 
           (decide v (signing.gives book.pen.spent w));
     } in e) (range_with_len 0 (replicas seat.home.cluster.f))) in
     let told : List (List ℕ) → List Envelope → Told =
-    λ signed sent. record { book = record book { kept = kept_after seat book t m; pen = after_one book.pen }; signed = signed; sent = sent } in
+    λ signed sent. record
+    { book = record book { kept = kept_after seat book t m; pen = after_one book.pen }; signed = signed; sent = sent } in
     let said : List ℕ → ℕ → List ℕ = λ i v. words_of (proposal_words (self_at seat accepts signing) i q.decision v) in
     let sealed : sent view p.words ≡ sealed_all g p =
     sends (Decide (decide view g)) (unsigned_decide (decide_said seat t view q)) g p (Replica seat.home.shard)

@@ -52,7 +52,11 @@ module _ (seat : Seat) (accepts : Accepted) (signing : Signing) (book : BookValu
   -- what is logged, signed and sent, with these entries
   made : List EntryValue → LoggedEntry → List (List ℕ) → List Envelope → Told
   made es l signed sent =
-      record { book = record book { entries = es; logged = put_logged l book.logged; pen = after_one book.pen }; signed = signed; sent = sent }
+      record {
+        book = record book { entries = es; logged = put_logged l book.logged; pen = after_one book.pen };
+        signed = signed;
+        sent = sent;
+      }
 
   log : List ℕ → LogCell → Option (List ℕ) → List ℕ → LoggedEntry
   log id cell reply askers = record { id = id; cell = cell; reply = reply; askers = askers }
@@ -131,7 +135,14 @@ module _ (seat : Seat) (accepts : Accepted) (signing : Signing) (book : BookValu
       let g = signing.gives book.pen.spent p.words in
       let leader = Replica seat.home.shard (leader_of seat.home.cluster t.time view) in
       let word : List ℕ → ElectValue =
-      λ w. record { transaction = t; shard = seat.home.shard; replica = seat.index; decision = l.cell.decision; view = view; signature = signing.gives book.pen.spent w } in
+      λ w. record {
+        transaction = t;
+        shard = seat.home.shard;
+        replica = seat.index;
+        decision = l.cell.decision;
+        view = view;
+        signature = signing.gives book.pen.spent w;
+      } in
       let sent : (w : List ℕ)
       → List Envelope = λ w. let e : EnvelopeValue = record { to = leader; message = Elect (word w) } in framed e ∷ [] in
       let sealed : (let e : EnvelopeValue = record { to = leader; message = Elect (word p.words) } in framed e) ∷ [] ≡ sealed_all g p =

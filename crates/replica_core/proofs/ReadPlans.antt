@@ -41,7 +41,16 @@ read_planned seat accepts signing book now from m committed prepared p law timel
     let g = signing.gives book.pen.spent p.words in
     let read : NotedRead = record { key = m.key; time = m.time; client = m.client } in
     let reply : Option CommittedValue → Option TransactionValue → List ℕ → ReadReplyValue =
-    λ c t s. record { shard = seat.home.shard; replica = seat.index; key = m.key; time = m.time; client = m.client; committed = c; prepared = t; signature = s } in
+    λ c t s. record {
+      shard = seat.home.shard;
+      replica = seat.index;
+      key = m.key;
+      time = m.time;
+      client = m.client;
+      committed = c;
+      prepared = t;
+      signature = s;
+    } in
     let sent : Option CommittedValue → Option TransactionValue → List ℕ → List Envelope =
     λ c t w. let e : EnvelopeValue = record {
       to = from;
@@ -49,7 +58,8 @@ read_planned seat accepts signing book now from m committed prepared p law timel
           (reply c t (signing.gives book.pen.spent w));
     } in framed e ∷ [] in
     let told : List (List ℕ) → List Envelope → Told =
-    λ signed sent. record { book = record book { noted = book.noted ++ read ∷ []; pen = after_one book.pen }; signed = signed; sent = sent } in
+    λ signed sent. record
+    { book = record book { noted = book.noted ++ read ∷ []; pen = after_one book.pen }; signed = signed; sent = sent } in
     let said : Option CommittedValue → Option TransactionValue → List ℕ = λ c t. words_of (reply_words_of seat m c t) in
     let by : Option CommittedValue → Option TransactionValue → List ℕ → Told = λ c t w. told (w ∷ []) (sent c t w) in
     let sealed : sent committed prepared p.words ≡ sealed_all g p =

@@ -4,7 +4,8 @@ use Rattle.basil_types.specs.declared.party.Party.{Party}
 use Rattle.frame_views.specs.declared.fault.BadFrame as faults
 use Rattle.frame_views.specs.Fitting.{bounds_of}
 use Rattle.frame_views.specs.Frames.{frame_in}
-use Rattle.frame_views.specs.Values.{MessageValue, Read, ReadReply, St1, Vote, St2, LogReply, Writeback, Recover, Invoke, Elect, Decide}
+use Rattle.frame_views.specs.Values.{MessageValue, Read, ReadReply, St1, Vote, St2, LogReply, Writeback, Recover}
+use Rattle.frame_views.specs.Values.{Invoke, Elect, Decide}
 use Rattle.node_steps.specs.Refusing.{unless_refused}
 use Rattle.replica_core.specs.declared.refusal.Refusal.{Refusal}
 use Rattle.replica_core.specs.declared.refusal.Refusal.TheVariants.{BadFrame, NotMine}

@@ -1,5 +1,6 @@
 -- The answer to a read (Basil, reads).
-use Rattle.std.specs.Prelude.{ℕ, ◌+◌, List, [], ◌∷◌, ◌++◌, Option, option_map, option_and_then, slice_get, Result, nat_lt}
+use Rattle.std.specs.Prelude.{ℕ, ◌+◌, List, [], ◌∷◌, ◌++◌, Option, option_map, option_and_then, slice_get, Result}
+use Rattle.std.specs.Prelude.{nat_lt}
 use Rattle.basil_types.specs.Built.{or_else}
 use Rattle.basil_types.specs.declared.party.Party.{Party}
 use Rattle.basil_types.specs.declared.version.Version.{Version}

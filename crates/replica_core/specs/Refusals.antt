@@ -1,16 +1,19 @@
 -- What is refused of a frame before what it asks for is looked at, in this order.
-use Rattle.std.specs.Prelude.{ℕ, List, [], ◌∷◌, Bool, false, ◌==◌, ◌&&◌, Option, Some, None, option_map, option_and_then}
+use Rattle.std.specs.Prelude.{ℕ, List, [], ◌∷◌, Bool, false, ◌==◌, ◌&&◌, Option, Some, None, option_map}
+use Rattle.std.specs.Prelude.{option_and_then}
 use Rattle.basil_types.specs.Built.{or_else}
 use Rattle.basil_types.specs.Transaction.{TransactionValue}
 use Rattle.certificates.specs.Accepted.{first_refused}
 use Rattle.certificates.specs.Refusals.{decision_of, refusal, tallies_refusal}
 use Rattle.frame_views.specs.Signed.{SignedBy, client_signed, signed_in}
-use Rattle.frame_views.specs.Values.{MessageValue, Read, ReadReply, St1, Vote, St2, LogReply, Writeback, Recover, Invoke, Elect, Decide}
+use Rattle.frame_views.specs.Values.{MessageValue, Read, ReadReply, St1, Vote, St2, LogReply, Writeback, Recover}
+use Rattle.frame_views.specs.Values.{Invoke, Elect, Decide}
 use Rattle.node_steps.specs.Refusing.{needs}
 use Rattle.txn_meta.specs.Form.{form_fault}
 use Rattle.txn_meta.specs.Places.{shard_of, involves}
 use Rattle.replica_core.specs.declared.refusal.Refusal.{Refusal}
-use Rattle.replica_core.specs.declared.refusal.Refusal.TheVariants.{BadTransaction, NotMine, BadSignature, BadCertificate, BadTally}
+use Rattle.replica_core.specs.declared.refusal.Refusal.TheVariants.{BadTransaction, NotMine, BadSignature}
+use Rattle.replica_core.specs.declared.refusal.Refusal.TheVariants.{BadCertificate, BadTally}
 use Rattle.replica_core.specs.SecondStage.{logs_here}
 use Rattle.replica_core.specs.Replicas.{ReplicaSelf}
 

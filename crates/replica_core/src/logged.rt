@@ -1,6 +1,7 @@
 //! What is logged of the transactions that this shard decides.
 
-ghost use Rattle.std.specs.Prelude.{◌≡◌, ◌<◌, [], Some, IfOk, IfSome, OnOk, length, nat_le, option_map, position, slice_get, true, false};
+ghost use Rattle.std.specs.Prelude.{◌≡◌, ◌<◌, [], Some, IfOk, IfSome, OnOk, length, nat_le, option_map, position};
+ghost use Rattle.std.specs.Prelude.{slice_get, true, false};
 ghost use Rattle.replica_core.specs.Known.{logged_with, put_logged, asked_by};
 ghost use Rattle.replica_core.specs.Logs.{logged_as};
 ghost use Rattle.node_steps.specs.Lists.{put};

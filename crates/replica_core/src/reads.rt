@@ -1,7 +1,8 @@
 //! Reads are planned: they are noted, and answered by the latest versions below them (Basil, reads).
 
 ghost use Rattle.node_steps.specs.Pendings.{Sends, bytes_in};
-ghost use Rattle.std.specs.Prelude.{◌≡◌, [], ◌∷◌, ◌++◌, ◌+◌, ◌<◌, ◌≤◌, ℕ, List, None, IfOk, IfSome, length, nat_lt, option_map, slice_get};
+ghost use Rattle.std.specs.Prelude.{◌≡◌, [], ◌∷◌, ◌++◌, ◌+◌, ◌<◌, ◌≤◌, ℕ, List, None, IfOk, IfSome, length, nat_lt};
+ghost use Rattle.std.specs.Prelude.{option_map, slice_get};
 ghost use Rattle.basil_types.specs.Limits.{signature_limit};
 ghost use Rattle.basil_types.specs.Shown.{transaction_of};
 ghost use Rattle.basil_types.specs.Words.{words_of};

@@ -18,8 +18,8 @@ use std::alloc::Global;
 use txn_table::released::Home;
 use txn_table::table::Table;
 
-/// A replica of a shard, with the keyring by which it tests signatures and the pen by which it signs. Some book is always
-/// shown: what it holds, with noted reads for which its store stands.
+/// A replica of a shard, with the keyring by which it tests signatures and the pen by which it signs. Some book is
+/// always shown: what it holds, with noted reads for which its store stands.
 #[derive(Drop)]
 pub struct Replica<V: Verifier, S: Signer> {
     keys: V,
@@ -74,8 +74,8 @@ impl<V: Verifier, S: Signer> Replica<V, S> {
         }
     }
 
-    /// Tests a frame that this sender sent, at this moment, and takes all memory of its answer; or its first refusal. What
-    /// the replica shows stays as it was, and nothing is signed.
+    /// Tests a frame that this sender sent, at this moment, and takes all memory of its answer; or its first refusal.
+    /// What the replica shows stays as it was, and nothing is signed.
     pub fn plan(&mut self, now: u64, from: Party, frame: &[u8]) -> Result<Plan, Refusal>
         ensures answer { (book : BookValue) →
             Shows self.old.parts (pen_value (S.spent self.old.pen) (S.left_of self.old.pen)) book →

@@ -17,9 +17,11 @@ returns-in-Some-clause-answer g c accepts book =
     let signing = g.S.Signer.fixed c.args.pen.now in
     let m = elect_message_of c.args.m.now in
     let leading = c.args.leading.now in
-    let word : ElectPart = record { replica = c.args.m.now.replica; decision = c.args.m.now.decision; signature = c.in_ok-copy_of.field-0 } in
+    let word : ElectPart = record
+    { replica = c.args.m.now.replica; decision = c.args.m.now.decision; signature = c.in_ok-copy_of.field-0 } in
     let signed : word ≡ word_of m = ap
-    (λ s. let w : ElectPart = record { replica = c.args.m.now.replica; decision = c.args.m.now.decision; signature = s } in w) c.in_ok-copy_of.ensures in
+    (λ s. let w : ElectPart = record { replica = c.args.m.now.replica; decision = c.args.m.now.decision; signature = s } in w)
+    c.in_ok-copy_of.ensures in
     collects (self_at c.args.seat.now accepts signing) c.args.seat.now signing (lead_book_at book leading spent left)
     (transaction_of c.args.t) m c.args.id.now word
     c.collect.new.self (proposal_value c.in-Some.proposal) c.plan_proposal.result refl c.requires.named signed c.in_ok-proposal.ensures.next

@@ -36,4 +36,10 @@ returns-clause-answer g c accepts book =
     ∙ ap (λ (i : ℕ). front_for (unsigned_elect (elect_said seat t log.cell.decision c.args.view)) (Replica seat.home.shard i) ∷ [])
     (c.leader_of.ensures.value ∙ ap (λ (n : ℕ). leader_of seat.home.cluster n c.args.view) c.time.ensures.value))
     ∙ ap
-    (λ (k : LogCell). let w : LogWork = record { arrives = None; id = c.args.id.now; cell = k; askers = c.in_ok-askers.askers; said = Entered c.in_ok-pending.pending } in Ok (perform_log (g.S.Signer.fixed c.args.pen.now) (begun (pen_at book spent left)) w)) (sym c.enter.ensures.value)
+    (λ (k : LogCell). let w : LogWork = record {
+      arrives = None;
+      id = c.args.id.now;
+      cell = k;
+      askers = c.in_ok-askers.askers;
+      said = Entered c.in_ok-pending.pending;
+    } in Ok (perform_log (g.S.Signer.fixed c.args.pen.now) (begun (pen_at book spent left)) w)) (sym c.enter.ensures.value)

@@ -28,7 +28,8 @@ returns-in-Read-clause-answer g c accepts book s =
     let r = c.plan_read.result in
     subst (λ (v : MessageView). IsPlanned (perform_work sg kept) b c.read_work.result
     (answer_kind me c.args.now c.args.from b (message_of v))) (sym c.in-Read.is)
-    (subst (λ (r : Result Work Refusal). IsPlanned (perform_work sg kept) b r (answer_read me c.args.now c.args.from b (read_of c.in-Read.m))) (sym c.read_work.ensures)
+    (subst (λ (r : Result Work Refusal). IsPlanned (perform_work sg kept) b r
+    (answer_read me c.args.now c.args.from b (read_of c.in-Read.m))) (sym c.read_work.ensures)
     (read_planned sg kept b r (answer_read me c.args.now c.args.from b (read_of c.in-Read.m)) (c.plan_read.ensures.answer accepts b s)))
 
 pub returns-in-St1-clause-answer : goal.returns-in-St1-clause-answer
@@ -41,8 +42,10 @@ returns-in-St1-clause-answer g c accepts book s =
     let r = c.plan_st1.result in
     subst (λ (v : MessageView). IsPlanned (perform_work sg kept) b c.known_work.result
     (answer_kind me c.args.now c.args.from b (message_of v))) (sym c.in-St1.is)
-    (subst (λ (r : Result Work Refusal). IsPlanned (perform_work sg kept) b r (answer_st1 me c.args.now c.args.from b (transaction_of c.in-St1.m.transaction))) (sym c.known_work.ensures)
-    (known_planned sg kept b r (answer_st1 me c.args.now c.args.from b (transaction_of c.in-St1.m.transaction)) (c.plan_st1.ensures.answer accepts b s)))
+    (subst (λ (r : Result Work Refusal). IsPlanned (perform_work sg kept) b r
+    (answer_st1 me c.args.now c.args.from b (transaction_of c.in-St1.m.transaction))) (sym c.known_work.ensures)
+    (known_planned sg kept b r (answer_st1 me c.args.now c.args.from b (transaction_of c.in-St1.m.transaction))
+    (c.plan_st1.ensures.answer accepts b s)))
 
 pub returns-in-St2-clause-answer : goal.returns-in-St2-clause-answer
 returns-in-St2-clause-answer g c accepts book s =
@@ -64,8 +67,14 @@ returns-in-Writeback-clause-answer g c accepts book s =
     let r = c.plan_writeback.result in
     subst (λ (v : MessageView). IsPlanned (perform_work sg kept) b c.known_work-in-Writeback.result
     (answer_kind me c.args.now c.args.from b (message_of v))) (sym c.in-Writeback.is)
-    (subst (λ (r : Result Work Refusal). IsPlanned (perform_work sg kept) b r (answer_writeback me b (record { transaction = transaction_of c.in-Writeback.m.transaction; certificate = certificate_of c.in-Writeback.m.certificate }))) (sym c.known_work-in-Writeback.ensures)
-    (known_planned sg kept b r (answer_writeback me b (record { transaction = transaction_of c.in-Writeback.m.transaction; certificate = certificate_of c.in-Writeback.m.certificate })) (c.plan_writeback.ensures.answer accepts b s)))
+    (subst (λ (r : Result Work Refusal). IsPlanned (perform_work sg kept) b r
+    (answer_writeback me b
+    (record { transaction = transaction_of c.in-Writeback.m.transaction; certificate = certificate_of c.in-Writeback.m.certificate })))
+    (sym c.known_work-in-Writeback.ensures)
+    (known_planned sg kept b r
+    (answer_writeback me b
+    (record { transaction = transaction_of c.in-Writeback.m.transaction; certificate = certificate_of c.in-Writeback.m.certificate }))
+    (c.plan_writeback.ensures.answer accepts b s)))
 
 pub returns-in-Recover-clause-answer : goal.returns-in-Recover-clause-answer
 returns-in-Recover-clause-answer g c accepts book s =
@@ -87,7 +96,8 @@ returns-in-Elect-clause-answer g c accepts book s =
     let r = c.plan_elect.result in
     subst (λ (v : MessageView). IsPlanned (perform_work sg kept) b c.lead_work.result
     (answer_kind me c.args.now c.args.from b (message_of v))) (sym c.in-Elect.is)
-    (subst (λ (r : Result Work Refusal). IsPlanned (perform_work sg kept) b r (answer_elect me b (elect_message_of c.in-Elect.m))) (sym c.lead_work.ensures)
+    (subst (λ (r : Result Work Refusal). IsPlanned (perform_work sg kept) b r (answer_elect me b (elect_message_of c.in-Elect.m)))
+    (sym c.lead_work.ensures)
     (lead_planned sg kept b r (answer_elect me b (elect_message_of c.in-Elect.m)) (c.plan_elect.ensures.answer accepts b)))
 
 pub returns-in-Decide-clause-answer : goal.returns-in-Decide-clause-answer
@@ -100,5 +110,6 @@ returns-in-Decide-clause-answer g c accepts book s =
     let r = c.plan_decide.result in
     subst (λ (v : MessageView). IsPlanned (perform_work sg kept) b c.log_work.result
     (answer_kind me c.args.now c.args.from b (message_of v))) (sym c.in-Decide.is)
-    (subst (λ (r : Result Work Refusal). IsPlanned (perform_work sg kept) b r (answer_decide me b (decide_of c.in-Decide.m))) (sym c.log_work.ensures)
+    (subst (λ (r : Result Work Refusal). IsPlanned (perform_work sg kept) b r (answer_decide me b (decide_of c.in-Decide.m)))
+    (sym c.log_work.ensures)
     (log_planned sg kept b r (answer_decide me b (decide_of c.in-Decide.m)) (c.plan_decide.ensures.answer accepts b)))

@@ -30,7 +30,8 @@ returns-in-Some-clause-answer g c accepts book s =
     let x = recover_by me c.args.now c.args.from b t (logged_with b.logged (id t)) in
     let named = c.id_of-id.ensures ∙ ap id_of c.bytes.ensures.spelled in
     let kept = kept_next parts.leading in
-    subst (λ (r : Result Work Refusal). IsPlanned (perform_work sg kept) b r (unless_ended c.args.from b (id t) x)) (sym c.known_work.ensures)
+    subst (λ (r : Result Work Refusal). IsPlanned (perform_work sg kept) b r (unless_ended c.args.from b (id t) x))
+    (sym c.known_work.ensures)
     (known_planned sg kept b c.in-Some.planned (unless_ended c.args.from b (id t) x)
     (subst (λ (y : List ℕ). IsPlanned (perform_known sg) b c.in-Some.planned (unless_ended c.args.from b y x)) named
     (c.plan_ended.ensures.ended c.in-Some.planned c.in-Some.is sg b pen x)))

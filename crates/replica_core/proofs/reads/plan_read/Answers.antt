@@ -27,4 +27,9 @@ returns-clause-answer g c accepts book stands =
     (c.latest_committed-committed.ensures book.noted kept) (c.latest_prepared-prepared.ensures book.noted kept)
     c.in_ok-pending.ensures.words c.in_ok-pending.ensures.fronts
     ∙ ap
-    (λ (k : List ℕ). let w : ReadWork = record { key = k; time = c.args.m.now.time; client = c.args.m.now.client; pending = c.in_ok-pending.pending } in Ok (perform_read (g.S.Signer.fixed c.args.pen.now) (begun (book_of book c.args.known.now spent left)) w)) (sym c.in_ok-key.ensures)
+    (λ (k : List ℕ). let w : ReadWork = record {
+      key = k;
+      time = c.args.m.now.time;
+      client = c.args.m.now.client;
+      pending = c.in_ok-pending.pending;
+    } in Ok (perform_read (g.S.Signer.fixed c.args.pen.now) (begun (book_of book c.args.known.now spent left)) w)) (sym c.in_ok-key.ensures)

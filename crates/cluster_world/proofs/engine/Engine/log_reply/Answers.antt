@@ -25,6 +25,7 @@ returns g c = λ s st h.
     (λ f st. faulty_reply s a.place.shard a.place.index f.transaction a.logged.decision a.logged.decided a.logged.current a.client st)
     a.self.now f h c.in-Some.ensures c.replica_at-party.result c.replica_at-party.ensures u c.say.new.self c.say.result can.left refl
     (c.say.ensures s st u h (sym c.replica_at-party.ensures)
-    (subst (λ t. Says (unsaid_reply a.place.shard a.place.index t a.logged.decision a.logged.decided a.logged.current a.client) c.in_ok-lie.lie)
+    (subst (λ t. Says (unsaid_reply a.place.shard a.place.index t a.logged.decision
+    a.logged.decided a.logged.current a.client) c.in_ok-lie.lie)
     (c.view.ensures.value ∙ c.transaction.ensures.value) c.in_ok-lie.ensures.says)
     (subst (CanSay s st c.replica_at-party.result) c.in_ok-size.ensures.own.size can))

@@ -1,7 +1,8 @@
 use Rattle.std.proofs.Common.{◌∙◌, refl, sym}
 use Rattle.run_sight.specs.Sights.{sight_of}
 use Rattle.cluster_world.proofs.LyingLaws.{isnt_left}
-use Rattle.cluster_world.proofs.engine.Engine.signature_size.Goals.{else-is_faulty-via-then-is_faulty+else-has_left, else-is_faulty-via-else-is_faulty}
+use Rattle.cluster_world.proofs.engine.Engine.signature_size.Goals.{else-is_faulty-via-then-is_faulty+else-has_left}
+use Rattle.cluster_world.proofs.engine.Engine.signature_size.Goals.{else-is_faulty-via-else-is_faulty}
 use Rattle.cluster_world.proofs.engine.Engine.signature_size.Goals as goal
 
 pub returns-else-is_faulty-clause-as_run : goal.returns-else-is_faulty-clause-as_run

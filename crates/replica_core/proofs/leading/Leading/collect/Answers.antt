@@ -23,4 +23,5 @@ returns-in-Ok-clause-counted c =
     if_both c.in-Ok.proposal (λ p. IsPermutation (words_of kept c.args.id.now c.args.view) p.words.items)
     (λ p. Elects f p.words.items p.decision)
     (λ p. AreCounted (FitsWord widest) after_word (map word_value p.words.items)) c.in-Ok.ensures.same_words c.in-Ok.ensures.elects
-    (λ p same elects. proposal_counted c.args.cluster.now kept c.args.id.now c.args.view p.words.items p.decision c.n.ensures.in_range all same elects)
+    (λ p same elects. proposal_counted c.args.cluster.now kept c.args.id.now c.args.view
+    p.words.items p.decision c.n.ensures.in_range all same elects)
