@@ -24,7 +24,8 @@ use Rattle.replica_core.specs.declared.refusal.Refusal.{Refusal}
 use Rattle.replica_core.specs.declared.refusal.Refusal.TheVariants.{Exhausted}
 use Rattle.replica_core.specs.Replicas.{ReplicaSelf, Done, quiet}
 use Rattle.replica_core.specs.Signing.{exhausted, signature, vote_words}
-use Rattle.replica_core.specs.Writebacks.{end_unless_ended, end_with, outcome_done, release_all, release_entry, release_one, releases, with_outcome}
+use Rattle.replica_core.specs.Writebacks.{end_unless_ended, end_with, outcome_done, release_all, release_entry, release_one, releases}
+use Rattle.replica_core.specs.Writebacks.{with_outcome}
 use Rattle.replica_laws.specs.Steps.{Grows}
 use Rattle.replica_laws.specs.Voting.{IsAmong, ReleasedVoteAtOnce}
 use Rattle.replica_laws.proofs.Growing.{IsOpen, grows_changed, keeps_voted}

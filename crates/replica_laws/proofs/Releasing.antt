@@ -18,7 +18,8 @@ use Rattle.txn_table.specs.Tables.{changed, place_of}
 use Rattle.replica_core.specs.Known.{changed_at, with_known, outcome_with}
 use Rattle.replica_core.specs.Replicas.{ReplicaSelf, BookValue, Done, quiet}
 use Rattle.replica_core.specs.Signing.{exhausted, vote_words, signature}
-use Rattle.replica_core.specs.Writebacks.{release_all, release_one, release_entry, releases, with_outcome, outcome_done, end_with, end_unless_ended}
+use Rattle.replica_core.specs.Writebacks.{release_all, release_one, release_entry, releases, with_outcome, outcome_done, end_with}
+use Rattle.replica_core.specs.Writebacks.{end_unless_ended}
 use Rattle.replica_laws.specs.Steps.{Grows, Spends}
 use Rattle.replica_laws.proofs.Growing.{IsOpen, keeps_voted, keeps_decided, grows_same, grows_then, grows_at, grows_changed}
 use Rattle.replica_laws.proofs.Growing.{grows_known, known_or_new, other_stays}

@@ -1,9 +1,11 @@
 -- Lists of steps of one replica.
-use Rattle.std.specs.Prelude.{◌≡◌, ◌+◌, ◌≤◌, ◌++◌, ◌⊎◌, ℕ, Bool, false, List, [], ◌∷◌, Option, Some, Result, Ok, Err, filter, length, slice_get}
+use Rattle.std.specs.Prelude.{◌≡◌, ◌+◌, ◌≤◌, ◌++◌, ◌⊎◌, ℕ, Bool, false, List, [], ◌∷◌, Option, Some, Result, Ok, Err}
+use Rattle.std.specs.Prelude.{filter, length, slice_get}
 use Rattle.std.specs.Str.{bytes_eq}
 use Rattle.basil_types.specs.declared.party.Decision.{Decision}
 use Rattle.basil_types.specs.declared.party.Party.{Party}
-use Rattle.basil_types.specs.Words.{SignedWords, LogReplyOf, TransactionWords, VoteWords, ReadReplyWords, LogReplyWords, ElectionWords, ProposalWords}
+use Rattle.basil_types.specs.Words.{SignedWords, LogReplyOf, TransactionWords, VoteWords, ReadReplyWords, LogReplyWords}
+use Rattle.basil_types.specs.Words.{ElectionWords, ProposalWords}
 use Rattle.node_steps.specs.Pens.{PenValue}
 use Rattle.replica_core.specs.Answers.{answer}
 use Rattle.replica_core.specs.declared.refusal.Refusal.{Refusal}
