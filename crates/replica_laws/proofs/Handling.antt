@@ -247,7 +247,7 @@ module _ (laws : IdsTellPlaces) (ascend : ReleasedAscend) (me : ReplicaSelf) whe
   left_goes book (Ok done) h = h
   left_goes book (Err refusal) h = quiet_goes book book (grows_same book.entries) (λ p. p) refl refl
 
-  step_goes : (book : BookValue) (h : Handed) → Goes book (step me book h)
+  pub step_goes : (book : BookValue) (h : Handed) → Goes book (step me book h)
   step_goes book h = left_goes book (answers.answer me h.now h.from book h.frame) (answer_goes laws ascend me h.now h.from book h.frame)
 
   pub all_grow : (book : BookValue) (hs : List Handed) → Grows book.entries (book_after me book hs).entries

@@ -4,5 +4,6 @@ mod Viewing
 mod Going
 mod Releasing
 mod Handling
+mod Placing
 mod AtOnce
 mod AtRelease

@@ -26,7 +26,7 @@ not_same x y n = elim (cases_Bool (bytes_eq y x)) [
   | inr i ↦ i
 ]
 
-put_same : (l : LoggedEntry) (ls : List LoggedEntry) → logged_with (put_logged l ls) l.id ≡ Some l
+pub put_same : (l : LoggedEntry) (ls : List LoggedEntry) → logged_with (put_logged l ls) l.id ≡ Some l
 put_same l [] = ap (λ b. cond b (Some l) None) (same_self l.id)
 put_same l (x ∷ xs) = by (bytes_eq x.id l.id) refl (put_same l xs)
   where

@@ -1,12 +1,22 @@
 //! What every list of steps of a replica keeps, whatever the bytes of the frames.
 
+ghost use Rattle.replica_laws.specs.Placing.{WordsTakePlaces};
 ghost use Rattle.replica_laws.specs.Steps.{PlacesNeverRepeat, NothingIsForgotten, OneVoteEach, OneDecisionPerView};
 
 use txn_table::laws::{ids_tell_places, released_votes_ascend};
 
-/// Each word that is signed takes a place of the pen of its own.
+/// As many places of the pen are taken as words are signed, so no place is taken twice.
 pub fn places_never_repeat()
     ensures { PlacesNeverRepeat }
+{
+    ids_tell_places();
+    released_votes_ascend();
+}
+
+/// What a replica signs in turn takes the places of its pen in turn, each one once: the signature that the pen gives of
+/// the n-th words at the n-th place, from the book's first on, is sent or stored by the step that signs them.
+pub fn words_take_places()
+    ensures { WordsTakePlaces }
 {
     ids_tell_places();
     released_votes_ascend();
