@@ -1,5 +1,6 @@
 pub mod Walks
 pub mod VoteLaws
+pub mod CountLaws
 pub mod ReplyLaws
 pub mod TakeLaws
 pub mod MarkLaws

@@ -229,7 +229,7 @@ ended_at : (u : Pursuit) (p : PursuitValue) → StandsFor u p → is_some u.outc
 ended_at u p h some = sym (ap is_some h.outcome) ∙ some_value u.outcome ∙ some
 
 -- what stands for something, and changes nothing but what `undo` does
-same_stands : (old new : Pursuit) (p : PursuitValue) → Alike old new → new.votes.items ≡ old.votes.items → SameLogs old.logs new.logs → new.outcome ≡ old.outcome →
+same_stands : (old new : Pursuit) (p : PursuitValue) → Alike old new → new.votes ≡ old.votes → SameLogs old.logs new.logs → new.outcome ≡ old.outcome →
     StandsFor old p → StandsFor new p
 same_stands old new p a votes logs ended h =
     record {
@@ -245,7 +245,7 @@ goes_back_same new p e h =
     record {
       transaction = h.transaction;
       signature = h.signature;
-      votes = ap (λ l. votes_back l new.votes.items) e ∙ h.votes;
+      votes = ap (λ l. votes_back l new.votes) e ∙ h.votes;
       logs = subst (λ l. LogsBack l new.logs (replies_of p.taken)) (sym e) h.logs;
       outcome = ap (λ l. outcome_back l (option_map certificate_value new.outcome)) e ∙ h.outcome;
     }
@@ -258,7 +258,7 @@ alike_itself u = record { transaction = refl; signature = refl; cluster = refl }
 
 -- ---- a frame is taken and nothing is kept of it
 
-pub skips_ended : (old new : Pursuit) (x : TakenValue) → Alike old new → new.votes.items ≡ old.votes.items → SameLogs old.logs new.logs → new.outcome ≡ old.outcome →
+pub skips_ended : (old new : Pursuit) (x : TakenValue) → Alike old new → new.votes ≡ old.votes → SameLogs old.logs new.logs → new.outcome ≡ old.outcome →
     new.last ≡ last.Same → is_some old.outcome ≡ true → Takes old new x
 skips_ended old new x a votes logs ended e some =
     record {
@@ -266,8 +266,8 @@ skips_ended old new x a votes logs ended e some =
       back = λ p h. goes_back_same new p e (same_stands old new p a votes logs ended h);
     }
 
-pub skips_vote : (old new : Pursuit) (v : VotedValue) → Alike old new → new.votes.items ≡ old.votes.items → SameLogs old.logs new.logs → new.outcome ≡ old.outcome →
-    new.last ≡ last.Same → is_some old.outcome ≡ false → has_voted v.shard v.replica old.votes.items ≡ true → Takes old new (TakenVote v)
+pub skips_vote : (old new : Pursuit) (v : VotedValue) → Alike old new → new.votes ≡ old.votes → SameLogs old.logs new.logs → new.outcome ≡ old.outcome →
+    new.last ≡ last.Same → is_some old.outcome ≡ false → has_voted v.shard v.replica old.votes ≡ true → Takes old new (TakenVote v)
 skips_vote old new v a votes logs ended e none again =
     record {
       now = λ p h.
@@ -291,10 +291,10 @@ without_pushed votes v =
     let n : length (votes ++ v ∷ []) - 1 ≡ length votes = omega (arith, length-append votes (v ∷ [])) in
     ap (λ n. take n (votes ++ v ∷ [])) n ∙ take-append_seam votes (v ∷ [])
 
-pub counts_vote : (old new : Pursuit) (v : VotedValue) → Alike old new → new.votes.items ≡ old.votes.items ++ counted v ∷ [] → new.logs ≡ old.logs → new.last ≡ last.Vote →
-    old.outcome ≡ None → has_voted v.shard v.replica old.votes.items ≡ false →
+pub counts_vote : (old new : Pursuit) (v : VotedValue) → Alike old new → new.votes ≡ old.votes ++ counted v ∷ [] → new.logs ≡ old.logs → new.last ≡ last.Vote →
+    old.outcome ≡ None → has_voted v.shard v.replica old.votes ≡ false →
     option_map certificate_value new.outcome
-    ≡ or_else (fast_by old.cluster (id old.transaction) (involved old.cluster old.transaction) (old.votes.items ++ counted v ∷ [])) (conflict_by old.transaction v) →
+    ≡ or_else (fast_by old.cluster (id old.transaction) (involved old.cluster old.transaction) (old.votes ++ counted v ∷ [])) (conflict_by old.transaction v) →
     Takes old new (TakenVote v)
 counts_vote old new v a votes logs e none first ended =
     record {
@@ -308,7 +308,7 @@ counts_vote old new v a votes logs e none first ended =
             votes = votes ∙ ap (λ vs. vs ++ counted v ∷ []) h.votes ∙ sym (ap (map counted) (votes-one_more p.taken v voted) ∙ map-append counted (counted_votes p.taken) (v ∷ []));
             logs = subst (HoldsLogs new.logs) (sym (replies-of_vote p.taken v)) (subst (λ l. HoldsLogs l (replies_of p.taken)) (sym logs) h.logs);
             outcome = ended
-                ∙ ap (λ t. or_else (fast_by old.cluster (id t) (involved old.cluster t) (old.votes.items ++ counted v ∷ [])) (conflict_by t v)) h.transaction
+                ∙ ap (λ t. or_else (fast_by old.cluster (id t) (involved old.cluster t) (old.votes ++ counted v ∷ [])) (conflict_by t v)) h.transaction
                 ∙ ap (λ vs. or_else (fast_by old.cluster (id p.transaction) (involved old.cluster p.transaction) (vs ++ counted v ∷ [])) (conflict_by p.transaction v)) h.votes
                 ∙ sym (decided_by_vote old.cluster p.transaction p.taken v open_now voted)
                 ∙ ap (λ c. certificate_by c p.transaction (p.taken ++ TakenVote v ∷ [])) (sym a.cluster);
@@ -317,7 +317,7 @@ counts_vote old new v a votes logs e none first ended =
           record {
             transaction = a.transaction ∙ h.transaction;
             signature = a.signature ∙ h.signature;
-            votes = ap (λ l. votes_back l new.votes.items) e ∙ ap (λ vs. take (length vs - 1) vs) votes ∙ without_pushed old.votes.items (counted v) ∙ h.votes;
+            votes = ap (λ l. votes_back l new.votes) e ∙ ap (λ vs. take (length vs - 1) vs) votes ∙ without_pushed old.votes (counted v) ∙ h.votes;
             logs = subst (λ l. LogsBack l new.logs (replies_of p.taken)) (sym e) (subst (λ l. HoldsLogs l (replies_of p.taken)) (sym logs) h.logs);
             outcome = ap (λ l. outcome_back l (option_map certificate_value new.outcome)) e ∙ sym (ap (option_map certificate_value) none) ∙ h.outcome ∙ ap (λ c. certificate_by c p.transaction p.taken) (sym a.cluster);
           };
@@ -325,7 +325,7 @@ counts_vote old new v a votes logs e none first ended =
 
 -- ---- a log reply counts
 
-pub counts_log : (old new : Pursuit) (r : LogReplyValue) (l : LastLog) → Alike old new → new.votes.items ≡ old.votes.items →
+pub counts_log : (old new : Pursuit) (r : LogReplyValue) (l : LastLog) → Alike old new → new.votes ≡ old.votes →
     ((replies : List LogReplyValue) → HoldsLogs old.logs replies → HoldsLogs new.logs (replies ++ r ∷ [])) →
     IsBefore l old.logs new.logs → new.last ≡ last.Log l → old.outcome ≡ None →
     option_map certificate_value new.outcome ≡ logged_as old.cluster old.transaction new.logs r.decision r.decided → Takes old new (TakenLog r)
@@ -349,7 +349,7 @@ counts_log old new r l a votes held before e none ended =
           record {
             transaction = a.transaction ∙ h.transaction;
             signature = a.signature ∙ h.signature;
-            votes = ap (λ l. votes_back l new.votes.items) e ∙ votes ∙ h.votes;
+            votes = ap (λ l. votes_back l new.votes) e ∙ votes ∙ h.votes;
             logs = subst (λ l. LogsBack l new.logs (replies_of p.taken)) (sym e) (before_holds l old.logs new.logs (replies_of p.taken) before h.logs);
             outcome = ap (λ l. outcome_back l (option_map certificate_value new.outcome)) e ∙ sym (ap (option_map certificate_value) none) ∙ h.outcome ∙ ap (λ c. certificate_by c p.transaction p.taken) (sym a.cluster);
           };
@@ -357,7 +357,7 @@ counts_log old new r l a votes held before e none ended =
 
 -- ---- a certificate is the outcome
 
-pub takes_outcome : (old new : Pursuit) (x : CertificateValue) → Alike old new → new.votes.items ≡ old.votes.items → new.logs ≡ old.logs → new.last ≡ last.Outcome →
+pub takes_outcome : (old new : Pursuit) (x : CertificateValue) → Alike old new → new.votes ≡ old.votes → new.logs ≡ old.logs → new.last ≡ last.Outcome →
     is_some old.outcome ≡ false → option_map certificate_value new.outcome ≡ Some x → Takes old new (TakenCertificate x)
 takes_outcome old new x a votes logs e none ended =
     record {
@@ -376,7 +376,7 @@ takes_outcome old new x a votes logs e none ended =
           record {
             transaction = a.transaction ∙ h.transaction;
             signature = a.signature ∙ h.signature;
-            votes = ap (λ l. votes_back l new.votes.items) e ∙ votes ∙ h.votes;
+            votes = ap (λ l. votes_back l new.votes) e ∙ votes ∙ h.votes;
             logs = subst (λ l. LogsBack l new.logs (replies_of p.taken)) (sym e) (subst (λ l. HoldsLogs l (replies_of p.taken)) (sym logs) h.logs);
             outcome = ap (λ l. outcome_back l (option_map certificate_value new.outcome)) e ∙ sym (ap (option_map certificate_value) (no_item old.outcome none)) ∙ h.outcome ∙ ap (λ c. certificate_by c p.transaction p.taken) (sym a.cluster);
           };
@@ -390,7 +390,7 @@ logs_back_same last.Vote old new replies s h = held_same old new replies s h
 logs_back_same (last.Log l) old new replies s h = back_same old new l replies s h
 logs_back_same last.Outcome old new replies s h = held_same old new replies s h
 
-pub as_before : (old new : Pursuit) → Alike old new → new.votes.items ≡ old.votes.items → SameLogs old.logs new.logs → new.outcome ≡ old.outcome → new.last ≡ old.last →
+pub as_before : (old new : Pursuit) → Alike old new → new.votes ≡ old.votes → SameLogs old.logs new.logs → new.outcome ≡ old.outcome → new.last ≡ old.last →
     IsAsBefore old new
 as_before old new a votes logs ended e =
     record {
@@ -399,7 +399,7 @@ as_before old new a votes logs ended e =
           record {
             transaction = a.transaction ∙ h.transaction;
             signature = a.signature ∙ h.signature;
-            votes = ap (λ l. votes_back l new.votes.items) e ∙ ap (votes_back old.last) votes ∙ h.votes;
+            votes = ap (λ l. votes_back l new.votes) e ∙ ap (votes_back old.last) votes ∙ h.votes;
             logs = subst (λ l. LogsBack l new.logs (replies_of p.taken)) (sym e) (logs_back_same old.last old.logs new.logs (replies_of p.taken) logs h.logs);
             outcome = ap (λ l. outcome_back l (option_map certificate_value new.outcome)) e ∙ ap (λ o. outcome_back old.last (option_map certificate_value o)) ended ∙ h.outcome
                 ∙ ap (λ c. certificate_by c p.transaction p.taken) (sym a.cluster);
@@ -409,20 +409,20 @@ as_before old new a votes logs ended e =
 -- ---- what is told
 
 pub logged_stands : (u : Pursuit) (p : PursuitValue) → StandsFor u p → u.shards ≡ involved u.cluster u.transaction →
-    logged_by u.cluster u.shards u.votes.items ≡ settled u.cluster p.transaction p.taken
+    logged_by u.cluster u.shards u.votes ≡ settled u.cluster p.transaction p.taken
 logged_stands u p h shards =
-    ap (λ s. logged_by u.cluster s u.votes.items) shards
-    ∙ ap (λ t. logged_by u.cluster (involved u.cluster t) u.votes.items) h.transaction
+    ap (λ s. logged_by u.cluster s u.votes) shards
+    ∙ ap (λ t. logged_by u.cluster (involved u.cluster t) u.votes) h.transaction
     ∙ ap (λ vs. logged_by u.cluster (involved u.cluster p.transaction) vs) h.votes ∙ logged-kept u.cluster p.transaction p.taken
 
 pub voted_stands : (u : Pursuit) (p : PursuitValue) → StandsFor u p → u.shards ≡ involved u.cluster u.transaction →
-    list_all (has_all u.cluster u.votes.items) u.shards ≡ all_voted u.cluster p.transaction p.taken
+    list_all (has_all u.cluster u.votes) u.shards ≡ all_voted u.cluster p.transaction p.taken
 voted_stands u p h shards =
-    ap (λ s. list_all (has_all u.cluster u.votes.items) s) shards
-    ∙ ap (λ t. list_all (has_all u.cluster u.votes.items) (involved u.cluster t)) h.transaction
+    ap (λ s. list_all (has_all u.cluster u.votes) s) shards
+    ∙ ap (λ t. list_all (has_all u.cluster u.votes) (involved u.cluster t)) h.transaction
     ∙ ap (λ vs. list_all (has_all u.cluster vs) (involved u.cluster p.transaction)) h.votes ∙ all_voted-kept u.cluster p.transaction p.taken
 
-pub held_stands : (u : Pursuit) (p : PursuitValue) → StandsFor u p → length u.votes.items + u.logs.count ≡ replies_held p.taken
+pub held_stands : (u : Pursuit) (p : PursuitValue) → StandsFor u p → length u.votes + u.logs.count ≡ replies_held p.taken
 held_stands u p h =
     ap (λ (vs : List CountedVote). length vs + u.logs.count) h.votes ∙ ap (λ n. n + u.logs.count) (length-map (counted_votes p.taken) counted)
     ∙ ap (λ n. length (counted_votes p.taken) + n) h.logs.count
@@ -433,7 +433,7 @@ stands_back u p e h =
     record {
       transaction = h.transaction;
       signature = h.signature;
-      votes = sym (ap (λ l. votes_back l u.votes.items) e) ∙ h.votes;
+      votes = sym (ap (λ l. votes_back l u.votes) e) ∙ h.votes;
       logs = subst (λ l. LogsBack l u.logs (replies_of p.taken)) e h.logs;
       outcome = sym (ap (λ l. outcome_back l (option_map certificate_value u.outcome)) e) ∙ h.outcome;
     }
@@ -444,20 +444,20 @@ held_without u p votes is logs =
     ap (λ (vs : List CountedVote). length vs + u.logs.count) is ∙ ap (λ n. n + u.logs.count) (length-map (counted_votes p.taken) counted)
     ∙ ap (λ n. length (counted_votes p.taken) + n) logs.count
 
-pub held_back_outcome : (u : Pursuit) (p : PursuitValue) → u.last ≡ last.Outcome → GoesBackTo u p → length u.votes.items + u.logs.count ≡ replies_held p.taken
+pub held_back_outcome : (u : Pursuit) (p : PursuitValue) → u.last ≡ last.Outcome → GoesBackTo u p → length u.votes + u.logs.count ≡ replies_held p.taken
 held_back_outcome u p e h =
-    held_without u p u.votes.items (sym (ap (λ l. votes_back l u.votes.items) e) ∙ h.votes) (subst (λ l. LogsBack l u.logs (replies_of p.taken)) e h.logs)
+    held_without u p u.votes (sym (ap (λ l. votes_back l u.votes) e) ∙ h.votes) (subst (λ l. LogsBack l u.logs (replies_of p.taken)) e h.logs)
 
-pub held_back_vote : (u : Pursuit) (p : PursuitValue) → u.last ≡ last.Vote → GoesBackTo u p → (length u.votes.items - 1) + u.logs.count ≡ replies_held p.taken
+pub held_back_vote : (u : Pursuit) (p : PursuitValue) → u.last ≡ last.Vote → GoesBackTo u p → (length u.votes - 1) + u.logs.count ≡ replies_held p.taken
 held_back_vote u p e h =
-    let one_less : length (take (length u.votes.items - 1) u.votes.items) ≡ length u.votes.items - 1 = omega (arith, length-take (length u.votes.items - 1) u.votes.items) in
+    let one_less : length (take (length u.votes - 1) u.votes) ≡ length u.votes - 1 = omega (arith, length-take (length u.votes - 1) u.votes) in
     ap (λ n. n + u.logs.count) (sym one_less)
-    ∙ held_without u p (take (length u.votes.items - 1) u.votes.items) (sym (ap (λ l. votes_back l u.votes.items) e) ∙ h.votes)
+    ∙ held_without u p (take (length u.votes - 1) u.votes) (sym (ap (λ l. votes_back l u.votes) e) ∙ h.votes)
     (subst (λ l. LogsBack l u.logs (replies_of p.taken)) e h.logs)
 
-pub held_back_log : (u : Pursuit) (p : PursuitValue) (l : LastLog) → u.last ≡ last.Log l → GoesBackTo u p → length u.votes.items + (u.logs.count - 1) ≡ replies_held p.taken
+pub held_back_log : (u : Pursuit) (p : PursuitValue) (l : LastLog) → u.last ≡ last.Log l → GoesBackTo u p → length u.votes + (u.logs.count - 1) ≡ replies_held p.taken
 held_back_log u p l e h =
-    let votes : u.votes.items ≡ map counted (counted_votes p.taken) = sym (ap (λ l. votes_back l u.votes.items) e) ∙ h.votes in
+    let votes : u.votes ≡ map counted (counted_votes p.taken) = sym (ap (λ l. votes_back l u.votes) e) ∙ h.votes in
     let logs : HoldsBefore l u.logs (replies_of p.taken) = subst (λ l. LogsBack l u.logs (replies_of p.taken)) e h.logs in
     let few : u.logs.count - 1 ≡ length (replies_of p.taken) = omega (arith, logs.count) in
     ap (λ (vs : List CountedVote). length vs + (u.logs.count - 1)) votes ∙ ap (λ n. n + (u.logs.count - 1)) (length-map (counted_votes p.taken) counted)
@@ -471,7 +471,7 @@ latest_stands u p h =
     ∙ map-map as_latest reply_value (filter_map (latest_by (replies_of p.taken)) (all_replicas u.cluster))
 
 pub second_stands : (u : Pursuit) (p : PursuitValue) → StandsFor u p → u.shards ≡ involved u.cluster u.transaction → (o : Option ToLog) (l : ToLog) (m : Message) → o ≡ Some l →
-    option_map logged_value o ≡ logged_by u.cluster u.shards u.votes.items → message_value m ≡ second_stage (unstarted u.transaction u.signature) (logged_value l) →
+    option_map logged_value o ≡ logged_by u.cluster u.shards u.votes → message_value m ≡ second_stage (unstarted u.transaction u.signature) (logged_value l) →
     option_map message_value (Some m) ≡ option_map (second_stage p) (settled u.cluster p.transaction p.taken)
 second_stands u p h shards o l m is logged told =
     ap Some
@@ -479,7 +479,7 @@ second_stands u p h shards o l m is logged told =
     ∙ ap (option_map (second_stage p)) (sym (ap (option_map logged_value) is) ∙ logged ∙ logged_stands u p h shards)
 
 pub no_second : (u : Pursuit) (p : PursuitValue) → StandsFor u p → u.shards ≡ involved u.cluster u.transaction → (o : Option ToLog) → o ≡ None →
-    option_map logged_value o ≡ logged_by u.cluster u.shards u.votes.items → None ≡ option_map (second_stage p) (settled u.cluster p.transaction p.taken)
+    option_map logged_value o ≡ logged_by u.cluster u.shards u.votes → None ≡ option_map (second_stage p) (settled u.cluster p.transaction p.taken)
 no_second u p h shards o is logged =
     ap (option_map (second_stage p)) (sym (ap (option_map logged_value) is) ∙ logged ∙ logged_stands u p h shards)
 
@@ -516,7 +516,7 @@ no_outcome_back u p h none = ap (option_map decided_by) (sym none ∙ h.outcome)
 
 -- ---- undone
 
-undone : (old new : Pursuit) (p : PursuitValue) → Alike old new → GoesBackTo old p → new.votes.items ≡ votes_back old.last old.votes.items →
+undone : (old new : Pursuit) (p : PursuitValue) → Alike old new → GoesBackTo old p → new.votes ≡ votes_back old.last old.votes →
     HoldsLogs new.logs (replies_of p.taken) → option_map certificate_value new.outcome ≡ outcome_back old.last (option_map certificate_value old.outcome) → StandsFor new p
 undone old new p a h votes logs ended =
     record {
@@ -527,31 +527,31 @@ undone old new p a h votes logs ended =
       outcome = ended ∙ h.outcome ∙ ap (λ c. certificate_by c p.transaction p.taken) (sym a.cluster);
     }
 
-pub undoes_same : (old new : Pursuit) (p : PursuitValue) → old.last ≡ last.Same → Alike old new → new.votes.items ≡ old.votes.items → new.logs ≡ old.logs →
+pub undoes_same : (old new : Pursuit) (p : PursuitValue) → old.last ≡ last.Same → Alike old new → new.votes ≡ old.votes → new.logs ≡ old.logs →
     new.outcome ≡ old.outcome → GoesBackTo old p → StandsFor new p
 undoes_same old new p e a votes logs ended h =
-    undone old new p a h (votes ∙ sym (ap (λ l. votes_back l old.votes.items) e))
+    undone old new p a h (votes ∙ sym (ap (λ l. votes_back l old.votes) e))
     (subst (λ l. HoldsLogs l (replies_of p.taken)) (sym logs) (subst (λ l. LogsBack l old.logs (replies_of p.taken)) e h.logs))
     (ap (option_map certificate_value) ended ∙ sym (ap (λ l. outcome_back l (option_map certificate_value old.outcome)) e))
 
-pub undoes_vote : (old new : Pursuit) (p : PursuitValue) → old.last ≡ last.Vote → Alike old new → new.votes.items ≡ take (length old.votes.items - 1) old.votes.items →
+pub undoes_vote : (old new : Pursuit) (p : PursuitValue) → old.last ≡ last.Vote → Alike old new → new.votes ≡ take (length old.votes - 1) old.votes →
     new.logs ≡ old.logs → new.outcome ≡ None → GoesBackTo old p → StandsFor new p
 undoes_vote old new p e a votes logs ended h =
-    undone old new p a h (votes ∙ sym (ap (λ l. votes_back l old.votes.items) e))
+    undone old new p a h (votes ∙ sym (ap (λ l. votes_back l old.votes) e))
     (subst (λ l. HoldsLogs l (replies_of p.taken)) (sym logs) (subst (λ l. LogsBack l old.logs (replies_of p.taken)) e h.logs))
     (ap (option_map certificate_value) ended ∙ sym (ap (λ l. outcome_back l (option_map certificate_value old.outcome)) e))
 
-pub undoes_log : (old new : Pursuit) (p : PursuitValue) (l : LastLog) → old.last ≡ last.Log l → Alike old new → new.votes.items ≡ old.votes.items →
+pub undoes_log : (old new : Pursuit) (p : PursuitValue) (l : LastLog) → old.last ≡ last.Log l → Alike old new → new.votes ≡ old.votes →
     ((replies : List LogReplyValue) → HoldsBefore l old.logs replies → HoldsLogs new.logs replies) → new.outcome ≡ None → GoesBackTo old p → StandsFor new p
 undoes_log old new p l e a votes logs ended h =
-    undone old new p a h (votes ∙ sym (ap (λ l. votes_back l old.votes.items) e))
+    undone old new p a h (votes ∙ sym (ap (λ l. votes_back l old.votes) e))
     (logs (replies_of p.taken) (subst (λ l. LogsBack l old.logs (replies_of p.taken)) e h.logs))
     (ap (option_map certificate_value) ended ∙ sym (ap (λ l. outcome_back l (option_map certificate_value old.outcome)) e))
 
-pub undoes_outcome : (old new : Pursuit) (p : PursuitValue) → old.last ≡ last.Outcome → Alike old new → new.votes.items ≡ old.votes.items → new.logs ≡ old.logs →
+pub undoes_outcome : (old new : Pursuit) (p : PursuitValue) → old.last ≡ last.Outcome → Alike old new → new.votes ≡ old.votes → new.logs ≡ old.logs →
     new.outcome ≡ None → GoesBackTo old p → StandsFor new p
 undoes_outcome old new p e a votes logs ended h =
-    undone old new p a h (votes ∙ sym (ap (λ l. votes_back l old.votes.items) e))
+    undone old new p a h (votes ∙ sym (ap (λ l. votes_back l old.votes) e))
     (subst (λ l. HoldsLogs l (replies_of p.taken)) (sym logs) (subst (λ l. LogsBack l old.logs (replies_of p.taken)) e h.logs))
     (ap (option_map certificate_value) ended ∙ sym (ap (λ l. outcome_back l (option_map certificate_value old.outcome)) e))
 

@@ -5,6 +5,7 @@ pub mod Pursuits
 pub mod Faults
 pub mod Frames
 pub mod Kept
+pub mod Counts
 pub mod Replies
 pub mod Quorums
 pub mod Owned

@@ -20,7 +20,7 @@ use Rattle.client_recover.specs.Replies.{HoldsLogs, HoldsBefore}
 pub record StandsFor (u : Pursuit) (p : PursuitValue) : Type 0 where
   pub transaction : u.transaction ≡ p.transaction
   pub signature : u.signature ≡ p.signature
-  pub votes : u.votes.items ≡ map counted (counted_votes p.taken)
+  pub votes : u.votes ≡ map counted (counted_votes p.taken)
   pub logs : HoldsLogs u.logs (replies_of p.taken)
   pub outcome : option_map certificate_value u.outcome ≡ certificate_by u.cluster p.transaction p.taken
 
@@ -48,7 +48,7 @@ outcome_back last.Outcome outcome = None
 pub record GoesBackTo (u : Pursuit) (p : PursuitValue) : Type 0 where
   pub transaction : u.transaction ≡ p.transaction
   pub signature : u.signature ≡ p.signature
-  pub votes : votes_back u.last u.votes.items ≡ map counted (counted_votes p.taken)
+  pub votes : votes_back u.last u.votes ≡ map counted (counted_votes p.taken)
   pub logs : LogsBack u.last u.logs (replies_of p.taken)
   pub outcome :
       outcome_back u.last (option_map certificate_value u.outcome) ≡ certificate_by u.cluster p.transaction p.taken

@@ -9,7 +9,7 @@ ghost use Rattle.client_recover.specs.Certifying.{conflict_by, conflict_with};
 ghost use Rattle.client_recover.specs.Kept.{fast_by, fast_commit_by, fast_abort_of};
 
 use crate::tallies::{tallies, tally};
-use crate::votes::{CountedVote, each_enough, lowest_enough};
+use crate::votes::Votes;
 use basil_types::bytes::Bytes;
 use basil_types::cluster::Cluster;
 use basil_types::memory::NoMemory;
@@ -25,16 +25,16 @@ fn fast_commit(
     cluster: &Cluster,
     id: &[u8; 32],
     shards: &[u8],
-    votes: &[CountedVote],
+    votes: &Votes,
 ) -> Result<Option<Certificate>, NoMemory>
     ensures { IfOk result (λ o.
         option_map certificate_value o ≡ fast_commit_by cluster.now id.now shards.now votes.now) }
 {
     let needed = cluster.fast_commit();
-    if !each_enough(shards, votes, Decision::Commit, needed) {
+    if !votes.each_enough(shards, Decision::Commit, needed) {
         return Ok(None);
     }
-    let tallies = tallies(alloc, cluster, shards, votes, Decision::Commit, needed)?;
+    let tallies = tallies(alloc, cluster, shards, votes.as_slice(), Decision::Commit, needed)?;
     Ok(Some(Certificate {
         id: *id,
         body: CertificateBody::FastCommit { tallies },
@@ -46,7 +46,7 @@ fn fast_abort(
     alloc: Global,
     cluster: &Cluster,
     id: &[u8; 32],
-    votes: &[CountedVote],
+    votes: &Votes,
     lowest: Option<u8>,
 ) -> Result<Option<Certificate>, NoMemory>
     ensures { IfOk result (λ o.
@@ -55,7 +55,7 @@ fn fast_abort(
     match lowest {
         Some(shard) => {
             let needed = cluster.fast_abort();
-            let tally = tally(alloc, cluster, votes, Decision::Abort, needed, shard)?;
+            let tally = tally(alloc, cluster, votes.as_slice(), Decision::Abort, needed, shard)?;
             Ok(Some(Certificate {
                 id: *id,
                 body: CertificateBody::FastAbort {
@@ -74,14 +74,14 @@ pub(crate) fn fast(
     cluster: &Cluster,
     id: &[u8; 32],
     shards: &[u8],
-    votes: &[CountedVote],
+    votes: &Votes,
 ) -> Result<Option<Certificate>, NoMemory>
     ensures { IfOk result (λ o. option_map certificate_value o ≡ fast_by cluster.now id.now shards.now votes.now) }
 {
     match fast_commit(alloc, cluster, id, shards, votes)? {
         Some(certificate) => Ok(Some(certificate)),
         None => {
-            let lowest = lowest_enough(shards, votes, Decision::Abort, cluster.fast_abort());
+            let lowest = votes.lowest_enough(shards, Decision::Abort, cluster.fast_abort());
             fast_abort(alloc, cluster, id, votes, lowest)
         }
     }

@@ -3,6 +3,7 @@
 #![tactic(auto)]
 
 mod checks;
+mod counts;
 mod fast;
 mod involved;
 mod logs;

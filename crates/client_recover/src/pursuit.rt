@@ -1,6 +1,6 @@
 //! The pursuit of a transaction.
 
-ghost use Rattle.std.specs.Prelude.{◌≡◌, ◌+◌, ◌<◌, ◌^◌, [], None, vec_len};
+ghost use Rattle.std.specs.Prelude.{◌≡◌, ◌+◌, ◌<◌, ◌^◌, [], None, length};
 ghost use Rattle.basil_types.specs.Transaction as transactions;
 ghost use Rattle.certificates.specs.Deciding.{HasGoodForm};
 ghost use Rattle.certificates.specs.Refusals as refusals;
@@ -15,7 +15,7 @@ use crate::fast::{conflict, fast};
 use crate::involved::Involved;
 use crate::logs::{LastLog, Logs};
 use crate::second::{ToLog, decision_by, logged};
-use crate::votes::{CountedVote, each_has_all, has_voted};
+use crate::votes::{CountedVote, Votes, has_voted};
 use basil_types::bytes::{Bytes, id_of};
 use basil_types::cluster::Cluster;
 use basil_types::memory::NoMemory;
@@ -54,7 +54,7 @@ pub struct Pursuit {
     signature: Bytes,
     id: [u8; 32],
     shards: Involved,
-    votes: Vec<CountedVote>,
+    votes: Votes,
     logs: Logs,
     outcome: Option<Certificate>,
     last: Last,
@@ -62,15 +62,15 @@ pub struct Pursuit {
     ghost signed: { IsSignature signature },
     ghost named: { id ≡ transactions.id transaction },
     ghost involves: { shards ≡ places.involved cluster transaction },
-    ghost few: { vec_len votes + logs.count < 2 ^ 32 },
-    ghost votes_signed: { AreSigned votes.items },
+    ghost few: { length votes + logs.count < 2 ^ 32 },
+    ghost votes_signed: { AreSigned votes },
     ghost logs_sound: { AreSound logs },
     ghost last_sound: { IsSoundLast last },
     ghost outcome_fits: { FitsOutcome outcome } by { FitsOutcome-prop outcome },
 }
 
 impl Pursuit {
-    ghost use Rattle.std.specs.Prelude.{◌≢◌, ◌∷◌, Bool, false, Some, Err, IfOk, IfSome, OnOk, OnErr, IfErr, is_some, option_map, length, if◌then◌else◌, ◌==◌};
+    ghost use Rattle.std.specs.Prelude.{◌≢◌, ◌∷◌, Bool, false, Some, Err, IfOk, IfSome, OnOk, OnErr, IfErr, is_some, option_map, if◌then◌else◌, ◌==◌};
     ghost use Rattle.std.specs.Option.{ForSome};
     ghost use Rattle.std.specs.Str.{bytes_eq};
     ghost use Rattle.basil_types.specs.Built.{or_else};
@@ -121,7 +121,7 @@ impl Pursuit {
             signature,
             id,
             shards,
-            votes: Vec::new(alloc),
+            votes: Votes::new(alloc),
             logs: Logs::new(alloc),
             outcome: None,
             last: Last::Same,
@@ -226,7 +226,7 @@ impl Pursuit {
         match mem::replace(&mut self.last, Last::Same) {
             Last::Same => {}
             Last::Vote => {
-                let _ = self.votes.pop();
+                self.votes.pop();
                 self.outcome = None;
             }
             Last::Log(last) => {
@@ -243,7 +243,7 @@ impl Pursuit {
         ensures { (p : PursuitValue) → StandsFor self.now p →
             result ≡ option_map (λ l. l.decision) (certifying.settled self.now.cluster p.transaction p.taken) }
     {
-        decision_by(&self.cluster, self.shards.as_slice(), self.votes.as_slice())
+        decision_by(&self.cluster, self.shards.as_slice(), &self.votes)
     }
 
     /// The message of the second stage, with the tallies of the lowest voters, or want of memory. None exactly where
@@ -259,7 +259,7 @@ impl Pursuit {
             self.alloc,
             &self.cluster,
             self.shards.as_slice(),
-            self.votes.as_slice(),
+            &self.votes,
         )?;
         match to_log {
             Some(to_log) => {
@@ -291,7 +291,7 @@ impl Pursuit {
         ensures { (p : PursuitValue) → StandsFor self.now p →
             result ≡ certifying.all_voted self.now.cluster p.transaction p.taken }
     {
-        each_has_all(&self.cluster, self.shards.as_slice(), self.votes.as_slice())
+        self.votes.each_has_all(&self.cluster, self.shards.as_slice())
     }
 
     /// How many votes count, and log replies were taken, together.
@@ -379,7 +379,7 @@ impl Pursuit {
 
     /// A second stage that the votes allow has a spelling.
     fn seconds_fit(&self)
-        ensures { ForSome (logged_by self.now.cluster self.now.shards self.now.votes.items)
+        ensures { ForSome (logged_by self.now.cluster self.now.shards self.now.votes)
             (λ l. FitsMessage widest (second_stage (unstarted self.now.transaction self.now.signature) l)) }
     {
         let _ = self.cluster.n();
@@ -398,7 +398,7 @@ impl Pursuit {
     /// What the votes decide has a spelling, where this is the last of them.
     fn decided_fits(&self, vote: &VoteView<'_>)
         requires { FitsVoted (bounds_of self.now.cluster) (voted_of vote.now) }
-        ensures { ForSome (or_else (fast_by self.now.cluster self.now.id self.now.shards self.now.votes.items)
+        ensures { ForSome (or_else (fast_by self.now.cluster self.now.id self.now.shards self.now.votes)
             (conflict_by self.now.transaction (voted_of vote.now))) (FitsCertificate widest) }
     {
         let _ = self.cluster.n();
@@ -460,8 +460,7 @@ impl Pursuit {
 
     /// How many votes and log replies are counted.
     fn count(&self) -> u32
-        ensures value { result ≡ vec_len self.now.votes + self.now.logs.count }
-        ensures listed { result ≡ length self.now.votes.items + self.now.logs.count }
+        ensures { result ≡ length self.now.votes + self.now.logs.count }
     {
         self.votes.len() as u32 + self.logs.count()
     }
@@ -524,7 +523,7 @@ impl Pursuit {
     fn count_vote(&mut self, vote: &VoteView<'_>) -> Result<(), NoMemory>
         requires open { self.old.outcome ≡ None }
         requires first { kept.has_voted (voted_of vote.now).shard
-            (voted_of vote.now).replica self.old.votes.items ≡ false }
+            (voted_of vote.now).replica self.old.votes ≡ false }
         requires fits { FitsVoted (bounds_of self.old.cluster) (voted_of vote.now) }
         ensures taken { OnOk result (Takes self.old self.new (TakenVote (voted_of vote.now))) }
         ensures as_before { OnErr result (IsAsBefore self.old self.new) }
@@ -539,6 +538,7 @@ impl Pursuit {
             decision: vote.decision,
             signature: Bytes::copy_of(self.alloc, vote.signature)?,
         };
+        let _ = self.cluster.n();
         self.votes.push(counted)?;
         self.decided_fits(vote);
         match self.decided_by(vote) {
@@ -548,7 +548,7 @@ impl Pursuit {
                 Ok(())
             }
             Err(refused) => {
-                let _ = self.votes.pop();
+                self.votes.pop();
                 Err(refused)
             }
         }
@@ -557,7 +557,7 @@ impl Pursuit {
     /// What the votes that count decide, where this is the last of them.
     fn decided_by(&self, vote: &VoteView<'_>) -> Result<Option<Certificate>, NoMemory>
         ensures { IfOk result (λ o. option_map certificate_value o ≡ or_else
-            (fast_by self.now.cluster self.now.id self.now.shards self.now.votes.items)
+            (fast_by self.now.cluster self.now.id self.now.shards self.now.votes)
             (conflict_by self.now.transaction (voted_of vote.now))) }
     {
         let decided = fast(
@@ -565,7 +565,7 @@ impl Pursuit {
             &self.cluster,
             &self.id,
             self.shards.as_slice(),
-            self.votes.as_slice(),
+            &self.votes,
         )?;
         match decided {
             Some(certificate) => Ok(Some(certificate)),

@@ -6,7 +6,7 @@ ghost use Rattle.client_recover.specs.Kept.{logged_by};
 ghost use Rattle.client_recover.specs.Owned.{logged_value};
 
 use crate::tallies::{tallies, tally};
-use crate::votes::{CountedVote, each_enough, lowest_enough};
+use crate::votes::Votes;
 use basil_types::cluster::Cluster;
 use basil_types::list::List;
 use basil_types::memory::NoMemory;
@@ -26,14 +26,14 @@ pub struct ToLog {
 pub(crate) fn decision_by(
     cluster: &Cluster,
     shards: &[u8],
-    votes: &[CountedVote],
+    votes: &Votes,
 ) -> Option<Decision>
     ensures { result ≡ option_map (λ l. l.decision) (logged_by cluster.now shards.now votes.now) }
 {
-    if each_enough(shards, votes, Decision::Commit, cluster.commit_tally()) {
+    if votes.each_enough(shards, Decision::Commit, cluster.commit_tally()) {
         return Some(Decision::Commit);
     }
-    match lowest_enough(shards, votes, Decision::Abort, cluster.abort_tally()) {
+    match votes.lowest_enough(shards, Decision::Abort, cluster.abort_tally()) {
         Some(_) => Some(Decision::Abort),
         None => None,
     }
@@ -44,17 +44,17 @@ fn commit_logged(
     alloc: Global,
     cluster: &Cluster,
     shards: &[u8],
-    votes: &[CountedVote],
+    votes: &Votes,
 ) -> Result<Option<ToLog>, NoMemory>
     ensures { IfOk result (λ o. option_map logged_value o ≡ kept.commit_logged cluster.now shards.now votes.now) }
 {
     let needed = cluster.commit_tally();
-    if !each_enough(shards, votes, Decision::Commit, needed) {
+    if !votes.each_enough(shards, Decision::Commit, needed) {
         return Ok(None);
     }
     Ok(Some(ToLog {
         decision: Decision::Commit,
-        tallies: tallies(alloc, cluster, shards, votes, Decision::Commit, needed)?,
+        tallies: tallies(alloc, cluster, shards, votes.as_slice(), Decision::Commit, needed)?,
     }))
 }
 
@@ -62,7 +62,7 @@ fn commit_logged(
 fn abort_logged(
     alloc: Global,
     cluster: &Cluster,
-    votes: &[CountedVote],
+    votes: &Votes,
     lowest: Option<u8>,
 ) -> Result<Option<ToLog>, NoMemory>
     ensures { IfOk result (λ o. option_map logged_value o ≡ kept.abort_logged cluster.now votes.now lowest) }
@@ -71,7 +71,7 @@ fn abort_logged(
         Some(shard) => {
             let needed = cluster.abort_tally();
             let mut list = Vec::new(alloc);
-            list.push(tally(alloc, cluster, votes, Decision::Abort, needed, shard)?)?;
+            list.push(tally(alloc, cluster, votes.as_slice(), Decision::Abort, needed, shard)?)?;
             Ok(Some(ToLog {
                 decision: Decision::Abort,
                 tallies: List::from_vec(list),
@@ -86,14 +86,14 @@ pub(crate) fn logged(
     alloc: Global,
     cluster: &Cluster,
     shards: &[u8],
-    votes: &[CountedVote],
+    votes: &Votes,
 ) -> Result<Option<ToLog>, NoMemory>
     ensures { IfOk result (λ o. option_map logged_value o ≡ logged_by cluster.now shards.now votes.now) }
 {
     match commit_logged(alloc, cluster, shards, votes)? {
         Some(logged) => Ok(Some(logged)),
         None => {
-            let lowest = lowest_enough(shards, votes, Decision::Abort, cluster.abort_tally());
+            let lowest = votes.lowest_enough(shards, Decision::Abort, cluster.abort_tally());
             abort_logged(alloc, cluster, votes, lowest)
         }
     }

@@ -1,17 +1,17 @@
 //! The votes that count: the first of each replica.
 
-ghost use Rattle.std.specs.Prelude.{◌≡◌, length, filter, find};
-ghost use Rattle.std.specs.Prelude.{◌&&◌, ◌==◌};
-ghost use Rattle.std.specs.List.{list_all};
+ghost use Rattle.std.specs.Prelude.{◌≡◌, find, ◌&&◌, ◌==◌};
 ghost use Rattle.std.specs.Option.{option_copied};
-ghost use Rattle.basil_types.specs.Decision as decisions;
 ghost use Rattle.client_recover.specs.Kept as kept;
-ghost use Rattle.client_recover.specs.Kept.{is_so, votes_so, has_all, are_enough};
-ghost use Rattle.node_steps.specs.Lists.{first_with};
+ghost use Rattle.client_recover.specs.Kept.{is_so};
 
+use crate::counts::{count_of, lower, raise};
 use basil_types::bytes::Bytes;
 use basil_types::cluster::Cluster;
+use basil_types::memory::NoMemory;
 use basil_types::party::{Decision, same_decision};
+use std::alloc::Global;
+use std::marker::Model;
 
 /// The first vote of a replica of a shard.
 #[derive(Drop)]
@@ -31,37 +31,6 @@ pub(crate) fn has_voted(votes: &[CountedVote], shard: u8, replica: u8) -> bool
         .any(|vote| shard == vote.shard && replica == vote.replica)
 }
 
-/// How many of these are votes of this shard for this decision.
-fn count_so(votes: &[CountedVote], shard: u8, decision: Decision) -> usize
-    ensures { result ≡ length (votes_so votes.now decision shard) }
-{
-    votes
-        .iter()
-        .filter(|vote| vote.shard == shard && same_decision(vote.decision, decision))
-        .count()
-}
-
-/// Whether at least so many of these are votes of this shard for this decision.
-pub(crate) fn are_enough(votes: &[CountedVote], decision: Decision, needed: u8, shard: u8) -> bool
-    ensures { result ≡ kept.are_enough votes.now decision needed shard }
-{
-    usize::from(needed) <= count_so(votes, shard, decision)
-}
-
-/// How many of these are votes of this shard.
-fn count_in(votes: &[CountedVote], shard: u8) -> usize
-    ensures { result ≡ length (filter (λ (v : CountedVote). v.shard == shard) votes.now) }
-{
-    votes.iter().filter(|vote| vote.shard == shard).count()
-}
-
-/// Whether at least as many of these as a shard has replicas are votes of this shard.
-fn has_all(cluster: &Cluster, votes: &[CountedVote], shard: u8) -> bool
-    ensures { result ≡ kept.has_all cluster.now votes.now shard }
-{
-    usize::from(cluster.n()) <= count_in(votes, shard)
-}
-
 /// The first of these votes that is of this replica of this shard, for this decision.
 pub(crate) fn vote_by(
     votes: &[CountedVote],
@@ -77,38 +46,149 @@ pub(crate) fn vote_by(
     })
 }
 
-/// Whether each of these shards has so many votes for this decision.
-pub(crate) fn each_enough(
-    shards: &[u8],
-    votes: &[CountedVote],
-    decision: Decision,
-    needed: u8,
-) -> bool
-    ensures { result ≡ kept.each_enough shards.now votes.now decision needed }
-{
-    shards
-        .iter()
-        .all(|shard| are_enough(votes, decision, needed, *shard))
+/// The votes that count, and of each shard how many of them are for either decision.
+#[derive(Drop)]
+pub struct Votes {
+    list: Vec<CountedVote>,
+    commits: [u32; 8],
+    aborts: [u32; 8],
 }
 
-/// The first of these shards that has so many votes for this decision.
-pub(crate) fn lowest_enough(
-    shards: &[u8],
-    votes: &[CountedVote],
-    decision: Decision,
-    needed: u8,
-) -> Option<u8>
-    ensures { result ≡ kept.lowest_enough shards.now votes.now decision needed }
-{
-    shards
-        .iter()
-        .copied()
-        .find(|shard| are_enough(votes, decision, needed, *shard))
+impl Model for Votes {
+    ghost use Rattle.std.specs.Prelude.{List};
+    ghost use Rattle.client_recover.specs.Counts.{CountsOf};
+    ghost use Rattle.basil_types.specs.declared.party.Decision.TheVariants.{Commit, Abort};
+    ghost use Rattle.client_recover.specs.declared.votes.CountedVote.{CountedVote};
+
+    ghost Value = { List CountedVote };
+
+    ghost view = { λ v. v.list.items };
+
+    ghost invariant = { λ v. CountsOf Commit v.list.items v.commits × CountsOf Abort v.list.items v.aborts };
 }
 
-/// Whether each of these shards has as many votes as replicas.
-pub(crate) fn each_has_all(cluster: &Cluster, shards: &[u8], votes: &[CountedVote]) -> bool
-    ensures { result ≡ list_all (kept.has_all cluster.now votes.now) shards.now }
-{
-    shards.iter().all(|shard| has_all(cluster, votes, *shard))
+impl Votes {
+    ghost use Rattle.std.specs.Prelude.{◌+◌, ◌-◌, ◌<◌, ◌^◌, [], ◌∷◌, ◌++◌, OnOk, OnErr, length, filter, take};
+    ghost use Rattle.std.specs.List.{list_all};
+    ghost use Rattle.client_recover.specs.declared.votes.CountedVote.{CountedVote};
+    ghost use Rattle.client_recover.specs.Kept.{votes_so};
+
+    /// No vote. Takes no memory.
+    pub(crate) fn new(alloc: Global) -> Votes
+        ensures { result ≡ [] }
+    {
+        Votes {
+            list: Vec::new(alloc),
+            commits: [0; 8],
+            aborts: [0; 8],
+        }
+    }
+
+    /// The votes.
+    pub(crate) fn as_slice(&self) -> &[CountedVote]
+        ensures { result.now ≡ self.now }
+    {
+        self.list.as_slice()
+    }
+
+    /// How many there are.
+    pub(crate) fn len(&self) -> usize
+        ensures { result ≡ length self.now }
+    {
+        self.list.len()
+    }
+
+    /// Counts a vote, the last of them.
+    pub(crate) fn push(&mut self, vote: CountedVote) -> Result<(), NoMemory>
+        requires place { vote.shard < 8 }
+        requires few { length self.old + 1 < 2 ^ 32 }
+        ensures pushed { OnOk result (self.new ≡ self.old ++ vote ∷ []) }
+        ensures as_before { OnErr result (self.new ≡ self.old) }
+    {
+        let shard = vote.shard;
+        let decision = vote.decision;
+        self.list.push(vote)?;
+        match decision {
+            Decision::Commit => raise(&mut self.commits, shard),
+            Decision::Abort => raise(&mut self.aborts, shard),
+        }
+        Ok(())
+    }
+
+    /// Takes the last vote back. Takes no memory.
+    pub(crate) fn pop(&mut self)
+        ensures { self.new ≡ take (length self.old - 1) self.old }
+    {
+        match self.list.pop() {
+            Some(vote) => match vote.decision {
+                Decision::Commit => lower(&mut self.commits, vote.shard),
+                Decision::Abort => lower(&mut self.aborts, vote.shard),
+            },
+            None => {}
+        }
+    }
+
+    /// How many are votes of this shard for this decision.
+    fn count_so(&self, decision: Decision, shard: u8) -> u32
+        ensures { result ≡ length (votes_so self.now decision shard) }
+    {
+        match decision {
+            Decision::Commit => count_of(&self.commits, shard),
+            Decision::Abort => count_of(&self.aborts, shard),
+        }
+    }
+
+    /// Whether at least so many are votes of this shard for this decision.
+    fn are_enough(&self, decision: Decision, needed: u8, shard: u8) -> bool
+        ensures { result ≡ kept.are_enough self.now decision needed shard }
+    {
+        u32::from(needed) <= self.count_so(decision, shard)
+    }
+
+    /// How many are votes of this shard.
+    fn count_in(&self, shard: u8) -> u64
+        ensures { result ≡ length (filter (λ (v : CountedVote). v.shard == shard) self.now) }
+    {
+        let commits = self.count_so(Decision::Commit, shard);
+        let aborts = self.count_so(Decision::Abort, shard);
+        u64::from(commits) + u64::from(aborts)
+    }
+
+    /// Whether at least as many as a shard has replicas are votes of this shard.
+    fn has_all(&self, cluster: &Cluster, shard: u8) -> bool
+        ensures { result ≡ kept.has_all cluster.now self.now shard }
+    {
+        u64::from(cluster.n()) <= self.count_in(shard)
+    }
+
+    /// Whether each of these shards has so many votes for this decision.
+    pub(crate) fn each_enough(&self, shards: &[u8], decision: Decision, needed: u8) -> bool
+        ensures { result ≡ kept.each_enough shards.now self.now decision needed }
+    {
+        shards
+            .iter()
+            .all(|shard| self.are_enough(decision, needed, *shard))
+    }
+
+    /// The first of these shards that has so many votes for this decision.
+    pub(crate) fn lowest_enough(
+        &self,
+        shards: &[u8],
+        decision: Decision,
+        needed: u8,
+    ) -> Option<u8>
+        ensures { result ≡ kept.lowest_enough shards.now self.now decision needed }
+    {
+        shards
+            .iter()
+            .copied()
+            .find(|shard| self.are_enough(decision, needed, *shard))
+    }
+
+    /// Whether each of these shards has as many votes as replicas.
+    pub(crate) fn each_has_all(&self, cluster: &Cluster, shards: &[u8]) -> bool
+        ensures { result ≡ list_all (kept.has_all cluster.now self.now) shards.now }
+    {
+        shards.iter().all(|shard| self.has_all(cluster, *shard))
+    }
 }

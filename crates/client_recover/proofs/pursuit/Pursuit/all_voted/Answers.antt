@@ -8,5 +8,5 @@ pub returns : goal.returns
 returns c p h =
     let u = c.args.self.now in
     c.each_has_all.ensures
-    ∙ ap (λ s. list_all (has_all u.cluster c.as_slice-2.result.now) s) c.as_slice.ensures ∙ ap (λ vs. list_all (has_all u.cluster vs) u.shards) c.as_slice-2.ensures.value
+    ∙ ap (λ s. list_all (has_all u.cluster u.votes) s) c.as_slice.ensures
     ∙ voted_stands u p h u.involves

@@ -10,7 +10,7 @@ use Rattle.client_recover.proofs.pursuit.Pursuit.decided_by.Goals as goal
 pub returns-in-None : goal.returns-in-None
 returns-in-None c =
     let u = c.args.self.now in
-    none_then c.conflict.result (fast_by u.cluster u.id u.shards u.votes.items) (conflict_by u.transaction (voted_of c.args.vote.now))
-    (ap (λ s. fast_by u.cluster u.id s u.votes.items) (sym c.as_slice.ensures) ∙ ap (λ vs. fast_by u.cluster u.id c.as_slice.result.now vs) (sym c.as_slice-2.ensures.value)
+    none_then c.conflict.result (fast_by u.cluster u.id u.shards u.votes) (conflict_by u.transaction (voted_of c.args.vote.now))
+    (ap (λ s. fast_by u.cluster u.id s u.votes) (sym c.as_slice.ensures)
     ∙ sym c.in_ok-decided.ensures ∙ ap (option_map certificate_value) c.in-None.is)
     (c.conflict.ensures u.transaction u.named)

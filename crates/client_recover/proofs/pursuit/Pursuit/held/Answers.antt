@@ -3,4 +3,4 @@ use Rattle.client_recover.proofs.TakeLaws.{held_stands}
 use Rattle.client_recover.proofs.pursuit.Pursuit.held.Goals as goal
 
 pub returns : goal.returns
-returns c p h = c.count.ensures.listed ∙ held_stands c.args.self.now p h
+returns c p h = c.count.ensures ∙ held_stands c.args.self.now p h

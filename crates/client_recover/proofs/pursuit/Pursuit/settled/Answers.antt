@@ -10,4 +10,4 @@ returns c p h =
     let u = c.args.self.now in
     c.decision_by.ensures
     ∙ ap (option_map (λ (l : LogsValue). l.decision))
-    (ap (λ s. logged_by u.cluster s c.as_slice-2.result.now) c.as_slice.ensures ∙ ap (λ vs. logged_by u.cluster u.shards vs) c.as_slice-2.ensures.value ∙ logged_stands u p h u.involves)
+    (ap (λ s. logged_by u.cluster s u.votes) c.as_slice.ensures ∙ logged_stands u p h u.involves)

@@ -12,4 +12,4 @@ pub returns-then-has_voted-clause-taken : goal.returns-then-has_voted-clause-tak
 returns-then-has_voted-clause-taken c =
     let v = voted_of c.args.vote.now in
     skips_vote c.args.self.now _ v (record { transaction = refl; signature = refl; cluster = refl }) refl (same_itself c.args.self.now.logs) refl refl (sym c.is_decided.ensures ∙ c.if-is_decided.false)
-    (ap (has_voted v.shard v.replica) (sym c.as_slice.ensures.value) ∙ sym c.has_voted.ensures ∙ c.if-has_voted.true)
+    (ap (has_voted v.shard v.replica) (sym c.as_slice.ensures) ∙ sym c.has_voted.ensures ∙ c.if-has_voted.true)
