@@ -1,5 +1,6 @@
 -- What a client decides by the frames that it took, and what it would log (Basil, stages 1 and 2).
-use Rattle.std.specs.Prelude.{ℕ, List, [], ◌∷◌, Bool, Option, Some, None, option_map, find, filter_map, slice_get, length, take, map, nat_le, if◌then◌else◌}
+use Rattle.std.specs.Prelude.{ℕ, List, [], ◌∷◌, Bool, Option, Some, None, option_map, find, filter_map, slice_get}
+use Rattle.std.specs.Prelude.{length, take, map, nat_le, if◌then◌else◌}
 use Rattle.std.specs.List.{list_all}
 use Rattle.basil_types.specs.Built.{or_else}
 use Rattle.basil_types.specs.declared.party.Decision.{Decision}
@@ -12,7 +13,8 @@ use Rattle.frame_views.specs.Values.{Commits, FastCommit, FastAbort, ConflictAbo
 use Rattle.quorum_laws.specs.Numbers.{replicas, fast_commit, commit_tally, abort_tally, fast_abort, log_quorum}
 use Rattle.txn_meta.specs.Places.{involved, log_shard}
 use Rattle.client_recover.specs.Taken.{TakenValue, DecidedValue, LogsValue}
-use Rattle.client_recover.specs.Counting.{certificate_in, counted_votes, has_votes, voted_in, tally_of, replies_of, logs_with}
+use Rattle.client_recover.specs.Counting.{certificate_in, counted_votes, has_votes, voted_in, tally_of, replies_of}
+use Rattle.client_recover.specs.Counting.{logs_with}
 
 abbrev pub certificate_of : TransactionValue → BodyValue → CertificateValue
 certificate_of t body = record { id = id t; body = body }

@@ -7,7 +7,8 @@ use Rattle.certificates.specs.Accepted.{Accepted}
 use Rattle.certificates.specs.declared.fault.FrameFault.{FrameFault}
 use Rattle.certificates.specs.declared.fault.FrameFault.TheVariants.{NotMine}
 use Rattle.frame_views.specs.Values.{VotedValue, LogReplyValue, WritebackValue, MessageValue}
-use Rattle.frame_views.specs.Values.{Read, ReadReply, St1, Vote, St2, LogReply, Writeback, Recover, Invoke, Elect, Decide}
+use Rattle.frame_views.specs.Values.{Read, ReadReply, St1, Vote, St2, LogReply, Writeback, Recover, Invoke, Elect}
+use Rattle.frame_views.specs.Values.{Decide}
 use Rattle.node_steps.specs.Refusing.{unless}
 use Rattle.client_recover.specs.Taken.{TakenValue, TakenVote, TakenLog, TakenCertificate}
 use Rattle.client_recover.specs.Faults.{vote_fault, log_fault, writeback_fault}

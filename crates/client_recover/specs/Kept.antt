@@ -1,5 +1,6 @@
 -- What a pursuit keeps of votes and log replies, and what follows from it.
-use Rattle.std.specs.Prelude.{ℕ, List, [], ◌∷◌, Bool, ◌&&◌, ◌==◌, Option, Some, None, find, filter, length, map, take, nat_le, if◌then◌else◌}
+use Rattle.std.specs.Prelude.{ℕ, List, [], ◌∷◌, Bool, ◌&&◌, ◌==◌, Option, Some, None, find, filter, length, map, take}
+use Rattle.std.specs.Prelude.{nat_le, if◌then◌else◌}
 use Rattle.std.specs.List.{list_all, list_any}
 use Rattle.basil_types.specs.Built.{or_else}
 use Rattle.basil_types.specs.declared.party.Decision.{Decision}

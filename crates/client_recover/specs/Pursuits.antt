@@ -1,11 +1,13 @@
 -- What a client sends for a transaction that it pursues (Basil, stages 1 and 2, recovery).
-use Rattle.std.specs.Prelude.{ℕ, List, [], ◌∷◌, ◌++◌, true, ◌||◌, Option, Some, None, is_some, map, nat_lt, if◌then◌else◌, ◌==◌, filter_map}
+use Rattle.std.specs.Prelude.{ℕ, List, [], ◌∷◌, ◌++◌, true, ◌||◌, Option, Some, None, is_some, map, nat_lt}
+use Rattle.std.specs.Prelude.{if◌then◌else◌, ◌==◌, filter_map}
 use Rattle.std.specs.List.{flat_map}
 use Rattle.std.specs.Option.{option_map_or}
 use Rattle.basil_types.specs.declared.party.Party.TheVariants.{Replica}
 use Rattle.basil_types.specs.Setting.{Setting}
 use Rattle.basil_types.specs.Transaction.{TransactionValue, id}
-use Rattle.frame_views.specs.Values.{MessageValue, LogReplyValue, ReplyValue, SignedValue, CertificateValue, St2, Invoke, Writeback}
+use Rattle.frame_views.specs.Values.{MessageValue, LogReplyValue, ReplyValue, SignedValue, CertificateValue, St2}
+use Rattle.frame_views.specs.Values.{Invoke, Writeback}
 use Rattle.node_steps.specs.Envelopes.{EnvelopeValue}
 use Rattle.txn_meta.specs.Places.{involved, log_shard}
 use Rattle.client_recover.specs.Taken.{TakenValue, PursuitValue, DecidedValue, LogsValue}

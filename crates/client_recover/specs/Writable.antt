@@ -6,7 +6,8 @@ use Rattle.std.specs.Option.{ForSome}
 use Rattle.std.proofs.Props.{props}
 use Rattle.basil_types.specs.declared.party.Decision.{Decision}
 use Rattle.basil_types.specs.Lists.{AreItems}
-use Rattle.basil_types.specs.Transaction.{TransactionValue, IsTransaction, FitsRead, FitsWrite, key_of_read, key_of_write}
+use Rattle.basil_types.specs.Transaction.{TransactionValue, IsTransaction, FitsRead, FitsWrite, key_of_read}
+use Rattle.basil_types.specs.Transaction.{key_of_write}
 use Rattle.frame_values.specs.declared.owned.certificate.Certificate.{Certificate}
 use Rattle.frame_values.specs.declared.owned.parts.InvokePart.{InvokePart}
 use Rattle.frame_values.specs.declared.owned.parts.LogPart.{LogPart}

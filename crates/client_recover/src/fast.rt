@@ -34,7 +34,14 @@ fn fast_commit(
     if !votes.each_enough(shards, Decision::Commit, needed) {
         return Ok(None);
     }
-    let tallies = tallies(alloc, cluster, shards, votes.as_slice(), Decision::Commit, needed)?;
+    let tallies = tallies(
+        alloc,
+        cluster,
+        shards,
+        votes.as_slice(),
+        Decision::Commit,
+        needed,
+    )?;
     Ok(Some(Certificate {
         id: *id,
         body: CertificateBody::FastCommit { tallies },
@@ -55,7 +62,14 @@ fn fast_abort(
     match lowest {
         Some(shard) => {
             let needed = cluster.fast_abort();
-            let tally = tally(alloc, cluster, votes.as_slice(), Decision::Abort, needed, shard)?;
+            let tally = tally(
+                alloc,
+                cluster,
+                votes.as_slice(),
+                Decision::Abort,
+                needed,
+                shard,
+            )?;
             Ok(Some(Certificate {
                 id: *id,
                 body: CertificateBody::FastAbort {

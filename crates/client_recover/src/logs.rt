@@ -1,6 +1,7 @@
 //! The log replies that a pursuit keeps.
 
-ghost use Rattle.std.specs.Prelude.{◌≡◌, ℕ, ◌<◌, ◌+◌, ◌≤◌, ◌^◌, ◌++◌, ◌∷◌, [], IfOk, OnOk, OnErr, filter_map, take, length, nat_le, is_some, not};
+ghost use Rattle.std.specs.Prelude.{◌≡◌, ℕ, ◌<◌, ◌+◌, ◌≤◌, ◌^◌, ◌++◌, ◌∷◌, [], IfOk, OnOk, OnErr, filter_map, take};
+ghost use Rattle.std.specs.Prelude.{length, nat_le, is_some, not};
 ghost use Rattle.std.specs.Option.{option_copied};
 ghost use Rattle.basil_types.specs.declared.party.Decision.{Decision};
 ghost use Rattle.frame_views.specs.Shown.{log_reply_of};
@@ -9,7 +10,8 @@ ghost use Rattle.client_recover.specs.Counting.{all_replicas};
 ghost use Rattle.client_recover.specs.declared.logs.Logs as declared;
 ghost use Rattle.client_recover.specs.Kept.{as_part, as_latest};
 ghost use Rattle.client_recover.specs.Replies.{earliest_at, latest_at, put_back, HasPlace, HoldsLogs, HoldsBefore};
-ghost use Rattle.client_recover.specs.Replies.{LogReplies, IsBefore, SameLogs, NotesFirst, ForgetsFirst, NotesLatest, RestoresLatest};
+ghost use Rattle.client_recover.specs.Replies.{LogReplies, IsBefore, SameLogs, NotesFirst, ForgetsFirst, NotesLatest};
+ghost use Rattle.client_recover.specs.Replies.{RestoresLatest};
 ghost use Rattle.client_recover.specs.Writable.{AreSound, IsSound, PutsBack};
 
 use basil_types::bytes::Bytes;

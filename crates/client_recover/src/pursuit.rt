@@ -70,7 +70,8 @@ pub struct Pursuit {
 }
 
 impl Pursuit {
-    ghost use Rattle.std.specs.Prelude.{◌≢◌, ◌∷◌, Bool, false, Some, Err, IfOk, IfSome, OnOk, OnErr, IfErr, is_some, option_map, if◌then◌else◌, ◌==◌};
+    ghost use Rattle.std.specs.Prelude.{◌≢◌, ◌∷◌, Bool, false, Some, Err, IfOk, IfSome, OnOk, OnErr, IfErr, is_some};
+    ghost use Rattle.std.specs.Prelude.{option_map, if◌then◌else◌, ◌==◌};
     ghost use Rattle.std.specs.Option.{ForSome};
     ghost use Rattle.std.specs.Str.{bytes_eq};
     ghost use Rattle.basil_types.specs.Built.{or_else};
@@ -291,7 +292,8 @@ impl Pursuit {
         ensures { (p : PursuitValue) → StandsFor self.now p →
             result ≡ certifying.all_voted self.now.cluster p.transaction p.taken }
     {
-        self.votes.each_has_all(&self.cluster, self.shards.as_slice())
+        self.votes
+            .each_has_all(&self.cluster, self.shards.as_slice())
     }
 
     /// How many votes count, and log replies were taken, together.

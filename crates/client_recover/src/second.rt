@@ -23,11 +23,7 @@ pub struct ToLog {
 
 /// The decision that the votes of these shards let be logged: commit where each has a commit tally, else abort where
 /// some has an abort tally.
-pub(crate) fn decision_by(
-    cluster: &Cluster,
-    shards: &[u8],
-    votes: &Votes,
-) -> Option<Decision>
+pub(crate) fn decision_by(cluster: &Cluster, shards: &[u8], votes: &Votes) -> Option<Decision>
     ensures { result ≡ option_map (λ l. l.decision) (logged_by cluster.now shards.now votes.now) }
 {
     if votes.each_enough(shards, Decision::Commit, cluster.commit_tally()) {
@@ -54,7 +50,14 @@ fn commit_logged(
     }
     Ok(Some(ToLog {
         decision: Decision::Commit,
-        tallies: tallies(alloc, cluster, shards, votes.as_slice(), Decision::Commit, needed)?,
+        tallies: tallies(
+            alloc,
+            cluster,
+            shards,
+            votes.as_slice(),
+            Decision::Commit,
+            needed,
+        )?,
     }))
 }
 
@@ -71,7 +74,14 @@ fn abort_logged(
         Some(shard) => {
             let needed = cluster.abort_tally();
             let mut list = Vec::new(alloc);
-            list.push(tally(alloc, cluster, votes.as_slice(), Decision::Abort, needed, shard)?)?;
+            list.push(tally(
+                alloc,
+                cluster,
+                votes.as_slice(),
+                Decision::Abort,
+                needed,
+                shard,
+            )?)?;
             Ok(Some(ToLog {
                 decision: Decision::Abort,
                 tallies: List::from_vec(list),

@@ -171,12 +171,7 @@ impl Votes {
     }
 
     /// The first of these shards that has so many votes for this decision.
-    pub(crate) fn lowest_enough(
-        &self,
-        shards: &[u8],
-        decision: Decision,
-        needed: u8,
-    ) -> Option<u8>
+    pub(crate) fn lowest_enough(&self, shards: &[u8], decision: Decision, needed: u8) -> Option<u8>
         ensures { result ≡ kept.lowest_enough shards.now self.now decision needed }
     {
         shards

@@ -10,4 +10,5 @@ use Rattle.client_recover.proofs.tallies.tally.Given as goal
 abbrev pub invariant-loop-replica : goal.invariant-loop-replica
 invariant-loop-replica l =
     map vote_value l.parts.items ≡
-    map part_of (take l.needed (filter_map (first_with (λ (v : CountedVote). v.replica) (votes_so l.votes l.decision l.shard)) (range_with_len 0 l.replica)))
+    map part_of (take l.needed
+    (filter_map (first_with (λ (v : CountedVote). v.replica) (votes_so l.votes l.decision l.shard)) (range_with_len 0 l.replica)))

@@ -7,7 +7,8 @@ pub returns : goal.returns
 returns c = record {
   earliest = λ e v r.
       c.swap_remove.ensures.updates.0 (is_commit e, v, r)
-      ∙ ap (λ b. cond (same_key (b, c.args.decided, c.args.replica) (is_commit e, v, r)) None (earliest_at c.args.self.now e v r)) c.is_commit.ensures;
+      ∙ ap (λ b. cond (same_key (b, c.args.decided, c.args.replica) (is_commit e, v, r)) None
+      (earliest_at c.args.self.now e v r)) c.is_commit.ensures;
   latest = λ n. refl;
   count = refl;
 }

@@ -10,5 +10,6 @@ pub returns-in-Writeback-clause-refused : goal.returns-in-Writeback-clause-refus
 returns-in-Writeback-clause-refused g c =
     let u = c.args.self.now in
     let A = g.V.Verifier.accepted c.args.keys.now in
-    subst (λ (m : MessageView). IfErr c.add_one_certificate.result (λ e. e ≢ NoMemory → certificate_taken A u.cluster u.transaction (writeback_of (message_of m)) ≡ Err e))
+    subst (λ (m : MessageView). IfErr c.add_one_certificate.result
+    (λ e. e ≢ NoMemory → certificate_taken A u.cluster u.transaction (writeback_of (message_of m)) ≡ Err e))
     (sym c.in-Writeback.is) c.add_one_certificate.ensures.refused

@@ -10,7 +10,8 @@ use Rattle.client_recover.proofs.pursuit.Pursuit.count_log.Goals as goal
 
 pub returns-in-Ok-clause-taken : goal.returns-in-Ok-clause-taken
 returns-in-Ok-clause-taken c =
-    counts_log c.args.self.now _ (log_reply_of c.args.reply.now) c.in_ok-last.last (record { transaction = refl; signature = refl; cluster = refl }) refl
+    counts_log c.args.self.now _ (log_reply_of c.args.reply.now) c.in_ok-last.last
+    (record { transaction = refl; signature = refl; cluster = refl }) refl
     c.in_ok-last.ensures.holds c.in_ok-last.ensures.back refl c.requires.open c.in-Ok.ensures
 
 pub returns-in-Err-clause-as_before : goal.returns-in-Err-clause-as_before

@@ -6,7 +6,13 @@ use Rattle.client_recover.proofs.pursuit.Pursuit.new.Goals as goal
 
 pub returns-clause-stands : goal.returns-clause-stands
 returns-clause-stands c second =
-    record { transaction = refl; signature = refl; votes = c.new.ensures; logs = c.new-2.ensures.holds; outcome = sym c.nothing_decided.ensures }
+    record {
+      transaction = refl;
+      signature = refl;
+      votes = c.new.ensures;
+      logs = c.new-2.ensures.holds;
+      outcome = sym c.nothing_decided.ensures;
+    }
 
 pub invariant_of-result : goal.invariant_of-result
 invariant_of-result c =

@@ -20,6 +20,7 @@ returns-in-None-clause-value c p h =
 pub returns-in_ok-message-in-Some-clause-fits : goal.returns-in_ok-message-in-Some-clause-fits
 returns-in_ok-message-in-Some-clause-fits c =
     let u = c.args.self.now in
-    second_written c.in_ok-to_log.to_log c.in-Some.to_log _ u.transaction u.signature (logged_by u.cluster u.shards u.votes) c.seconds_fit.ensures c.in-Some.is
+    second_written c.in_ok-to_log.to_log c.in-Some.to_log _ u.transaction u.signature
+    (logged_by u.cluster u.shards u.votes) c.seconds_fit.ensures c.in-Some.is
     (c.in_ok-to_log.ensures ∙ ap (λ s. logged_by u.cluster s u.votes) c.as_slice.ensures)
     c.in_ok-message-in-Some.ensures
