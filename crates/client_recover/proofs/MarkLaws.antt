@@ -1,6 +1,6 @@
 -- The members of a set of shards, one after the other.
-use Rattle.std.proofs.Common.{◌≡◌, ℕ, zero, suc, ◌+◌, ◌<◌, ◌≤◌, Bool, true, false, cond, map, None, Some, List, [], ◌∷◌, ◌++◌, length, take}
-use Rattle.std.proofs.Common.{drop, get_or, set, refl, sym, ap, ◌∙◌, append-nil, append_assoc, arith}
+use Rattle.std.proofs.Common.{◌≡◌, ℕ, zero, suc, ◌+◌, ◌<◌, ◌≤◌, Bool, true, false, cond, map, None, Some, List, [], ◌∷◌, ◌++◌, length}
+use Rattle.std.proofs.Common.{take, drop, get_or, set, refl, sym, ap, ◌∙◌, append-nil, append_assoc, arith}
 use Rattle.std.proofs.lemmas.List.{at_drop_more, at_drop_all, take_more_set}
 use Rattle.std.specs.Prelude.{find, nat_le, option_map, ◌&&◌, ◌*◌}
 use Rattle.std.specs.List.{list_all}
@@ -17,12 +17,13 @@ use Rattle.client_recover.specs.Counting.{has_votes, tally_of}
 use Rattle.client_recover.specs.Certifying.{certificate_of, each_has, by_fast_commit, by_fast_abort, fast_abort_in, certificate_by}
 
 next_mark : (marks : List Bool) (shard : ℕ) → shard < length marks →
-    members_from shard (drop shard marks) ≡ cond (get_or marks shard false)
-    (shard ∷ members_from (shard + 1) (drop (shard + 1) marks)) (members_from (shard + 1) (drop (shard + 1) marks))
+    members_from shard (drop shard marks)
+    ≡ cond (get_or marks shard false) (shard ∷ members_from (shard + 1) (drop (shard + 1) marks))
+    (members_from (shard + 1) (drop (shard + 1) marks))
 next_mark marks shard h = at_drop_more (members_from shard) marks shard false h
 
-pub marked : (marks : List Bool) (shard : ℕ) (shards : List ℕ) (count : ℕ) → shard < length marks
-    → count < length shards → get_or marks shard false ≡ true →
+pub marked : (marks : List Bool) (shard : ℕ) (shards : List ℕ) (count : ℕ) → shard < length marks → count < length shards →
+    get_or marks shard false ≡ true →
     take count shards ++ members_from shard (drop shard marks) ≡ members marks →
     take (count + 1) (set shards count shard) ++ members_from (shard + 1) (drop (shard + 1) marks) ≡ members marks
 marked marks shard shards count h room is e =
@@ -75,18 +76,20 @@ off : {A : Type 0} (b : Bool) (a : A) → b ≡ false → cond b (Some a) None �
 off true a e = absurd cc
 off false a e = refl
 
-undecided : (c : Setting) (t : TransactionValue) (shards : List ℕ) → involved c t
-    ≡ shards → (shards ≡ [] → ⊥) → certificate_by c t [] ≡ None
+undecided : (c : Setting) (t : TransactionValue) (shards : List ℕ) → involved c t ≡ shards → (shards ≡ [] → ⊥) →
+    certificate_by c t [] ≡ None
 undecided c t [] e some = absurd (some refl)
 undecided c t (x ∷ xs) e some =
-    let commits : by_fast_commit c t [] ≡ None = off (each_has c t [] Commit (fast_commit c.f))
+    let commits : by_fast_commit c t [] ≡ None =
+    off (each_has c t [] Commit (fast_commit c.f))
     (certificate_of t (Commits (FastCommit (map (tally_of c [] Commit (fast_commit c.f)) (involved c t)))))
-    (ap (list_all (λ shard. has_votes [] shard Commit (fast_commit c.f))) e ∙ ap
-    (λ b. b && list_all (λ shard. has_votes [] shard Commit (fast_commit c.f)) xs) (too_few (5 * c.f))) in
-    let aborts : by_fast_abort c t [] ≡ None = ap (option_map (fast_abort_in c t []))
+    (ap (list_all (λ shard. has_votes [] shard Commit (fast_commit c.f))) e
+    ∙ ap (λ b. b && list_all (λ shard. has_votes [] shard Commit (fast_commit c.f)) xs) (too_few (5 * c.f))) in
+    let aborts : by_fast_abort c t [] ≡ None =
+    ap (option_map (fast_abort_in c t []))
     (find_none (λ shard. has_votes [] shard Abort (fast_abort c.f)) (involved c t) (λ s. too_few (3 * c.f))) in
     ap (λ o. or_else o (or_else (by_fast_abort c t []) None)) commits ∙ ap (λ o. or_else o None) aborts
 
-pub nothing_yet : (c : Setting) (t : TransactionValue) (s : ℕ) → c.shards ≤ 8
-    → s < c.shards → involves c t s ≡ true → certificate_by c t [] ≡ None
+pub nothing_yet : (c : Setting) (t : TransactionValue) (s : ℕ) → c.shards ≤ 8 → s < c.shards → involves c t s ≡ true →
+    certificate_by c t [] ≡ None
 nothing_yet c t s few below is = undecided c t (involved c t) refl (some_involved c t s (omega (arith, few, below)) is)

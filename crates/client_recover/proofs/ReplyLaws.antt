@@ -55,11 +55,11 @@ or_nothing None = refl
 or_nothing (Some a) = refl
 
 earliest_of-push : (replies : List LogReplyValue) (r : LogReplyValue) (d : Decision) (view n : ℕ) →
-    earliest_of (replies ++ r ∷ []) d view n ≡ or_else (earliest_of replies d view n)
-    (cond (says d view r && (r.replica == n)) (Some (as_part r)) None)
+    earliest_of (replies ++ r ∷ []) d view n
+    ≡ or_else (earliest_of replies d view n) (cond (says d view r && (r.replica == n)) (Some (as_part r)) None)
 earliest_of-push replies r d view n =
-    ap (λ rs. option_map as_part (first_with (λ (x : LogReplyValue). x.replica) rs n))
-    (filter-append (says d view) replies (r ∷ [])) ∙ by (says d view r)
+    ap (λ rs. option_map as_part (first_with (λ (x : LogReplyValue). x.replica) rs n)) (filter-append (says d view) replies (r ∷ []))
+    ∙ by (says d view r)
   where
     before : List LogReplyValue
     before = filter (says d view) replies
@@ -67,9 +67,10 @@ earliest_of-push replies r d view n =
     by : (b : Bool) → option_map as_part (first_with (λ (x : LogReplyValue). x.replica) (before ++ cond b (r ∷ []) []) n)
         ≡ or_else (option_map as_part (first_with (λ (x : LogReplyValue). x.replica) before n))
         (cond (b && (r.replica == n)) (Some (as_part r)) None)
-    by true = ap (option_map as_part) (find-push (λ (x : LogReplyValue). x.replica == n) before r) ∙ kept_of
-        (first_with (λ (x : LogReplyValue). x.replica) before n) r (r.replica == n)
-    by false = ap (λ rs. option_map as_part (first_with (λ (x : LogReplyValue). x.replica) rs n)) (append-nil before)
+    by true = ap (option_map as_part) (find-push (λ (x : LogReplyValue). x.replica == n) before r)
+        ∙ kept_of (first_with (λ (x : LogReplyValue). x.replica) before n) r (r.replica == n)
+    by false =
+        ap (λ rs. option_map as_part (first_with (λ (x : LogReplyValue). x.replica) rs n)) (append-nil before)
         ∙ or_nothing (option_map as_part (first_with (λ (x : LogReplyValue). x.replica) before n))
 
 -- ---- keys
@@ -91,8 +92,8 @@ is_of-says r d view n =
     ap (λ b. (b && (r.decided == view)) && (r.replica == n)) (key_decision r.decision d)
     ∙ ap (λ b. (same_decision d r.decision && b) && (r.replica == n)) (nat_eq_equiv.symm r.decided view)
 
-is_of-key : (l : Logs) (r : LogReplyValue) (d : Decision) (view n : ℕ) → is_of r d view n
-    ≡ true → earliest_at l d view n ≡ earliest_at l r.decision r.decided r.replica
+is_of-key : (l : Logs) (r : LogReplyValue) (d : Decision) (view n : ℕ) → is_of r d view n ≡ true →
+    earliest_at l d view n ≡ earliest_at l r.decision r.decided r.replica
 is_of-key l r d view n e =
     let outer = and_parts (beq (is_commit r.decision) (is_commit d) && (r.decided == view)) (r.replica == n) e in
     let inner = and_parts (beq (is_commit r.decision) (is_commit d)) (r.decided == view) outer.0 in
@@ -113,8 +114,8 @@ an_item (Some a) e = absurd cc
 
 -- ---- the earliest ones
 
-earliest-more : (old new : Logs) (replies : List LogReplyValue) (r : LogReplyValue)
-    (first : Bool) → NotesFirst old new r first → HoldsLogs old replies →
+earliest-more : (old new : Logs) (replies : List LogReplyValue) (r : LogReplyValue) (first : Bool) → NotesFirst old new r first →
+    HoldsLogs old replies →
     (d : Decision) (view n : ℕ) → earliest_at new d view n ≡ earliest_of (replies ++ r ∷ []) d view n
 earliest-more old new replies r first notes held d view n =
     notes.earliest d view n
@@ -130,11 +131,11 @@ earliest-more old new replies r first notes held d view n =
     some None e = absurd cc
     some (Some a) e = refl
 
-    by : (f b : Bool) → f ≡ not (is_some (earliest_at old r.decision r.decided r.replica))
-        → (b ≡ true → here ≡ earliest_at old r.decision r.decided r.replica) →
+    by : (f b : Bool) → f ≡ not (is_some (earliest_at old r.decision r.decided r.replica)) →
+        (b ≡ true → here ≡ earliest_at old r.decision r.decided r.replica) →
         cond (f && b) (Some (as_part r)) here ≡ or_else here (cond b (Some (as_part r)) None)
-    by true true is key = sym
-        (ap (λ o. or_else o (Some (as_part r))) (key refl ∙ an_item (earliest_at old r.decision r.decided r.replica) is))
+    by true true is key =
+        sym (ap (λ o. or_else o (Some (as_part r))) (key refl ∙ an_item (earliest_at old r.decision r.decided r.replica) is))
     by true false is key = or_nothing here
     by false true is key = some here (ap is_some (key refl) ∙ no_item (earliest_at old r.decision r.decided r.replica) is)
     by false false is key = or_nothing here
@@ -147,8 +148,8 @@ earliest-undone old new r first notes d view n =
     here : Option LogPart
     here = earliest_at old d view n
 
-    by : (f b : Bool) → f ≡ not (is_some (earliest_at old r.decision r.decided r.replica)) → (b
-        ≡ true → here ≡ earliest_at old r.decision r.decided r.replica) →
+    by : (f b : Bool) → f ≡ not (is_some (earliest_at old r.decision r.decided r.replica)) →
+        (b ≡ true → here ≡ earliest_at old r.decision r.decided r.replica) →
         cond (f && b) None (cond (f && b) (Some (as_part r)) here) ≡ here
     by true true is key = sym (key refl ∙ an_item (earliest_at old r.decision r.decided r.replica) is)
     by true false is key = refl
@@ -208,13 +209,14 @@ latest_of-push : (replies : List LogReplyValue) (r : LogReplyValue) (n : ℕ) �
     latest_of (replies ++ r ∷ []) n ≡ cond (r.replica == n) (latest_with r (latest_of replies n)) (latest_of replies n)
 latest_of-push replies r n = ap (option_map as_latest) (latest_by-push replies r n) ∙ by (r.replica == n)
   where
-    by : (b : Bool) → option_map as_latest (cond b (Some (best_with r (latest_by replies n))) (latest_by replies n))
+    by : (b : Bool) →
+        option_map as_latest (cond b (Some (best_with r (latest_by replies n))) (latest_by replies n))
         ≡ cond b (latest_with r (latest_of replies n)) (latest_of replies n)
     by true = kept_best r (latest_by replies n)
     by false = refl
 
-latest-more : (old new : Logs) (replies : List LogReplyValue) (r : LogReplyValue)
-    (before : Latest) → NotesLatest old new r before → HoldsLogs old replies →
+latest-more : (old new : Logs) (replies : List LogReplyValue) (r : LogReplyValue) (before : Latest) → NotesLatest old new r before →
+    HoldsLogs old replies →
     (n : ℕ) → latest_at new n ≡ latest_of (replies ++ r ∷ []) n
 latest-more old new replies r before notes held n =
     notes.latest n ∙ ap (λ o. cond (r.replica == n) (latest_with r o) o) (held.latest n) ∙ sym (latest_of-push replies r n)
@@ -223,8 +225,8 @@ latest-undone : (old new : Logs) (r : LogReplyValue) (before : Latest) → Notes
     (n : ℕ) → cond (r.replica == n) (put_back before (latest_at new n)) (latest_at new n) ≡ latest_at old n
 latest-undone old new r before notes n = by (cases_Bool (r.replica == n))
   where
-    by : ((r.replica == n) ≡ true) ⊎ ((r.replica == n) ≡ false) → cond (r.replica == n)
-        (put_back before (latest_at new n)) (latest_at new n) ≡ latest_at old n
+    by : ((r.replica == n) ≡ true) ⊎ ((r.replica == n) ≡ false) →
+        cond (r.replica == n) (put_back before (latest_at new n)) (latest_at new n) ≡ latest_at old n
     by (inl e) =
         ap (λ b. cond b (put_back before (latest_at new n)) (latest_at new n)) e
         ∙ subst (λ m. put_back before (latest_at new m) ≡ latest_at old m) (eqb-true r.replica n e) notes.back
@@ -235,29 +237,30 @@ latest-undone old new r before notes n = by (cases_Bool (r.replica == n))
 -- ---- a log reply is taken in two steps, and then counted
 
 pub held_more : (old middle new : Logs) (replies : List LogReplyValue) (r : LogReplyValue) (first : Bool) (before : Latest) →
-    NotesFirst old middle r first → NotesLatest middle new r before → HoldsLogs old replies
-    → (counted : Logs) → counted.earliest ≡ new.earliest → counted.latest ≡ new.latest →
+    NotesFirst old middle r first → NotesLatest middle new r before → HoldsLogs old replies → (counted : Logs) →
+    counted.earliest ≡ new.earliest → counted.latest ≡ new.latest →
     counted.count ≡ new.count + 1 → HoldsLogs counted (replies ++ r ∷ [])
 held_more old middle new replies r first before notes later held counted same_earliest same_latest one =
     let middle_latest : (n : ℕ) → latest_at middle n ≡ latest_of replies n = λ n. notes.latest n ∙ held.latest n in
     record {
-      earliest = λ d view n. ap (λ m. Rattle.indexmap.specs.IndexMap.get same_key m (is_commit d, view, n)) same_earliest
-          ∙ later.earliest d view n ∙ earliest-more old middle replies r first notes held d view n;
+      earliest =
+          λ d view n. ap (λ m. Rattle.indexmap.specs.IndexMap.get same_key m (is_commit d, view, n)) same_earliest ∙ later.earliest d view n
+          ∙ earliest-more old middle replies r first notes held d view n;
       latest = λ n. ap (λ m. Rattle.indexmap.specs.IndexMap.get nat_eq m n) same_latest ∙ later.latest n
           ∙ ap (λ o. cond (r.replica == n) (latest_with r o) o) (middle_latest n) ∙ sym (latest_of-push replies r n);
       count = one ∙ ap (λ k. k + 1) (later.count ∙ notes.count ∙ held.count) ∙ sym (length-append replies (r ∷ []));
     }
 
 pub is_before : (old middle new : Logs) (r : LogReplyValue) (first : Bool) (before : Latest) →
-    NotesFirst old middle r first → NotesLatest middle new r before → (counted : Logs)
-    → counted.earliest ≡ new.earliest → counted.latest ≡ new.latest →
-    counted.count ≡ new.count + 1 → IsBefore
-    (record { decision = r.decision; decided = r.decided; replica = r.replica; first = first; latest = before }) old counted
+    NotesFirst old middle r first → NotesLatest middle new r before → (counted : Logs) → counted.earliest ≡ new.earliest →
+    counted.latest ≡ new.latest →
+    counted.count ≡ new.count + 1 →
+    IsBefore (record { decision = r.decision; decided = r.decided; replica = r.replica; first = first; latest = before }) old counted
 is_before old middle new r first before notes later counted same_earliest same_latest one =
     record {
       earliest = λ d view n.
-          ap (λ m. cond (first && is_of r d view n) None (Rattle.indexmap.specs.IndexMap.get same_key m (is_commit d, view, n)))
-          same_earliest
+          ap (λ m. cond (first && is_of r d view n) None
+          (Rattle.indexmap.specs.IndexMap.get same_key m (is_commit d, view, n))) same_earliest
           ∙ ap (cond (first && is_of r d view n) None) (later.earliest d view n) ∙ earliest-undone old middle r first notes d view n;
       latest = λ n.
           ap (λ m. cond (r.replica == n) (put_back before (Rattle.indexmap.specs.IndexMap.get nat_eq m n))
@@ -267,8 +270,8 @@ is_before old middle new r first before notes later counted same_earliest same_l
       count = one ∙ ap (λ k. k + 1) (later.count ∙ notes.count);
     }
 
-pub before_holds : (last : LastLog) (old new : Logs) (replies : List LogReplyValue)
-    → IsBefore last old new → HoldsLogs old replies → HoldsBefore last new replies
+pub before_holds : (last : LastLog) (old new : Logs) (replies : List LogReplyValue) → IsBefore last old new → HoldsLogs old replies →
+    HoldsBefore last new replies
 before_holds last old new replies b held =
     record {
       earliest = λ d view n. b.earliest d view n ∙ held.earliest d view n;
@@ -287,8 +290,8 @@ held_same old new replies s held =
       count = s.count ∙ held.count;
     }
 
-pub back_same : (old new : Logs) (last : LastLog) (replies : List LogReplyValue)
-    → SameLogs old new → HoldsBefore last old replies → HoldsBefore last new replies
+pub back_same : (old new : Logs) (last : LastLog) (replies : List LogReplyValue) → SameLogs old new → HoldsBefore last old replies →
+    HoldsBefore last new replies
 back_same old new last replies s held =
     record {
       earliest = λ d view n. ap (cond (last.first && is_last last d view n) None) (s.earliest d view n) ∙ held.earliest d view n;
@@ -320,8 +323,8 @@ abbrev pub by_logs : Setting → TransactionValue → List LogReplyValue → Opt
 by_logs c t replies = option_map (certificate_by_logs c t replies) (find (has_of c replies) replies)
 
 earliest_by-held : (c : Setting) (l : Logs) (replies : List LogReplyValue) (r : LogReplyValue) → HoldsLogs l replies →
-    earliest_by c l r.decision r.decided ≡ map as_part
-    (by_number (λ (x : LogReplyValue). x.replica) (all_replicas c) (filter (agrees r) replies))
+    earliest_by c l r.decision r.decided
+    ≡ map as_part (by_number (λ (x : LogReplyValue). x.replica) (all_replicas c) (filter (agrees r) replies))
 earliest_by-held c l replies r held =
     ap (λ (f : ℕ → Option LogPart). filter_map f (all_replicas c)) (λ i n. held.earliest r.decision r.decided n i)
     ∙ filter_map-option_map as_part (first_with (λ (x : LogReplyValue). x.replica) (filter (agrees r) replies)) (all_replicas c)
@@ -334,15 +337,21 @@ logged-held c t l replies r held =
     let Made : List LogPart → Option CertificateValue = λ parts.
     cond (nat_le quorum (length parts))
     (Some (certificate_of t
-    (Commits (Logged
-    (record { shard = log_shard c t; decision = r.decision; decided = r.decided; logs = map log_value (take quorum parts) }))))) None in
+    (Commits
+    (Logged (record {
+      shard = log_shard c t;
+      decision = r.decision;
+      decided = r.decided;
+      logs = map log_value
+          (take quorum parts);
+    }))))) None in
     let count : length (map as_part all) ≡ length (map as_log all) = length-map all as_part ∙ sym (length-map all as_log) in
     let listed : map log_value (take quorum (map as_part all)) ≡ take quorum (map as_log all) =
     ap (map log_value) (take-map as_part quorum all) ∙ map-map as_part log_value (take quorum all) ∙ sym (take-map as_log quorum all) in
     ap Made (earliest_by-held c l replies r held)
     ∙ ap (λ n. cond (nat_le quorum n) (Some (certificate_of t
-    (Commits (Logged
-    (record {
+    (Commits
+    (Logged (record {
       shard = log_shard c t;
       decision = r.decision;
       decided = r.decided;
@@ -387,14 +396,14 @@ has_alike c replies a b e =
     ∙ ap (λ v. nat_le (log_quorum c.f)
     (length (map as_log (by_number (λ (x : LogReplyValue). x.replica) (all_replicas c) (filter (says b.decision v) replies))))) e.1
 
-filter-other : (replies : List LogReplyValue) (a r : LogReplyValue) → agrees a r ≡ false
-    → filter (agrees a) (replies ++ r ∷ []) ≡ filter (agrees a) replies
+filter-other : (replies : List LogReplyValue) (a r : LogReplyValue) → agrees a r ≡ false →
+    filter (agrees a) (replies ++ r ∷ []) ≡ filter (agrees a) replies
 filter-other replies a r e =
     filter-append (agrees a) replies (r ∷ []) ∙ ap (λ b. filter (agrees a) replies ++ cond b (r ∷ []) []) e
     ∙ append-nil (filter (agrees a) replies)
 
-has-other : (c : Setting) (replies : List LogReplyValue) (a r : LogReplyValue)
-    → agrees a r ≡ false → has_of c (replies ++ r ∷ []) a ≡ has_of c replies a
+has-other : (c : Setting) (replies : List LogReplyValue) (a r : LogReplyValue) → agrees a r ≡ false →
+    has_of c (replies ++ r ∷ []) a ≡ has_of c replies a
 has-other c replies a r e =
     ap (λ rs. nat_le (log_quorum c.f) (length (map as_log (by_number (λ (x : LogReplyValue). x.replica) (all_replicas c) rs))))
     (filter-other replies a r e)
@@ -406,26 +415,27 @@ Searched c t all some a r b =
     ≡ cond (has_of c all r) (Some (certificate_by_logs c t all r)) None
 
 -- none of these had a quorum before
-search_more : (c : Setting) (t : TransactionValue) (replies : List LogReplyValue) (r : LogReplyValue)
-    (some : List LogReplyValue) → find (has_of c replies) some ≡ None →
+search_more : (c : Setting) (t : TransactionValue) (replies : List LogReplyValue) (r : LogReplyValue) (some : List LogReplyValue) →
+    find (has_of c replies) some ≡ None →
     option_map (certificate_by_logs c t (replies ++ r ∷ [])) (find (has_of c (replies ++ r ∷ [])) (some ++ r ∷ []))
     ≡ cond (has_of c (replies ++ r ∷ []) r) (Some (certificate_by_logs c t (replies ++ r ∷ []) r)) None
 search_more c t replies r [] none = by (has_of c (replies ++ r ∷ []) r)
   where
-    by : (b : Bool) → option_map (certificate_by_logs c t (replies ++ r ∷ [])) (cond b (Some r) None)
+    by : (b : Bool) →
+        option_map (certificate_by_logs c t (replies ++ r ∷ [])) (cond b (Some r) None)
         ≡ cond b (Some (certificate_by_logs c t (replies ++ r ∷ []) r)) None
     by true = refl
     by false = refl
 search_more c t replies r (a ∷ some) none = apart (has_of c replies a) refl none (search_more c t replies r some)
   where
-    agreeing : (b : Bool) → has_of c (replies ++ r ∷ []) a ≡ b → Agree a r → Searched c t
-        (replies ++ r ∷ []) some a r false → Searched c t (replies ++ r ∷ []) some a r b
+    agreeing : (b : Bool) → has_of c (replies ++ r ∷ []) a ≡ b → Agree a r → Searched c t (replies ++ r ∷ []) some a r false →
+        Searched c t (replies ++ r ∷ []) some a r b
     agreeing true e k rest =
         sym (ap (λ b. cond b (Some (certificate_by_logs c t (replies ++ r ∷ []) a)) None) e) ∙ told_alike c t (replies ++ r ∷ []) a r k
     agreeing false e k rest = rest
 
-    by : (b : Bool) → agrees a r ≡ b → has_of c replies a ≡ false → Searched c t (replies ++ r ∷ []) some a r false
-        → Searched c t (replies ++ r ∷ []) some a r (has_of c (replies ++ r ∷ []) a)
+    by : (b : Bool) → agrees a r ≡ b → has_of c replies a ≡ false → Searched c t (replies ++ r ∷ []) some a r false →
+        Searched c t (replies ++ r ∷ []) some a r (has_of c (replies ++ r ∷ []) a)
     by true e h rest = agreeing (has_of c (replies ++ r ∷ []) a) refl (agree_is a r e) rest
     by false e h rest = subst (Searched c t (replies ++ r ∷ []) some a r) (sym (has-other c replies a r e ∙ h)) rest
 
@@ -438,5 +448,5 @@ search_more c t replies r (a ∷ some) none = apart (has_of c replies a) refl no
 pub by_logs-push : (c : Setting) (t : TransactionValue) (replies : List LogReplyValue) (r : LogReplyValue) → by_logs c t replies ≡ None →
     by_logs c t (replies ++ r ∷ []) ≡ cond (has_of c (replies ++ r ∷ []) r) (Some (certificate_by_logs c t (replies ++ r ∷ []) r)) None
 by_logs-push c t replies r none =
-    search_more c t replies r replies (Rattle.client_recover.proofs.Walks.none_of_map
-    (certificate_by_logs c t replies) (find (has_of c replies) replies) none)
+    search_more c t replies r replies
+    (Rattle.client_recover.proofs.Walks.none_of_map (certificate_by_logs c t replies) (find (has_of c replies) replies) none)

@@ -88,8 +88,8 @@ no_parts c t taken e =
 
 -- ---- a vote more
 
-certificates-of_vote : (taken : List TakenValue) (v : VotedValue) → filter_map certificate_in
-    (taken ++ TakenVote v ∷ []) ≡ filter_map certificate_in taken
+certificates-of_vote : (taken : List TakenValue) (v : VotedValue) →
+    filter_map certificate_in (taken ++ TakenVote v ∷ []) ≡ filter_map certificate_in taken
 certificates-of_vote taken v = filter_map-append certificate_in taken (TakenVote v ∷ []) ∙ append-nil (filter_map certificate_in taken)
 
 replies-of_vote : (taken : List TakenValue) (v : VotedValue) → replies_of (taken ++ TakenVote v ∷ []) ≡ replies_of taken
@@ -120,8 +120,9 @@ decided_by_vote c t taken v none first =
     ∙ ap (λ o. or_else fast (or_else (slice_get (filter_map (conflict_by t) (counted_votes taken ++ v ∷ [])) 0) o))
     (ap (by_logs c t) (replies-of_vote taken v) ∙ no.logs)
     ∙ ap (or_else fast) (or_none (slice_get (filter_map (conflict_by t) (counted_votes taken ++ v ∷ [])) 0)
-    ∙ ap (λ cs. slice_get cs 0) (filter_map-append (conflict_by t) (counted_votes taken) (v ∷ []) ∙ ap
-    (λ cs. cs ++ filter_map (conflict_by t) (v ∷ [])) no.conflicts) ∙ first_given (conflict_by t) v)
+    ∙ ap (λ cs. slice_get cs 0)
+    (filter_map-append (conflict_by t) (counted_votes taken) (v ∷ []) ∙ ap (λ cs. cs ++ filter_map (conflict_by t) (v ∷ [])) no.conflicts)
+    ∙ first_given (conflict_by t) v)
 
 -- a second vote of a replica
 pub undecided_by_vote : (c : Setting) (t : TransactionValue) (taken : List TakenValue) (v : VotedValue) →
@@ -136,8 +137,8 @@ undecided_by_vote c t taken v again =
 
 -- ---- a log reply more
 
-certificates-of_log : (taken : List TakenValue) (r : LogReplyValue) → filter_map certificate_in
-    (taken ++ TakenLog r ∷ []) ≡ filter_map certificate_in taken
+certificates-of_log : (taken : List TakenValue) (r : LogReplyValue) →
+    filter_map certificate_in (taken ++ TakenLog r ∷ []) ≡ filter_map certificate_in taken
 certificates-of_log taken r = filter_map-append certificate_in taken (TakenLog r ∷ []) ∙ append-nil (filter_map certificate_in taken)
 
 votes-of_log : (taken : List TakenValue) (r : LogReplyValue) → counted_votes (taken ++ TakenLog r ∷ []) ≡ counted_votes taken
@@ -148,8 +149,8 @@ votes-of_log taken r =
 replies-of_log : (taken : List TakenValue) (r : LogReplyValue) → replies_of (taken ++ TakenLog r ∷ []) ≡ replies_of taken ++ r ∷ []
 replies-of_log taken r = filter_map-append reply_in taken (TakenLog r ∷ [])
 
-pub decided_by_log : (c : Setting) (t : TransactionValue) (taken : List TakenValue)
-    (r : LogReplyValue) (l : Logs) → certificate_by c t taken ≡ None →
+pub decided_by_log : (c : Setting) (t : TransactionValue) (taken : List TakenValue) (r : LogReplyValue) (l : Logs) →
+    certificate_by c t taken ≡ None →
     HoldsLogs l (replies_of taken ++ r ∷ []) → certificate_by c t (taken ++ TakenLog r ∷ []) ≡ logged_as c t l r.decision r.decided
 decided_by_log c t taken r l none held =
     let all = taken ++ TakenLog r ∷ [] in
@@ -164,8 +165,8 @@ decided_by_log c t taken r l none held =
 
 -- ---- a certificate more
 
-pub decided_by_certificate : (c : Setting) (t : TransactionValue) (taken : List TakenValue)
-    (x : CertificateValue) → certificate_by c t taken ≡ None →
+pub decided_by_certificate : (c : Setting) (t : TransactionValue) (taken : List TakenValue) (x : CertificateValue) →
+    certificate_by c t taken ≡ None →
     certificate_by c t (taken ++ TakenCertificate x ∷ []) ≡ Some x
 decided_by_certificate c t taken x none =
     let all = taken ++ TakenCertificate x ∷ [] in
@@ -174,8 +175,8 @@ decided_by_certificate c t taken x none =
     ∙ ap (λ cs. by_parts c t cs (counted_votes all) (replies_of all))
     (filter_map-append certificate_in taken (TakenCertificate x ∷ []) ∙ ap (λ cs. cs ++ x ∷ []) no.certificates)
 
-votes-of_certificate : (taken : List TakenValue) (x : CertificateValue) → counted_votes
-    (taken ++ TakenCertificate x ∷ []) ≡ counted_votes taken
+votes-of_certificate : (taken : List TakenValue) (x : CertificateValue) →
+    counted_votes (taken ++ TakenCertificate x ∷ []) ≡ counted_votes taken
 votes-of_certificate taken x =
     ap (Rattle.node_steps.specs.Lists.firsts Rattle.client_recover.specs.Counting.same_voter)
     (filter_map-append vote_in taken (TakenCertificate x ∷ []) ∙ append-nil (filter_map vote_in taken))
@@ -191,8 +192,8 @@ with_second u p h = record { transaction = h.transaction; signature = h.signatur
 settled_stands : (u : Pursuit) (c : Setting) (p : PursuitValue) → StandsFor u p → StandsFor u (settle c p).pursuit
 settled_stands u c p h = by (is_some (outcome c p) || p.second) (settled c p.transaction p.taken)
   where
-    by : (b : Bool) (o : Option LogsValue) → StandsFor u
-        (let d : PursuitDone = cond b (still p) (option_map_or (start_second c p) o (still p)) in d).pursuit
+    by : (b : Bool) (o : Option LogsValue) →
+        StandsFor u (let d : PursuitDone = cond b (still p) (option_map_or (start_second c p) o (still p)) in d).pursuit
     by true o = h
     by false None = h
     by false (Some l) = with_second u p h
@@ -211,7 +212,8 @@ pub takes_open : (u : Pursuit) (c : Setting) (p : PursuitValue) (x : TakenValue)
     StandsFor u (took p x) → StandsFor u (take_frame c p x).pursuit
 takes_open u c p x none h =
     subst (λ (b : Bool). StandsFor u
-    (let d : PursuitDone = cond b (still p) (option_map_or (tell c (took p x)) (outcome c (took p x)) (go_on c (took p x))) in d).pursuit)
+    (let d : PursuitDone = cond b (still p)
+    (option_map_or (tell c (took p x)) (outcome c (took p x)) (go_on c (took p x))) in d).pursuit)
     (sym (ap (λ o. is_some (option_map decided_by o)) none)) (after_outcome u c (took p x) (outcome c (took p x)) h)
 
 some_decided : (o : Option CertificateValue) → is_some o ≡ true → is_some (option_map decided_by o) ≡ true
@@ -219,11 +221,12 @@ some_decided None e = absurd cc
 some_decided (Some x) e = refl
 
 -- nothing is taken where there is one
-pub takes_ended : (u : Pursuit) (c : Setting) (p : PursuitValue) (x : TakenValue)
-    → is_some (certificate_by c p.transaction p.taken) ≡ true →
+pub takes_ended : (u : Pursuit) (c : Setting) (p : PursuitValue) (x : TakenValue) →
+    is_some (certificate_by c p.transaction p.taken) ≡ true →
     StandsFor u p → StandsFor u (take_frame c p x).pursuit
 takes_ended u c p x some h =
-    subst (λ (b : Bool). StandsFor u (let d : PursuitDone = cond b (still p)
+    subst (λ (b : Bool). StandsFor u
+    (let d : PursuitDone = cond b (still p)
     (option_map_or (tell c (took p x)) (outcome c (took p x)) (go_on c (took p x))) in d).pursuit)
     (sym (some_decided (certificate_by c p.transaction p.taken) some)) h
 
@@ -243,17 +246,17 @@ no_item : {A : Type 0} (o : Option A) → is_some o ≡ false → o ≡ None
 no_item None e = refl
 no_item (Some a) e = absurd cc
 
-open_at : (u : Pursuit) (p : PursuitValue) → StandsFor u p → is_some u.outcome
-    ≡ false → certificate_by u.cluster p.transaction p.taken ≡ None
+open_at : (u : Pursuit) (p : PursuitValue) → StandsFor u p → is_some u.outcome ≡ false →
+    certificate_by u.cluster p.transaction p.taken ≡ None
 open_at u p h none = sym h.outcome ∙ ap (option_map certificate_value) (no_item u.outcome none)
 
-ended_at : (u : Pursuit) (p : PursuitValue) → StandsFor u p → is_some u.outcome ≡ true
-    → is_some (certificate_by u.cluster p.transaction p.taken) ≡ true
+ended_at : (u : Pursuit) (p : PursuitValue) → StandsFor u p → is_some u.outcome ≡ true →
+    is_some (certificate_by u.cluster p.transaction p.taken) ≡ true
 ended_at u p h some = sym (ap is_some h.outcome) ∙ some_value u.outcome ∙ some
 
 -- what stands for something, and changes nothing but what `undo` does
-same_stands : (old new : Pursuit) (p : PursuitValue) → Alike old new → new.votes
-    ≡ old.votes → SameLogs old.logs new.logs → new.outcome ≡ old.outcome →
+same_stands : (old new : Pursuit) (p : PursuitValue) → Alike old new → new.votes ≡ old.votes → SameLogs old.logs new.logs →
+    new.outcome ≡ old.outcome →
     StandsFor old p → StandsFor new p
 same_stands old new p a votes logs ended h =
     record {
@@ -282,8 +285,8 @@ alike_itself u = record { transaction = refl; signature = refl; cluster = refl }
 
 -- ---- a frame is taken and nothing is kept of it
 
-pub skips_ended : (old new : Pursuit) (x : TakenValue) → Alike old new → new.votes
-    ≡ old.votes → SameLogs old.logs new.logs → new.outcome ≡ old.outcome →
+pub skips_ended : (old new : Pursuit) (x : TakenValue) → Alike old new → new.votes ≡ old.votes → SameLogs old.logs new.logs →
+    new.outcome ≡ old.outcome →
     new.last ≡ last.Same → is_some old.outcome ≡ true → Takes old new x
 skips_ended old new x a votes logs ended e some =
     record {
@@ -291,8 +294,8 @@ skips_ended old new x a votes logs ended e some =
       back = λ p h. goes_back_same new p e (same_stands old new p a votes logs ended h);
     }
 
-pub skips_vote : (old new : Pursuit) (v : VotedValue) → Alike old new → new.votes
-    ≡ old.votes → SameLogs old.logs new.logs → new.outcome ≡ old.outcome →
+pub skips_vote : (old new : Pursuit) (v : VotedValue) → Alike old new → new.votes ≡ old.votes → SameLogs old.logs new.logs →
+    new.outcome ≡ old.outcome →
     new.last ≡ last.Same → is_some old.outcome ≡ false → has_voted v.shard v.replica old.votes ≡ true → Takes old new (TakenVote v)
 skips_vote old new v a votes logs ended e none again =
     record {
@@ -317,8 +320,8 @@ without_pushed votes v =
     let n : length (votes ++ v ∷ []) - 1 ≡ length votes = omega (arith, length-append votes (v ∷ [])) in
     ap (λ n. take n (votes ++ v ∷ [])) n ∙ take-append_seam votes (v ∷ [])
 
-pub counts_vote : (old new : Pursuit) (v : VotedValue) → Alike old new → new.votes ≡ old.votes
-    ++ counted v ∷ [] → new.logs ≡ old.logs → new.last ≡ last.Vote →
+pub counts_vote : (old new : Pursuit) (v : VotedValue) → Alike old new → new.votes ≡ old.votes ++ counted v ∷ [] → new.logs ≡ old.logs →
+    new.last ≡ last.Vote →
     old.outcome ≡ None → has_voted v.shard v.replica old.votes ≡ false →
     option_map certificate_value new.outcome
     ≡ or_else (fast_by old.cluster (id old.transaction) (involved old.cluster old.transaction) (old.votes ++ counted v ∷ []))
@@ -333,13 +336,13 @@ counts_vote old new v a votes logs e none first ended =
           (record {
             transaction = a.transaction ∙ h.transaction;
             signature = a.signature ∙ h.signature;
-            votes = votes ∙ ap (λ vs. vs ++ counted v ∷ []) h.votes ∙ sym
-                (ap (map counted) (votes-one_more p.taken v voted) ∙ map-append counted (counted_votes p.taken) (v ∷ []));
+            votes = votes ∙ ap (λ vs. vs ++ counted v ∷ []) h.votes
+                ∙ sym (ap (map counted) (votes-one_more p.taken v voted) ∙ map-append counted (counted_votes p.taken) (v ∷ []));
             logs = subst (HoldsLogs new.logs) (sym (replies-of_vote p.taken v))
                 (subst (λ l. HoldsLogs l (replies_of p.taken)) (sym logs) h.logs);
             outcome = ended
-                ∙ ap (λ t. or_else (fast_by old.cluster (id t) (involved old.cluster t) (old.votes ++ counted v ∷ [])) (conflict_by t v))
-                h.transaction
+                ∙ ap (λ t. or_else (fast_by old.cluster (id t) (involved old.cluster t) (old.votes ++ counted v ∷ []))
+                (conflict_by t v)) h.transaction
                 ∙ ap (λ vs. or_else (fast_by old.cluster (id p.transaction) (involved old.cluster p.transaction) (vs ++ counted v ∷ []))
                 (conflict_by p.transaction v)) h.votes
                 ∙ sym (decided_by_vote old.cluster p.transaction p.taken v open_now voted)
@@ -349,8 +352,8 @@ counts_vote old new v a votes logs e none first ended =
           record {
             transaction = a.transaction ∙ h.transaction;
             signature = a.signature ∙ h.signature;
-            votes = ap (λ l. votes_back l new.votes) e ∙ ap (λ vs. take (length vs - 1) vs) votes
-                ∙ without_pushed old.votes (counted v) ∙ h.votes;
+            votes = ap (λ l. votes_back l new.votes) e ∙ ap (λ vs. take (length vs - 1) vs) votes ∙ without_pushed old.votes (counted v)
+                ∙ h.votes;
             logs = subst (λ l. LogsBack l new.logs (replies_of p.taken)) (sym e)
                 (subst (λ l. HoldsLogs l (replies_of p.taken)) (sym logs) h.logs);
             outcome = ap (λ l. outcome_back l (option_map certificate_value new.outcome)) e ∙ sym (ap (option_map certificate_value) none)
@@ -363,8 +366,8 @@ counts_vote old new v a votes logs e none first ended =
 pub counts_log : (old new : Pursuit) (r : LogReplyValue) (l : LastLog) → Alike old new → new.votes ≡ old.votes →
     ((replies : List LogReplyValue) → HoldsLogs old.logs replies → HoldsLogs new.logs (replies ++ r ∷ [])) →
     IsBefore l old.logs new.logs → new.last ≡ last.Log l → old.outcome ≡ None →
-    option_map certificate_value new.outcome ≡ logged_as old.cluster old.transaction
-    new.logs r.decision r.decided → Takes old new (TakenLog r)
+    option_map certificate_value new.outcome ≡ logged_as old.cluster old.transaction new.logs r.decision r.decided →
+    Takes old new (TakenLog r)
 counts_log old new r l a votes held before e none ended =
     record {
       now = λ p h.
@@ -388,15 +391,15 @@ counts_log old new r l a votes held before e none ended =
             votes = ap (λ l. votes_back l new.votes) e ∙ votes ∙ h.votes;
             logs = subst (λ l. LogsBack l new.logs (replies_of p.taken)) (sym e)
                 (before_holds l old.logs new.logs (replies_of p.taken) before h.logs);
-            outcome = ap (λ l. outcome_back l (option_map certificate_value new.outcome)) e ∙ sym
-                (ap (option_map certificate_value) none) ∙ h.outcome ∙ ap (λ c. certificate_by c p.transaction p.taken) (sym a.cluster);
+            outcome = ap (λ l. outcome_back l (option_map certificate_value new.outcome)) e ∙ sym (ap (option_map certificate_value) none)
+                ∙ h.outcome ∙ ap (λ c. certificate_by c p.transaction p.taken) (sym a.cluster);
           };
     }
 
 -- ---- a certificate is the outcome
 
-pub takes_outcome : (old new : Pursuit) (x : CertificateValue) → Alike old new
-    → new.votes ≡ old.votes → new.logs ≡ old.logs → new.last ≡ last.Outcome →
+pub takes_outcome : (old new : Pursuit) (x : CertificateValue) → Alike old new → new.votes ≡ old.votes → new.logs ≡ old.logs →
+    new.last ≡ last.Outcome →
     is_some old.outcome ≡ false → option_map certificate_value new.outcome ≡ Some x → Takes old new (TakenCertificate x)
 takes_outcome old new x a votes logs e none ended =
     record {
@@ -417,25 +420,25 @@ takes_outcome old new x a votes logs e none ended =
             transaction = a.transaction ∙ h.transaction;
             signature = a.signature ∙ h.signature;
             votes = ap (λ l. votes_back l new.votes) e ∙ votes ∙ h.votes;
-            logs = subst (λ l. LogsBack l new.logs (replies_of p.taken))
-                (sym e) (subst (λ l. HoldsLogs l (replies_of p.taken)) (sym logs) h.logs);
-            outcome = ap (λ l. outcome_back l (option_map certificate_value new.outcome)) e ∙ sym
-                (ap (option_map certificate_value) (no_item old.outcome none)) ∙ h.outcome ∙ ap
-                (λ c. certificate_by c p.transaction p.taken) (sym a.cluster);
+            logs = subst (λ l. LogsBack l new.logs (replies_of p.taken)) (sym e)
+                (subst (λ l. HoldsLogs l (replies_of p.taken)) (sym logs) h.logs);
+            outcome = ap (λ l. outcome_back l (option_map certificate_value new.outcome)) e
+                ∙ sym (ap (option_map certificate_value) (no_item old.outcome none)) ∙ h.outcome
+                ∙ ap (λ c. certificate_by c p.transaction p.taken) (sym a.cluster);
           };
     }
 
 -- ---- as before
 
-logs_back_same : (l : Last) (old new : Logs) (replies : List LogReplyValue)
-    → SameLogs old new → LogsBack l old replies → LogsBack l new replies
+logs_back_same : (l : Last) (old new : Logs) (replies : List LogReplyValue) → SameLogs old new → LogsBack l old replies →
+    LogsBack l new replies
 logs_back_same last.Same old new replies s h = held_same old new replies s h
 logs_back_same last.Vote old new replies s h = held_same old new replies s h
 logs_back_same (last.Log l) old new replies s h = back_same old new l replies s h
 logs_back_same last.Outcome old new replies s h = held_same old new replies s h
 
-pub as_before : (old new : Pursuit) → Alike old new → new.votes ≡ old.votes
-    → SameLogs old.logs new.logs → new.outcome ≡ old.outcome → new.last ≡ old.last →
+pub as_before : (old new : Pursuit) → Alike old new → new.votes ≡ old.votes → SameLogs old.logs new.logs → new.outcome ≡ old.outcome →
+    new.last ≡ old.last →
     IsAsBefore old new
 as_before old new a votes logs ended e =
     record {
@@ -447,8 +450,8 @@ as_before old new a votes logs ended e =
             votes = ap (λ l. votes_back l new.votes) e ∙ ap (votes_back old.last) votes ∙ h.votes;
             logs = subst (λ l. LogsBack l new.logs (replies_of p.taken)) (sym e)
                 (logs_back_same old.last old.logs new.logs (replies_of p.taken) logs h.logs);
-            outcome = ap (λ l. outcome_back l (option_map certificate_value new.outcome)) e ∙ ap
-                (λ o. outcome_back old.last (option_map certificate_value o)) ended ∙ h.outcome
+            outcome = ap (λ l. outcome_back l (option_map certificate_value new.outcome)) e
+                ∙ ap (λ o. outcome_back old.last (option_map certificate_value o)) ended ∙ h.outcome
                 ∙ ap (λ c. certificate_by c p.transaction p.taken) (sym a.cluster);
           };
     }
@@ -471,8 +474,8 @@ voted_stands u p h shards =
 
 pub held_stands : (u : Pursuit) (p : PursuitValue) → StandsFor u p → length u.votes + u.logs.count ≡ replies_held p.taken
 held_stands u p h =
-    ap (λ (vs : List CountedVote). length vs + u.logs.count) h.votes ∙ ap
-    (λ n. n + u.logs.count) (length-map (counted_votes p.taken) counted)
+    ap (λ (vs : List CountedVote). length vs + u.logs.count) h.votes
+    ∙ ap (λ n. n + u.logs.count) (length-map (counted_votes p.taken) counted)
     ∙ ap (λ n. length (counted_votes p.taken) + n) h.logs.count
 
 -- before the last one
@@ -486,61 +489,61 @@ stands_back u p e h =
       outcome = sym (ap (λ l. outcome_back l (option_map certificate_value u.outcome)) e) ∙ h.outcome;
     }
 
-pub held_without : (u : Pursuit) (p : PursuitValue) (votes : List CountedVote) → votes
-    ≡ map counted (counted_votes p.taken) → HoldsLogs u.logs (replies_of p.taken) →
+pub held_without : (u : Pursuit) (p : PursuitValue) (votes : List CountedVote) → votes ≡ map counted (counted_votes p.taken) →
+    HoldsLogs u.logs (replies_of p.taken) →
     length votes + u.logs.count ≡ replies_held p.taken
 held_without u p votes is logs =
     ap (λ (vs : List CountedVote). length vs + u.logs.count) is ∙ ap (λ n. n + u.logs.count) (length-map (counted_votes p.taken) counted)
     ∙ ap (λ n. length (counted_votes p.taken) + n) logs.count
 
-pub held_back_outcome : (u : Pursuit) (p : PursuitValue) → u.last ≡ last.Outcome
-    → GoesBackTo u p → length u.votes + u.logs.count ≡ replies_held p.taken
+pub held_back_outcome : (u : Pursuit) (p : PursuitValue) → u.last ≡ last.Outcome → GoesBackTo u p →
+    length u.votes + u.logs.count ≡ replies_held p.taken
 held_back_outcome u p e h =
     held_without u p u.votes (sym (ap (λ l. votes_back l u.votes) e) ∙ h.votes)
     (subst (λ l. LogsBack l u.logs (replies_of p.taken)) e h.logs)
 
-pub held_back_vote : (u : Pursuit) (p : PursuitValue) → u.last ≡ last.Vote → GoesBackTo u p
-    → (length u.votes - 1) + u.logs.count ≡ replies_held p.taken
+pub held_back_vote : (u : Pursuit) (p : PursuitValue) → u.last ≡ last.Vote → GoesBackTo u p →
+    (length u.votes - 1) + u.logs.count ≡ replies_held p.taken
 held_back_vote u p e h =
-    let one_less : length (take (length u.votes - 1) u.votes) ≡ length u.votes - 1 = omega
-    (arith, length-take (length u.votes - 1) u.votes) in
+    let one_less : length (take (length u.votes - 1) u.votes) ≡ length u.votes - 1 =
+    omega (arith, length-take (length u.votes - 1) u.votes) in
     ap (λ n. n + u.logs.count) (sym one_less)
     ∙ held_without u p (take (length u.votes - 1) u.votes) (sym (ap (λ l. votes_back l u.votes) e) ∙ h.votes)
     (subst (λ l. LogsBack l u.logs (replies_of p.taken)) e h.logs)
 
-pub held_back_log : (u : Pursuit) (p : PursuitValue) (l : LastLog) → u.last ≡ last.Log l
-    → GoesBackTo u p → length u.votes + (u.logs.count - 1) ≡ replies_held p.taken
+pub held_back_log : (u : Pursuit) (p : PursuitValue) (l : LastLog) → u.last ≡ last.Log l → GoesBackTo u p →
+    length u.votes + (u.logs.count - 1) ≡ replies_held p.taken
 held_back_log u p l e h =
     let votes : u.votes ≡ map counted (counted_votes p.taken) = sym (ap (λ l. votes_back l u.votes) e) ∙ h.votes in
     let logs : HoldsBefore l u.logs (replies_of p.taken) = subst (λ l. LogsBack l u.logs (replies_of p.taken)) e h.logs in
     let few : u.logs.count - 1 ≡ length (replies_of p.taken) = omega (arith, logs.count) in
-    ap (λ (vs : List CountedVote). length vs + (u.logs.count - 1)) votes ∙ ap
-    (λ n. n + (u.logs.count - 1)) (length-map (counted_votes p.taken) counted)
+    ap (λ (vs : List CountedVote). length vs + (u.logs.count - 1)) votes
+    ∙ ap (λ n. n + (u.logs.count - 1)) (length-map (counted_votes p.taken) counted)
     ∙ ap (λ n. length (counted_votes p.taken) + n) few
 
 pub latest_stands : (u : Pursuit) (p : PursuitValue) → StandsFor u p →
-    map reply_value (filter_map (latest_at u.logs) (all_replicas u.cluster)) ≡ map as_reply
-    (filter_map (latest_by (replies_of p.taken)) (all_replicas u.cluster))
+    map reply_value (filter_map (latest_at u.logs) (all_replicas u.cluster))
+    ≡ map as_reply (filter_map (latest_by (replies_of p.taken)) (all_replicas u.cluster))
 latest_stands u p h =
     ap (λ (f : ℕ → Option InvokePart). map reply_value (filter_map f (all_replicas u.cluster))) (λ i n. h.logs.latest n i)
     ∙ ap (map reply_value) (filter_map-option_map as_latest (latest_by (replies_of p.taken)) (all_replicas u.cluster))
     ∙ map-map as_latest reply_value (filter_map (latest_by (replies_of p.taken)) (all_replicas u.cluster))
 
-pub second_stands : (u : Pursuit) (p : PursuitValue) → StandsFor u p → u.shards ≡ involved u.cluster u.transaction
-    → (o : Option ToLog) (l : ToLog) (m : Message) → o ≡ Some l →
-    option_map logged_value o ≡ logged_by u.cluster u.shards u.votes → message_value m
-    ≡ second_stage (unstarted u.transaction u.signature) (logged_value l) →
+pub second_stands : (u : Pursuit) (p : PursuitValue) → StandsFor u p → u.shards ≡ involved u.cluster u.transaction →
+    (o : Option ToLog) (l : ToLog) (m : Message) → o ≡ Some l →
+    option_map logged_value o ≡ logged_by u.cluster u.shards u.votes →
+    message_value m ≡ second_stage (unstarted u.transaction u.signature) (logged_value l) →
     option_map message_value (Some m) ≡ option_map (second_stage p) (settled u.cluster p.transaction p.taken)
 second_stands u p h shards o l m is logged told =
     ap Some
-    (told ∙ ap (λ t. second_stage (unstarted t u.signature) (logged_value l)) h.transaction ∙ ap
-    (λ s. second_stage (unstarted p.transaction s) (logged_value l)) h.signature)
+    (told ∙ ap (λ t. second_stage (unstarted t u.signature) (logged_value l)) h.transaction
+    ∙ ap (λ s. second_stage (unstarted p.transaction s) (logged_value l)) h.signature)
     ∙ ap (option_map (second_stage p)) (sym (ap (option_map logged_value) is) ∙ logged ∙ logged_stands u p h shards)
 
-pub no_second : (u : Pursuit) (p : PursuitValue) → StandsFor u p → u.shards
-    ≡ involved u.cluster u.transaction → (o : Option ToLog) → o ≡ None →
-    option_map logged_value o ≡ logged_by u.cluster u.shards u.votes → None ≡ option_map
-    (second_stage p) (settled u.cluster p.transaction p.taken)
+pub no_second : (u : Pursuit) (p : PursuitValue) → StandsFor u p → u.shards ≡ involved u.cluster u.transaction → (o : Option ToLog) →
+    o ≡ None →
+    option_map logged_value o ≡ logged_by u.cluster u.shards u.votes →
+    None ≡ option_map (second_stage p) (settled u.cluster p.transaction p.taken)
 no_second u p h shards o is logged =
     ap (option_map (second_stage p)) (sym (ap (option_map logged_value) is) ∙ logged ∙ logged_stands u p h shards)
 
@@ -555,8 +558,8 @@ pub no_invoke : (u : Pursuit) (p : PursuitValue) → StandsFor u p → u.logs.co
 no_invoke u p h none =
     sym (ap (λ b. cond b None (Some (invoke_message u.cluster p))) (counts_none (length (replies_of p.taken)) (sym h.logs.count ∙ none)))
 
-pub invoke_stands : (u : Pursuit) (p : PursuitValue) (m : Message) → StandsFor u p
-    → (u.logs.count ≡ 0 → ⊥) → message_value m ≡ invoked u.cluster u.transaction u.logs →
+pub invoke_stands : (u : Pursuit) (p : PursuitValue) (m : Message) → StandsFor u p → (u.logs.count ≡ 0 → ⊥) →
+    message_value m ≡ invoked u.cluster u.transaction u.logs →
     option_map message_value (Some m) ≡ cond (length (replies_of p.taken) == 0) None (Some (invoke_message u.cluster p))
 invoke_stands u p m h some told =
     ap Some
@@ -566,8 +569,8 @@ invoke_stands u p m h some told =
     ∙ sym (ap (λ b. cond b None (Some (invoke_message u.cluster p)))
     (counts_some (length (replies_of p.taken)) (λ e. some (h.logs.count ∙ e))))
 
-pub outcome_stands : (u : Pursuit) (p : PursuitValue) → StandsFor u p → (x : Certificate)
-    (d : Decision) → u.outcome ≡ Some x → d ≡ decision_of (certificate_value x).body →
+pub outcome_stands : (u : Pursuit) (p : PursuitValue) → StandsFor u p → (x : Certificate) (d : Decision) → u.outcome ≡ Some x →
+    d ≡ decision_of (certificate_value x).body →
     Some (let v : DecidedValue = record { decision = d; certificate = certificate_value x } in v) ≡ outcome u.cluster p
 outcome_stands u p h x d is e =
     ap (λ d. Some (let v : DecidedValue = record { decision = d; certificate = certificate_value x } in v)) e
@@ -576,15 +579,15 @@ outcome_stands u p h x d is e =
 pub no_outcome_stands : (u : Pursuit) (p : PursuitValue) → StandsFor u p → u.outcome ≡ None → None ≡ outcome u.cluster p
 no_outcome_stands u p h is = ap (option_map decided_by) (sym (ap (option_map certificate_value) is) ∙ h.outcome)
 
-pub no_outcome_back : (u : Pursuit) (p : PursuitValue) → GoesBackTo u p → outcome_back u.last
-    (option_map certificate_value u.outcome) ≡ None → None ≡ outcome u.cluster p
+pub no_outcome_back : (u : Pursuit) (p : PursuitValue) → GoesBackTo u p →
+    outcome_back u.last (option_map certificate_value u.outcome) ≡ None → None ≡ outcome u.cluster p
 no_outcome_back u p h none = ap (option_map decided_by) (sym none ∙ h.outcome)
 
 -- ---- undone
 
 undone : (old new : Pursuit) (p : PursuitValue) → Alike old new → GoesBackTo old p → new.votes ≡ votes_back old.last old.votes →
-    HoldsLogs new.logs (replies_of p.taken) → option_map certificate_value new.outcome
-    ≡ outcome_back old.last (option_map certificate_value old.outcome) → StandsFor new p
+    HoldsLogs new.logs (replies_of p.taken) →
+    option_map certificate_value new.outcome ≡ outcome_back old.last (option_map certificate_value old.outcome) → StandsFor new p
 undone old new p a h votes logs ended =
     record {
       transaction = a.transaction ∙ h.transaction;
@@ -594,16 +597,16 @@ undone old new p a h votes logs ended =
       outcome = ended ∙ h.outcome ∙ ap (λ c. certificate_by c p.transaction p.taken) (sym a.cluster);
     }
 
-pub undoes_same : (old new : Pursuit) (p : PursuitValue) → old.last ≡ last.Same
-    → Alike old new → new.votes ≡ old.votes → new.logs ≡ old.logs →
+pub undoes_same : (old new : Pursuit) (p : PursuitValue) → old.last ≡ last.Same → Alike old new → new.votes ≡ old.votes →
+    new.logs ≡ old.logs →
     new.outcome ≡ old.outcome → GoesBackTo old p → StandsFor new p
 undoes_same old new p e a votes logs ended h =
     undone old new p a h (votes ∙ sym (ap (λ l. votes_back l old.votes) e))
     (subst (λ l. HoldsLogs l (replies_of p.taken)) (sym logs) (subst (λ l. LogsBack l old.logs (replies_of p.taken)) e h.logs))
     (ap (option_map certificate_value) ended ∙ sym (ap (λ l. outcome_back l (option_map certificate_value old.outcome)) e))
 
-pub undoes_vote : (old new : Pursuit) (p : PursuitValue) → old.last ≡ last.Vote
-    → Alike old new → new.votes ≡ take (length old.votes - 1) old.votes →
+pub undoes_vote : (old new : Pursuit) (p : PursuitValue) → old.last ≡ last.Vote → Alike old new →
+    new.votes ≡ take (length old.votes - 1) old.votes →
     new.logs ≡ old.logs → new.outcome ≡ None → GoesBackTo old p → StandsFor new p
 undoes_vote old new p e a votes logs ended h =
     undone old new p a h (votes ∙ sym (ap (λ l. votes_back l old.votes) e))
@@ -611,15 +614,15 @@ undoes_vote old new p e a votes logs ended h =
     (ap (option_map certificate_value) ended ∙ sym (ap (λ l. outcome_back l (option_map certificate_value old.outcome)) e))
 
 pub undoes_log : (old new : Pursuit) (p : PursuitValue) (l : LastLog) → old.last ≡ last.Log l → Alike old new → new.votes ≡ old.votes →
-    ((replies : List LogReplyValue) → HoldsBefore l old.logs replies → HoldsLogs new.logs replies)
-    → new.outcome ≡ None → GoesBackTo old p → StandsFor new p
+    ((replies : List LogReplyValue) → HoldsBefore l old.logs replies → HoldsLogs new.logs replies) → new.outcome ≡ None → GoesBackTo old p →
+    StandsFor new p
 undoes_log old new p l e a votes logs ended h =
     undone old new p a h (votes ∙ sym (ap (λ l. votes_back l old.votes) e))
     (logs (replies_of p.taken) (subst (λ l. LogsBack l old.logs (replies_of p.taken)) e h.logs))
     (ap (option_map certificate_value) ended ∙ sym (ap (λ l. outcome_back l (option_map certificate_value old.outcome)) e))
 
-pub undoes_outcome : (old new : Pursuit) (p : PursuitValue) → old.last ≡ last.Outcome
-    → Alike old new → new.votes ≡ old.votes → new.logs ≡ old.logs →
+pub undoes_outcome : (old new : Pursuit) (p : PursuitValue) → old.last ≡ last.Outcome → Alike old new → new.votes ≡ old.votes →
+    new.logs ≡ old.logs →
     new.outcome ≡ None → GoesBackTo old p → StandsFor new p
 undoes_outcome old new p e a votes logs ended h =
     undone old new p a h (votes ∙ sym (ap (λ l. votes_back l old.votes) e))

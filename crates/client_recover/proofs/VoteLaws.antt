@@ -17,8 +17,8 @@ use Rattle.quorum_laws.specs.Numbers.{replicas, fast_commit, commit_tally, abort
 use Rattle.txn_meta.specs.Places.{involved}
 use Rattle.client_recover.specs.declared.votes.CountedVote.{CountedVote}
 use Rattle.client_recover.specs.Taken.{TakenValue, TakenVote, LogsValue}
-use Rattle.client_recover.specs.Counting.{all_replicas, vote_in, certificate_in, same_voter, counted_votes, votes_for, has_votes, voted_in}
-use Rattle.client_recover.specs.Counting.{as_vote, tally_of, replies_of}
+use Rattle.client_recover.specs.Counting.{all_replicas, vote_in, certificate_in, same_voter, counted_votes, votes_for, has_votes}
+use Rattle.client_recover.specs.Counting.{voted_in, as_vote, tally_of, replies_of}
 use Rattle.client_recover.specs.Counting as counting
 use Rattle.client_recover.specs.Certifying.{certificate_of, each_has, lowest_with, by_writeback, by_fast_commit, by_fast_abort}
 use Rattle.client_recover.specs.Certifying.{fast_abort_in, conflict_by, by_conflict, by_log, certificate_by, logs_commit, logs_abort}
@@ -35,25 +35,25 @@ kept_votes taken = map counted (counted_votes taken)
 
 -- ---- counts
 
-votes_so-kept : (taken : List TakenValue) (d : Decision) (shard : ℕ) → votes_so
-    (kept_votes taken) d shard ≡ map counted (votes_for taken shard d)
+votes_so-kept : (taken : List TakenValue) (d : Decision) (shard : ℕ) →
+    votes_so (kept_votes taken) d shard ≡ map counted (votes_for taken shard d)
 votes_so-kept taken d shard = filter-map counted (is_so shard d) (counted_votes taken)
 
-pub enough-kept : (taken : List TakenValue) (d : Decision) (needed shard : ℕ) → are_enough
-    (kept_votes taken) d needed shard ≡ has_votes taken shard d needed
+pub enough-kept : (taken : List TakenValue) (d : Decision) (needed shard : ℕ) →
+    are_enough (kept_votes taken) d needed shard ≡ has_votes taken shard d needed
 enough-kept taken d needed shard =
-    ap (λ n. nat_le needed n) (ap (λ (vs : List CountedVote). length vs)
-    (votes_so-kept taken d shard) ∙ length-map (votes_for taken shard d) counted)
+    ap (λ n. nat_le needed n)
+    (ap (λ (vs : List CountedVote). length vs) (votes_so-kept taken d shard) ∙ length-map (votes_for taken shard d) counted)
 
-pub all-kept : (c : Setting) (taken : List TakenValue) (shard : ℕ) → has_all c
-    (kept_votes taken) shard ≡ nat_le (replicas c.f) (voted_in taken shard)
+pub all-kept : (c : Setting) (taken : List TakenValue) (shard : ℕ) →
+    has_all c (kept_votes taken) shard ≡ nat_le (replicas c.f) (voted_in taken shard)
 all-kept c taken shard =
     ap (λ n. nat_le (replicas c.f) n)
     (ap (λ (vs : List CountedVote). length vs) (filter-map counted (λ (v : CountedVote). v.shard == shard) (counted_votes taken))
     ∙ length-map (filter (λ (v : VotedValue). v.shard == shard) (counted_votes taken)) counted)
 
-pub all_voted-kept : (c : Setting) (t : TransactionValue) (taken : List TakenValue) → list_all
-    (has_all c (kept_votes taken)) (involved c t) ≡ all_voted c t taken
+pub all_voted-kept : (c : Setting) (t : TransactionValue) (taken : List TakenValue) →
+    list_all (has_all c (kept_votes taken)) (involved c t) ≡ all_voted c t taken
 all_voted-kept c t taken = ap (λ (f : ℕ → Bool). list_all f (involved c t)) (λ i shard. all-kept c taken shard i)
 
 each-kept : (c : Setting) (t : TransactionValue) (taken : List TakenValue) (d : Decision) (needed : ℕ) →
@@ -67,8 +67,8 @@ lowest-kept c t taken d needed = ap (λ (f : ℕ → Bool). find f (involved c t
 -- ---- tallies
 
 numbered-kept : (numbers : List ℕ) (votes : List VotedValue) →
-    by_number (λ (v : CountedVote). v.replica) numbers (map counted votes) ≡ map counted
-    (by_number (λ (v : VotedValue). v.replica) numbers votes)
+    by_number (λ (v : CountedVote). v.replica) numbers (map counted votes)
+    ≡ map counted (by_number (λ (v : VotedValue). v.replica) numbers votes)
 numbered-kept numbers votes =
     ap (λ (f : ℕ → Option CountedVote). filter_map f numbers) (λ i n. find-map counted (λ (v : CountedVote). v.replica == n) votes i)
     ∙ filter_map-option_map counted (first_with (λ (v : VotedValue). v.replica) votes) numbers
@@ -90,8 +90,8 @@ tallies-kept c t taken d needed = ap (λ (f : ℕ → TallyValue). map f (involv
 
 -- ---- what votes decide
 
-fast_commit-kept : (c : Setting) (t : TransactionValue) (taken : List TakenValue) → fast_commit_by c
-    (id t) (involved c t) (kept_votes taken) ≡ by_fast_commit c t taken
+fast_commit-kept : (c : Setting) (t : TransactionValue) (taken : List TakenValue) →
+    fast_commit_by c (id t) (involved c t) (kept_votes taken) ≡ by_fast_commit c t taken
 fast_commit-kept c t taken =
     ap (λ b. cond b
     (Some (certificate_of t (Commits (FastCommit (tallies c (involved c t) (kept_votes taken) Commit (fast_commit c.f)))))) None)
@@ -102,22 +102,22 @@ fast_commit-kept c t taken =
 fast_abort-kept : (c : Setting) (t : TransactionValue) (taken : List TakenValue) (lowest : Option ℕ) →
     fast_abort_of c (id t) (kept_votes taken) lowest ≡ option_map (fast_abort_in c t taken) lowest
 fast_abort-kept c t taken None = refl
-fast_abort-kept c t taken (Some shard) = ap (λ y. Some (certificate_of t (Rattle.frame_views.specs.Values.FastAbort y)))
-    (tally-kept c taken Abort (fast_abort c.f) shard)
+fast_abort-kept c t taken (Some shard) =
+    ap (λ y. Some (certificate_of t (Rattle.frame_views.specs.Values.FastAbort y))) (tally-kept c taken Abort (fast_abort c.f) shard)
 
 pub fast-kept : (c : Setting) (t : TransactionValue) (taken : List TakenValue) →
     fast_by c (id t) (involved c t) (kept_votes taken) ≡ or_else (by_fast_commit c t taken) (by_fast_abort c t taken)
 fast-kept c t taken =
-    ap (λ o. or_else o (fast_abort_of c (id t) (kept_votes taken)
-    (lowest_enough (involved c t) (kept_votes taken) Abort (fast_abort c.f)))) (fast_commit-kept c t taken)
+    ap (λ o. or_else o (fast_abort_of c (id t) (kept_votes taken) (lowest_enough (involved c t) (kept_votes taken) Abort (fast_abort c.f))))
+    (fast_commit-kept c t taken)
     ∙ ap (or_else (by_fast_commit c t taken))
-    (fast_abort-kept c t taken (lowest_enough (involved c t) (kept_votes taken) Abort (fast_abort c.f)) ∙ ap
-    (option_map (fast_abort_in c t taken)) (lowest-kept c t taken Abort (fast_abort c.f)))
+    (fast_abort-kept c t taken (lowest_enough (involved c t) (kept_votes taken) Abort (fast_abort c.f))
+    ∙ ap (option_map (fast_abort_in c t taken)) (lowest-kept c t taken Abort (fast_abort c.f)))
 
 -- ---- what votes let be logged
 
-commit_logged-kept : (c : Setting) (t : TransactionValue) (taken : List TakenValue)
-    → commit_logged c (involved c t) (kept_votes taken) ≡ logs_commit c t taken
+commit_logged-kept : (c : Setting) (t : TransactionValue) (taken : List TakenValue) →
+    commit_logged c (involved c t) (kept_votes taken) ≡ logs_commit c t taken
 commit_logged-kept c t taken =
     ap (λ b. cond b
     (Some (let l : LogsValue = record {
@@ -131,17 +131,18 @@ commit_logged-kept c t taken =
 abort_logged-kept : (c : Setting) (taken : List TakenValue) (lowest : Option ℕ) →
     abort_logged c (kept_votes taken) lowest ≡ option_map (certifying.abort_logged c taken) lowest
 abort_logged-kept c taken None = refl
-abort_logged-kept c taken (Some shard) = ap (λ y. Some (let l : LogsValue = record { decision = Abort; tallies = y ∷ [] } in l))
+abort_logged-kept c taken (Some shard) =
+    ap (λ y. Some (let l : LogsValue = record { decision = Abort; tallies = y ∷ [] } in l))
     (tally-kept c taken Abort (abort_tally c.f) shard)
 
-pub logged-kept : (c : Setting) (t : TransactionValue) (taken : List TakenValue)
-    → logged_by c (involved c t) (kept_votes taken) ≡ settled c t taken
+pub logged-kept : (c : Setting) (t : TransactionValue) (taken : List TakenValue) →
+    logged_by c (involved c t) (kept_votes taken) ≡ settled c t taken
 logged-kept c t taken =
     ap (λ o. or_else o (abort_logged c (kept_votes taken) (lowest_enough (involved c t) (kept_votes taken) Abort (abort_tally c.f))))
     (commit_logged-kept c t taken)
     ∙ ap (or_else (logs_commit c t taken))
-    (abort_logged-kept c taken (lowest_enough (involved c t) (kept_votes taken) Abort (abort_tally c.f)) ∙ ap
-    (option_map (certifying.abort_logged c taken)) (lowest-kept c t taken Abort (abort_tally c.f)))
+    (abort_logged-kept c taken (lowest_enough (involved c t) (kept_votes taken) Abort (abort_tally c.f))
+    ∙ ap (option_map (certifying.abort_logged c taken)) (lowest-kept c t taken Abort (abort_tally c.f)))
 
 -- ---- one vote more
 
@@ -150,8 +151,8 @@ votes-push : (taken : List TakenValue) (v : VotedValue) →
 votes-push taken v =
     ap (firsts same_voter) (filter_map-append vote_in taken (TakenVote v ∷ [])) ∙ firsts-push same_voter (filter_map vote_in taken) v
 
-voted-kept : (taken : List TakenValue) (v : VotedValue) → has_voted v.shard v.replica
-    (kept_votes taken) ≡ list_any (same_voter v) (counted_votes taken)
+voted-kept : (taken : List TakenValue) (v : VotedValue) →
+    has_voted v.shard v.replica (kept_votes taken) ≡ list_any (same_voter v) (counted_votes taken)
 voted-kept taken v = list_any-map counted (is_by v.shard v.replica) (counted_votes taken)
 
 -- it counts
@@ -164,13 +165,13 @@ votes-one_more taken v e =
 pub votes-as_before : (taken : List TakenValue) (v : VotedValue) → has_voted v.shard v.replica (kept_votes taken) ≡ true →
     counted_votes (taken ++ TakenVote v ∷ []) ≡ counted_votes taken
 votes-as_before taken v e =
-    votes-push taken v ∙ ap (λ b. counted_votes taken ++ cond b [] (v ∷ []))
-    (sym (voted-kept taken v) ∙ e) ∙ append-nil (counted_votes taken)
+    votes-push taken v ∙ ap (λ b. counted_votes taken ++ cond b [] (v ∷ [])) (sym (voted-kept taken v) ∙ e)
+    ∙ append-nil (counted_votes taken)
 
 -- a vote brings no log reply and no certificate
 pub replies-of_vote : (taken : List TakenValue) (v : VotedValue) → replies_of (taken ++ TakenVote v ∷ []) ≡ replies_of taken
 replies-of_vote taken v = filter_map-append counting.reply_in taken (TakenVote v ∷ []) ∙ append-nil (replies_of taken)
 
-certificates-of_vote : (taken : List TakenValue) (v : VotedValue)
-    → filter_map certificate_in (taken ++ TakenVote v ∷ []) ≡ filter_map certificate_in taken
+certificates-of_vote : (taken : List TakenValue) (v : VotedValue) →
+    filter_map certificate_in (taken ++ TakenVote v ∷ []) ≡ filter_map certificate_in taken
 certificates-of_vote taken v = filter_map-append certificate_in taken (TakenVote v ∷ []) ∙ append-nil (filter_map certificate_in taken)

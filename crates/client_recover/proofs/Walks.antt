@@ -33,8 +33,8 @@ find-map {A} {B} f p (x ∷ xs) = by (p (f x)) (find-map f p xs)
     by true e = refl
     by false e = e
 
-pub filter_map-option_map : {A B C : Type 0} (f : B → C) (h : A → Option B) (xs : List A)
-    → filter_map (λ x. option_map f (h x)) xs ≡ map f (filter_map h xs)
+pub filter_map-option_map : {A B C : Type 0} (f : B → C) (h : A → Option B) (xs : List A) →
+    filter_map (λ x. option_map f (h x)) xs ≡ map f (filter_map h xs)
 filter_map-option_map f h [] = refl
 filter_map-option_map {A} {B} {C} f h (x ∷ xs) = by (h x) (filter_map-option_map f h xs)
   where
@@ -67,20 +67,22 @@ swap false true c = refl
 swap false false c = refl
 
 pub firsts_after-push : {A : Type 0} (like : A → A → Bool) (before xs : List A) (x : A) →
-    firsts_after like before (xs ++ x ∷ []) ≡ firsts_after like before xs ++ cond
-    (list_any (like x) before || list_any (like x) (firsts_after like before xs)) [] (x ∷ [])
+    firsts_after like before (xs ++ x ∷ [])
+    ≡ firsts_after like before xs ++ cond (list_any (like x) before || list_any (like x) (firsts_after like before xs)) [] (x ∷ [])
 firsts_after-push {A} like before [] x = by (list_any (like x) before)
   where
     by : (b : Bool) → cond b [] (x ∷ []) ≡ cond (b || false) [] (x ∷ [])
     by true = refl
     by false = refl
-firsts_after-push {A} like before (y ∷ ys) x = by (list_any (like y) before)
-    (firsts_after-push like before ys x) (firsts_after-push like (y ∷ before) ys x)
+firsts_after-push {A} like before (y ∷ ys) x =
+    by (list_any (like y) before) (firsts_after-push like before ys x) (firsts_after-push like (y ∷ before) ys x)
   where
     by : (b : Bool) →
-        firsts_after like before (ys ++ x ∷ []) ≡ firsts_after like before ys ++ cond
-        (list_any (like x) before || list_any (like x) (firsts_after like before ys)) [] (x ∷ []) →
-        firsts_after like (y ∷ before) (ys ++ x ∷ []) ≡ firsts_after like (y ∷ before) ys ++ cond
+        firsts_after like before (ys ++ x ∷ [])
+        ≡ firsts_after like before ys ++ cond (list_any (like x) before || list_any (like x) (firsts_after like before ys)) []
+        (x ∷ []) →
+        firsts_after like (y ∷ before) (ys ++ x ∷ [])
+        ≡ firsts_after like (y ∷ before) ys ++ cond
         ((like x y || list_any (like x) before) || list_any (like x) (firsts_after like (y ∷ before) ys)) [] (x ∷ []) →
         cond b (firsts_after like before (ys ++ x ∷ [])) (y ∷ firsts_after like (y ∷ before) (ys ++ x ∷ []))
         ≡ cond b (firsts_after like before ys) (y ∷ firsts_after like (y ∷ before) ys)
@@ -110,8 +112,8 @@ row-push n =
     let here : 0 + n ≡ n = omega arith in
     ap (λ k. range_with_len 0 k) next ∙ row-suc 0 n ∙ ap (λ k. range_with_len 0 n ++ k ∷ []) here
 
-pub given-push : {A : Type 0} (f : ℕ → Option A) (n : ℕ) → filter_map f (range_with_len 0 (n + 1))
-    ≡ filter_map f (range_with_len 0 n) ++ filter_map f (n ∷ [])
+pub given-push : {A : Type 0} (f : ℕ → Option A) (n : ℕ) →
+    filter_map f (range_with_len 0 (n + 1)) ≡ filter_map f (range_with_len 0 n) ++ filter_map f (n ∷ [])
 given-push f n = ap (filter_map f) (row-push n) ∙ filter_map-append f (range_with_len 0 n) (n ∷ [])
 
 given_some : {A : Type 0} (f : ℕ → Option A) (n : ℕ) (a : A) → f n ≡ Some a → filter_map f (n ∷ []) ≡ a ∷ []
@@ -122,12 +124,12 @@ given_none {A} f n e = ap (λ (o : Option A). cons_option o []) e
 
 -- what a number gives is taken while there is room for it
 pub takes_one : {A B : Type 0} (f : ℕ → Option A) (g : A → B) (needed n : ℕ) (a : A) (got : List B) → length got < needed → f n ≡ Some a →
-    got ≡ map g (take needed (filter_map f (range_with_len 0 n))) → got ++ g a ∷ []
-    ≡ map g (take needed (filter_map f (range_with_len 0 (n + 1))))
+    got ≡ map g (take needed (filter_map f (range_with_len 0 n))) →
+    got ++ g a ∷ [] ≡ map g (take needed (filter_map f (range_with_len 0 (n + 1))))
 takes_one {A} {B} f g needed n a got room is e =
     let all = filter_map f (range_with_len 0 n) in
-    let count : length got ≡ min needed (length all) = ap (λ (ys : List B). length ys) e
-    ∙ length-map (take needed all) g ∙ length-take needed all in
+    let count : length got ≡ min needed (length all) =
+    ap (λ (ys : List B). length ys) e ∙ length-map (take needed all) g ∙ length-take needed all in
     let few : length all < needed = omega (arith, count, room) in
     let more : length (all ++ a ∷ []) ≤ needed = omega (arith, length-append all (a ∷ []), few) in
     ap (λ ys. ys ++ g a ∷ []) (e ∙ ap (map g) (take_all needed all (omega (arith, few))))
@@ -138,17 +140,18 @@ takes_one {A} {B} f g needed n a got room is e =
 pub takes_none : {A B : Type 0} (f : ℕ → Option A) (g : A → B) (needed n : ℕ) (got : List B) → f n ≡ None →
     got ≡ map g (take needed (filter_map f (range_with_len 0 n))) → got ≡ map g (take needed (filter_map f (range_with_len 0 (n + 1))))
 takes_none f g needed n got is e =
-    e ∙ sym (ap (λ ys. map g (take needed ys)) (given-push f n ∙ ap (λ ys. filter_map f (range_with_len 0 n) ++ ys)
-    (given_none f n is) ∙ append-nil (filter_map f (range_with_len 0 n))))
+    e ∙ sym (ap (λ ys. map g (take needed ys))
+    (given-push f n ∙ ap (λ ys. filter_map f (range_with_len 0 n) ++ ys) (given_none f n is)
+    ∙ append-nil (filter_map f (range_with_len 0 n))))
 
 pub takes_no_more : {A B : Type 0} (f : ℕ → Option A) (g : A → B) (needed n : ℕ) (got : List B) → needed ≤ length got →
     got ≡ map g (take needed (filter_map f (range_with_len 0 n))) → got ≡ map g (take needed (filter_map f (range_with_len 0 (n + 1))))
 takes_no_more {A} {B} f g needed n got full e =
     let all = filter_map f (range_with_len 0 n) in
-    let count : length got ≡ min needed (length all) = ap (λ (ys : List B). length ys) e ∙ length-map
-    (take needed all) g ∙ length-take needed all in
-    e ∙ sym (ap (λ ys. map g (take needed ys)) (given-push f n) ∙ ap (map g)
-    (take-append-le needed all (filter_map f (n ∷ [])) (omega (arith, count, full))))
+    let count : length got ≡ min needed (length all) =
+    ap (λ (ys : List B). length ys) e ∙ length-map (take needed all) g ∙ length-take needed all in
+    e ∙ sym (ap (λ ys. map g (take needed ys)) (given-push f n)
+    ∙ ap (map g) (take-append-le needed all (filter_map f (n ∷ [])) (omega (arith, count, full))))
 
 map-id : {A : Type 0} (xs : List A) → map (λ x. x) xs ≡ xs
 map-id [] = refl
@@ -176,20 +179,21 @@ keeps_no_more f needed n got full e =
 -- all that is given, with no bound
 pub all_one : {A : Type 0} (f : ℕ → Option A) (n : ℕ) (a : A) (got : List A) → f n ≡ Some a → got ≡ filter_map f (range_with_len 0 n) →
     got ++ a ∷ [] ≡ filter_map f (range_with_len 0 (n + 1))
-all_one f n a got is e = ap (λ ys. ys ++ a ∷ []) e ∙ sym
-    (given-push f n ∙ ap (λ ys. filter_map f (range_with_len 0 n) ++ ys) (given_some f n a is))
+all_one f n a got is e =
+    ap (λ ys. ys ++ a ∷ []) e ∙ sym (given-push f n ∙ ap (λ ys. filter_map f (range_with_len 0 n) ++ ys) (given_some f n a is))
 
 pub all_none : {A : Type 0} (f : ℕ → Option A) (n : ℕ) (got : List A) → f n ≡ None → got ≡ filter_map f (range_with_len 0 n) →
     got ≡ filter_map f (range_with_len 0 (n + 1))
-all_none f n got is e = e ∙ sym (given-push f n ∙ ap (λ ys. filter_map f (range_with_len 0 n) ++ ys)
-    (given_none f n is) ∙ append-nil (filter_map f (range_with_len 0 n)))
+all_none f n got is e =
+    e ∙ sym (given-push f n ∙ ap (λ ys. filter_map f (range_with_len 0 n) ++ ys) (given_none f n is)
+    ∙ append-nil (filter_map f (range_with_len 0 n)))
 
 -- how many numbers give something
 pub count_one : {A : Type 0} (f : ℕ → Option A) (n : ℕ) (a : A) (k : ℕ) → f n ≡ Some a → k ≡ length (filter_map f (range_with_len 0 n)) →
     k + 1 ≡ length (filter_map f (range_with_len 0 (n + 1)))
 count_one {A} f n a k is e =
-    ap (λ k. k + 1) e ∙ sym (length-append (filter_map f (range_with_len 0 n)) (a ∷ [])) ∙ ap
-    (λ (ys : List A). length ys) (all_one f n a (filter_map f (range_with_len 0 n)) is refl)
+    ap (λ k. k + 1) e ∙ sym (length-append (filter_map f (range_with_len 0 n)) (a ∷ []))
+    ∙ ap (λ (ys : List A). length ys) (all_one f n a (filter_map f (range_with_len 0 n)) is refl)
 
 pub count_none : {A : Type 0} (f : ℕ → Option A) (n : ℕ) (k : ℕ) → f n ≡ None → k ≡ length (filter_map f (range_with_len 0 n)) →
     k ≡ length (filter_map f (range_with_len 0 (n + 1)))

@@ -1,6 +1,6 @@
 -- Which of the votes and log replies that a client took count.
-use Rattle.std.specs.Prelude.{ℕ, ◌+◌, List, Bool, ◌&&◌, ◌==◌, Option, Some, None, filter, filter_map, length, map, take}
-use Rattle.std.specs.Prelude.{nat_le}
+use Rattle.std.specs.Prelude.{ℕ, ◌+◌, List, Bool, ◌&&◌, ◌==◌, Option, Some, None, filter, filter_map, length, map}
+use Rattle.std.specs.Prelude.{take, nat_le}
 use Rattle.std.specs.List.{range_with_len}
 use Rattle.basil_types.specs.declared.party.Decision.{Decision}
 use Rattle.basil_types.specs.Decision.{same_decision}

@@ -10,8 +10,8 @@ use Rattle.client_recover.specs.declared.votes.CountedVote.{CountedVote}
 use Rattle.client_recover.specs.Kept.{part_of, is_so, votes_so}
 use Rattle.client_recover.proofs.Walks.{find-filter, takes_one, takes_none, takes_no_more}
 use Rattle.client_recover.proofs.tallies.tally.Goals as goal
-use Rattle.client_recover.proofs.tallies.tally.Goals.{then-len-from+in-Some+in_ok-part_of-in-Some+in_ok-push-in-Some, then-len-from+in-None}
-use Rattle.client_recover.proofs.tallies.tally.Goals.{else-len-from}
+use Rattle.client_recover.proofs.tallies.tally.Goals.{then-len-from+in-Some+in_ok-part_of-in-Some+in_ok-push-in-Some}
+use Rattle.client_recover.proofs.tallies.tally.Goals.{then-len-from+in-None, else-len-from}
 
 pub loop-replica-preserved : goal.loop-replica-preserved
 loop-replica-preserved c =
@@ -23,8 +23,9 @@ loop-replica-preserved c =
     let found = find-filter (is_so c.args.shard c.args.decision) (λ (v : CountedVote). v.replica == n) votes in
     elim c.if-len-from.branch [
       | then-len-from+in-Some+in_ok-part_of-in-Some+in_ok-push-in-Some w ↦
-          let pushed = ap (λ p. map vote_value p.items) w.parts-is ∙ ap
-          (map vote_value) w.in_ok-push-in-Some.ensures.items ∙ map-append vote_value got (_ ∷ [])
+          let pushed =
+          ap (λ p. map vote_value p.items) w.parts-is ∙ ap (map vote_value) w.in_ok-push-in-Some.ensures.items
+          ∙ map-append vote_value got (_ ∷ [])
           ∙ ap (λ (v : VoteValue). map vote_value got ++ v ∷ []) w.in_ok-part_of-in-Some.ensures in
           pushed ∙ takes_one given part_of c.args.needed n w.in-Some.vote.now (map vote_value got)
           (omega (arith, count, w.if-len-from.true, c.len.ensures, c.from.ensures, c.loop-replica.parts.ok.0))

@@ -10,5 +10,6 @@ use Rattle.client_recover.proofs.tallies.tally.Given as goal
 abbrev pub invariant-loop-replica : goal.invariant-loop-replica
 invariant-loop-replica l =
     map vote_value l.parts.items ≡
-    map part_of (take l.needed
+    map part_of
+    (take l.needed
     (filter_map (first_with (λ (v : CountedVote). v.replica) (votes_so l.votes l.decision l.shard)) (range_with_len 0 l.replica)))

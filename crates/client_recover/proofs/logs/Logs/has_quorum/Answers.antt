@@ -11,13 +11,13 @@ loop-replica-preserved c =
     let given = earliest_at c.args.self.now c.args.decision c.args.decided in
     elim c.match-earliest.branch [
       | in-Some w ↦ (
-        w.logged-is ∙ count_one given n _ c.loop-replica.logged
-            (sym c.earliest.ensures ∙ ap option_copied w.in-Some.is) c.loop-replica.invariant.0,
+        w.logged-is
+            ∙ count_one given n _ c.loop-replica.logged (sym c.earliest.ensures ∙ ap option_copied w.in-Some.is) c.loop-replica.invariant.0,
         omega (arith, w.logged-is, c.loop-replica.invariant.1),
       )
       | in-None w ↦ (
-        w.logged-is ∙ count_none given n c.loop-replica.logged
-            (sym c.earliest.ensures ∙ ap option_copied w.in-None.is) c.loop-replica.invariant.0,
+        w.logged-is
+            ∙ count_none given n c.loop-replica.logged (sym c.earliest.ensures ∙ ap option_copied w.in-None.is) c.loop-replica.invariant.0,
         omega (arith, w.logged-is, c.loop-replica.invariant.1),
       )
     ]

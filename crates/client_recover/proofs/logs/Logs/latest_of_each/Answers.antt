@@ -13,10 +13,10 @@ loop-replica-preserved c =
     let given = latest_at c.args.self.now in
     elim c.match-latest.branch [
       | in-Some+in_ok-copy_of_latest-in-Some+in_ok-push-in-Some w ↦
-          ap (λ p. p.items) w.parts-is ∙ w.in_ok-push-in-Some.ensures.items ∙ ap
-          (λ (p : InvokePart). got ++ p ∷ []) w.in_ok-copy_of_latest-in-Some.ensures
+          ap (λ p. p.items) w.parts-is ∙ w.in_ok-push-in-Some.ensures.items
+          ∙ ap (λ (p : InvokePart). got ++ p ∷ []) w.in_ok-copy_of_latest-in-Some.ensures
           ∙ all_one given n w.in-Some.part.now got (sym c.latest.ensures ∙ ap option_copied w.in-Some.is) c.loop-replica.invariant
       | in-None w ↦
-          ap (λ p. p.items) w.parts-is ∙ all_none given n got
-          (sym c.latest.ensures ∙ ap option_copied w.in-None.is) c.loop-replica.invariant
+          ap (λ p. p.items) w.parts-is
+          ∙ all_none given n got (sym c.latest.ensures ∙ ap option_copied w.in-None.is) c.loop-replica.invariant
     ]

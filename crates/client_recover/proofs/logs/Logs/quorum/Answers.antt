@@ -15,14 +15,13 @@ loop-replica-preserved c =
     let given = earliest_at c.args.self.now c.args.decision c.args.decided in
     elim c.if-len-needed.branch [
       | then-len-needed+in-Some+in_ok-copy_of_part-in-Some+in_ok-push-in-Some w ↦
-          ap (λ p. p.items) w.parts-is ∙ w.in_ok-push-in-Some.ensures.items ∙ ap
-          (λ (p : LogPart). got ++ p ∷ []) w.in_ok-copy_of_part-in-Some.ensures
-          ∙ keeps_one given needed n w.in-Some.part.now got
-          (omega (arith, w.if-len-needed.true, c.len.ensures, c.loop-replica.parts.ok.0))
+          ap (λ p. p.items) w.parts-is ∙ w.in_ok-push-in-Some.ensures.items
+          ∙ ap (λ (p : LogPart). got ++ p ∷ []) w.in_ok-copy_of_part-in-Some.ensures
+          ∙ keeps_one given needed n w.in-Some.part.now got (omega (arith, w.if-len-needed.true, c.len.ensures, c.loop-replica.parts.ok.0))
           (sym w.earliest.ensures ∙ ap option_copied w.in-Some.is) c.loop-replica.invariant
       | then-len-needed+in-None w ↦
-          ap (λ p. p.items) w.parts-is ∙ keeps_none given needed n got
-          (sym w.earliest.ensures ∙ ap option_copied w.in-None.is) c.loop-replica.invariant
+          ap (λ p. p.items) w.parts-is
+          ∙ keeps_none given needed n got (sym w.earliest.ensures ∙ ap option_copied w.in-None.is) c.loop-replica.invariant
       | else-len-needed w ↦
           ap (λ p. p.items) w.parts-is
           ∙ keeps_no_more given needed n got

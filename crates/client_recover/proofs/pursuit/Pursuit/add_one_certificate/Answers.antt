@@ -11,8 +11,8 @@ returns-in-Err-clause-refused g c ne =
     let v = writeback_of c.args.m.now in
     let u = c.args.self.now in
     let A = g.V.Verifier.accepted c.args.keys.now in
-    refused_of (id v.transaction) u.transaction (writeback_fault A u.cluster u.transaction v)
-    (TakenCertificate v.certificate) _ (search rules)
+    refused_of (id v.transaction) u.transaction (writeback_fault A u.cluster u.transaction v) (TakenCertificate v.certificate) _
+    (search rules)
     (ap (λ t. writeback_fault A u.cluster t v) (sym c.view.ensures.value) ∙ c.in-Err.ensures)
 
 pub returns-in_ok-take_certificate-in-Ok-clause-taken : goal.returns-in_ok-take_certificate-in-Ok-clause-taken
@@ -20,6 +20,6 @@ returns-in_ok-take_certificate-in-Ok-clause-taken g c =
     let v = writeback_of c.args.m.now in
     let u = c.args.self.now in
     let A = g.V.Verifier.accepted c.args.keys.now in
-    takes_of (id v.transaction) u.transaction (writeback_fault A u.cluster u.transaction v)
-    (TakenCertificate v.certificate) u _ (search rules)
+    takes_of (id v.transaction) u.transaction (writeback_fault A u.cluster u.transaction v) (TakenCertificate v.certificate) u _
+    (search rules)
     (ap (λ t. writeback_fault A u.cluster t v) (sym c.view.ensures.value) ∙ c.in-Ok.ensures) (search rules)

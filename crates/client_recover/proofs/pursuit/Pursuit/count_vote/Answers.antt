@@ -18,8 +18,8 @@ returns-in-Ok-clause-taken c =
     let v = voted_of c.args.vote.now in
     let votes : c.push.new.self ≡ old.votes ++ counted v ∷ [] =
     c.in_ok-push.ensures.pushed
-    ∙ ap (λ (s : List ℕ). old.votes
-    ++ (let w : CountedVote = record { shard = v.shard; replica = v.replica; decision = v.decision; signature = s } in w) ∷ [])
+    ∙ ap (λ (s : List ℕ). old.votes ++
+    (let w : CountedVote = record { shard = v.shard; replica = v.replica; decision = v.decision; signature = s } in w) ∷ [])
     c.in_ok-copy_of.ensures in
     let rest = conflict_by old.transaction v in
     counts_vote old _ v (record { transaction = refl; signature = refl; cluster = refl }) votes refl refl c.requires.open c.requires.first

@@ -6,8 +6,8 @@ use Rattle.client_recover.proofs.pursuit.Pursuit.take_vote.Goals as goal
 
 pub returns-then-is_decided-clause-taken : goal.returns-then-is_decided-clause-taken
 returns-then-is_decided-clause-taken c =
-    skips_ended c.args.self.now _ _ (record { transaction = refl; signature = refl; cluster = refl }) refl (same_itself
-    c.args.self.now.logs) refl refl (sym c.is_decided.ensures ∙ c.if-is_decided.true)
+    skips_ended c.args.self.now _ _ (record { transaction = refl; signature = refl; cluster = refl }) refl
+    (same_itself c.args.self.now.logs) refl refl (sym c.is_decided.ensures ∙ c.if-is_decided.true)
 
 pub returns-then-has_voted-clause-taken : goal.returns-then-has_voted-clause-taken
 returns-then-has_voted-clause-taken c =
