@@ -33,12 +33,12 @@ fn is_by(proposal: &Proposal, decision: Decision, replicas: &[u8]) -> bool {
         })
 }
 
-/// The byte of which a transaction's id is made, a view of it, a replica's word, and what is proposed with it: a decision,
-/// by the words of these replicas.
+/// The byte of which a transaction's id is made, a view of it, a replica's word, and what is proposed with it: a
+/// decision, by the words of these replicas.
 type Step = (u8, u64, u8, Decision, Option<(Decision, &'static [u8])>);
 
-/// The fifth word makes a proposal, for the decision that most of them name; a second word of a replica and one after the fifth
-/// change nothing, and views and ids stand apart.
+/// The fifth word makes a proposal, for the decision that most of them name; a second word of a replica and one after
+/// the fifth change nothing, and views and ids stand apart.
 const STEPS: &[Step] = &[
     (7, 1, 5, COMMIT, None),
     (7, 1, 0, COMMIT, None),

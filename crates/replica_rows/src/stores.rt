@@ -240,8 +240,8 @@ fn the_greatest_noted_read_answers(rt: HostRuntime) -> Result<(), Fail> {
     Ok(())
 }
 
-/// Three writers and a reader of one key, which read the first of them, in the order in which they are taken out: the place,
-/// the time, and whether it is the reader.
+/// Three writers and a reader of one key, which read the first of them, in the order in which they are taken out: the
+/// place, the time, and whether it is the reader.
 const TAKEN: &[(u32, u64, bool)] = &[
     // First the second writer.
     (1, 20, false),
@@ -286,7 +286,8 @@ fn change(
     Ok(())
 }
 
-/// After each of them is taken out: the time and the place of the latest writer, the writers below 99, and the readers across 25.
+/// After each of them is taken out: the time and the place of the latest writer, the writers below 99, and the readers
+/// across 25.
 const LEFT: &[(Option<(u64, u32)>, Hits, Hits)] = &[
     // Without the second writer: the third is the latest, the first has the least place, and the reader is across 25.
     (Some((30, 2)), FIRST, FOURTH),

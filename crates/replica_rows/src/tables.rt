@@ -116,8 +116,8 @@ struct Reader {
     waits: bool,
 }
 
-/// The readers behind two writers, of times 1 and 2, at the places 0 and 1. That of time 7 is aborted. A writer of time 3
-/// isn't held.
+/// The readers behind two writers, of times 1 and 2, at the places 0 and 1. That of time 7 is aborted. A writer of time
+/// 3 isn't held.
 const READERS: &[Reader] = &[
     // Place 2: depends on both writers.
     Reader {

@@ -1,6 +1,6 @@
 //! Pens with few leaves left: what needs more is refused whole.
 
-use crate::scenes::stages::{Scene, plays};
+use crate::scenes::stages::{Scene, play_all};
 use std::test::Fail;
 
 /// The leaves 30 and 31 are left.
@@ -90,8 +90,5 @@ const NONE: Scene = Scene {
 
 #[test]
 fn too_few_leaves_change_nothing(rt: HostRuntime) -> Result<(), Fail> {
-    for scene in [RELEASES, WORDS, NONE] {
-        plays(&rt, rt.alloc(), &scene)?;
-    }
-    Ok(())
+    play_all(&rt, rt.alloc(), &[RELEASES, WORDS, NONE])
 }

@@ -1,6 +1,6 @@
 //! Log replies: what the first second stage logs, the stored reply, and a new one where what is logged has changed.
 
-use crate::scenes::stages::{Scene, plays};
+use crate::scenes::stages::{Scene, play_all, plays};
 use std::test::Fail;
 
 /// Replica 5 leads view 1 of A.
@@ -74,8 +74,5 @@ const LOG_SHARD: Scene = Scene {
 
 #[test]
 fn the_log_shard_logs(rt: HostRuntime) -> Result<(), Fail> {
-    for scene in [OTHER_SHARD, LOG_SHARD] {
-        plays(&rt, rt.alloc(), &scene)?;
-    }
-    Ok(())
+    play_all(&rt, rt.alloc(), &[OTHER_SHARD, LOG_SHARD])
 }

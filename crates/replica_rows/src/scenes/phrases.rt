@@ -1,14 +1,14 @@
 //! Frames by phrases, with plain signatures.
 //!
-//! A phrase begins with the sender, `c3` for client 3 and `r3` for replica 3 of the replica's own shard, and a frame's name.
-//! `c3 read a 40 3` is a read of key a at time 40 by client 3; `c3 st1 D` and `c3 recover D` carry the transaction D.
-//! `c3 st2 D commit 0:0123 1:1234` carries the votes of four replicas of each of two shards. Writebacks are
-//! `c3 writeback D fast 0:012345`, `.. abort 0:0123`, `.. logged commit 1 0:01234`, which was decided in view 1, and
-//! `.. conflict 0:3 E fast 0:012345`, with the vote of replica 3 of shard 0 and the fast commit of E. `c3 invoke D 0:1 1:2a` carries
-//! a log reply of replica 0 to commit with view 1 current, and one of replica 1 to abort with view 2 current.
-//! `r2 elect D abort 1` is replica 2's word for view 1, and `r5 decide D commit 1 0c 1c 3a` replica 5's proposal in view 1 with
-//! the words of three replicas. A word `x` behind the rest spoils the frame's own signature, an x inside of a word that which
-//! the word names; `@1` says shard 1 in the place of the replica's own.
+//! A phrase begins with the sender, `c3` for client 3 and `r3` for replica 3 of the replica's own shard, and a frame's
+//! name. `c3 read a 40 3` is a read of key a at time 40 by client 3; `c3 st1 D` and `c3 recover D` carry the
+//! transaction D. `c3 st2 D commit 0:0123 1:1234` carries the votes of four replicas of each of two shards. Writebacks
+//! are `c3 writeback D fast 0:012345`, `.. abort 0:0123`, `.. logged commit 1 0:01234`, which was decided in view 1,
+//! and `.. conflict 0:3 E fast 0:012345`, with the vote of replica 3 of shard 0 and the fast commit of E.
+//! `c3 invoke D 0:1 1:2a` carries a log reply of replica 0 to commit with view 1 current, and one of replica 1 to abort
+//! with view 2 current. `r2 elect D abort 1` is replica 2's word for view 1, and `r5 decide D commit 1 0c 1c 3a`
+//! replica 5's proposal in view 1 with the words of three replicas. A word `x` behind the rest spoils the frame's own
+//! signature, an x inside of a word that which the word names; `@1` says shard 1 in the place of the replica's own.
 
 use crate::scenes::casts::{Role, byte_of, initial, number_of, put_text, role_named, word_at};
 use basil_types::bytes::id_of;

@@ -9,6 +9,7 @@ use keyring::plain::{PlainKeys, PlainPen};
 use node_steps::pending::outbox;
 use replica_core::Replica;
 use std::alloc::Global;
+use std::process::Abort;
 use std::test::Fail;
 
 /// The transactions of its runs.
@@ -178,19 +179,28 @@ fn ends_with(out: &Outbox, bytes: &[u8]) -> bool {
     }
 }
 
-/// Whether the last frame that the replica of a row sends is the row's.
-fn is_sent(alloc: Global, cast: &[Role], row: &Row) -> Result<bool, Fail> {
+/// Whether the last frame that the replica of a row sends has these bytes.
+fn sends(alloc: Global, out: &mut Outbox, cast: &[Role], row: &Row) -> Result<bool, Fail> {
+    send(alloc, out, cast, row)?;
     let bytes = hex::decode(alloc, row.sent)?;
+    Ok(ends_with(out, &bytes))
+}
+
+/// The same with an outbox of its own.
+fn is_sent(alloc: Global, cast: &[Role], row: &Row) -> Result<bool, Fail> {
     let mut out = outbox(alloc);
-    send(alloc, &mut out, cast, row)?;
-    Ok(ends_with(&out, &bytes))
+    sends(alloc, &mut out, cast, row)
+}
+
+fn are_sent(rt: &impl Abort, alloc: Global, cast: &[Role]) -> Result<(), Fail> {
+    for row in ROWS {
+        assert!(rt; is_sent(alloc, cast, row)?, "{}", row.sent);
+    }
+    Ok(())
 }
 
 #[test]
 fn a_replica_sends_the_same_frames(rt: HostRuntime) -> Result<(), Fail> {
     let cast = cast_of(rt.alloc(), CAST)?;
-    for row in ROWS {
-        assert!(rt; is_sent(rt.alloc(), &cast, row)?, "{}", row.sent);
-    }
-    Ok(())
+    are_sent(&rt, rt.alloc(), &cast)
 }

@@ -1,6 +1,6 @@
 //! Votes to abort and their proofs: committed transactions that conflict, the earliest known.
 
-use crate::scenes::stages::{Scene, plays};
+use crate::scenes::stages::{Scene, play_all, plays};
 use std::test::Fail;
 
 const PROVEN: Scene = Scene {
@@ -130,10 +130,11 @@ const INSIDE: Scene = Scene {
 
 #[test]
 fn the_earliest_known_is_the_proof(rt: HostRuntime) -> Result<(), Fail> {
-    for scene in [LOGGED_FIRST, DECIDED_FIRST, ELECTED_FIRST, INSIDE] {
-        plays(&rt, rt.alloc(), &scene)?;
-    }
-    Ok(())
+    play_all(
+        &rt,
+        rt.alloc(),
+        &[LOGGED_FIRST, DECIDED_FIRST, ELECTED_FIRST, INSIDE],
+    )
 }
 
 /// Of two shards a is in shard 1, and b and d in shard 0.
@@ -168,8 +169,5 @@ const OWN_SHARD: Scene = Scene {
 
 #[test]
 fn conflicts_of_another_shard_are_no_proof(rt: HostRuntime) -> Result<(), Fail> {
-    for scene in [OTHER_SHARD, OWN_SHARD] {
-        plays(&rt, rt.alloc(), &scene)?;
-    }
-    Ok(())
+    play_all(&rt, rt.alloc(), &[OTHER_SHARD, OWN_SHARD])
 }

@@ -1,6 +1,6 @@
 //! First votes, by the rules of the verdict in their order.
 
-use crate::scenes::stages::{Scene, plays};
+use crate::scenes::stages::{Scene, play_all, plays};
 use std::test::Fail;
 
 const RULED: Scene = Scene {
@@ -113,8 +113,5 @@ const OWN_SHARD: Scene = Scene {
 
 #[test]
 fn the_own_shards_keys_decide(rt: HostRuntime) -> Result<(), Fail> {
-    for scene in [OTHER_SHARD, OWN_SHARD] {
-        plays(&rt, rt.alloc(), &scene)?;
-    }
-    Ok(())
+    play_all(&rt, rt.alloc(), &[OTHER_SHARD, OWN_SHARD])
 }

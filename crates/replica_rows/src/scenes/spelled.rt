@@ -3,6 +3,7 @@
 use crate::scenes::casts::{Role, cast_of};
 use crate::scenes::phrases::{Line, put_frame};
 use std::alloc::Global;
+use std::process::Abort;
 use std::test::Fail;
 
 /// The transactions of its runs.
@@ -65,25 +66,38 @@ const SPELLED: &[(&str, &str)] = &[
     ),
 ];
 
-/// The frame of a phrase for shard 0.
-fn frame_of(alloc: Global, cast: &[Role], phrase: &str) -> Result<Vec<u8>, Fail> {
-    let mut frame = Vec::new(alloc);
+/// Writes the frame of a phrase for shard 0.
+fn put_phrase(out: &mut Vec<u8>, cast: &[Role], phrase: &str) -> Result<(), Fail> {
     let line = Line {
         phrase,
         cast,
         shard: 0,
     };
-    put_frame(&mut frame, &line)?;
-    Ok(frame)
+    put_frame(out, &line)
+}
+
+/// Whether a phrase spells these bytes.
+fn is_spelled(alloc: Global, cast: &[Role], phrase: &str, frame: &[u8]) -> Result<bool, Fail> {
+    let mut out = Vec::new(alloc);
+    put_phrase(&mut out, cast, phrase)?;
+    Ok(out.as_slice() == frame)
+}
+
+fn is_row_spelled(alloc: Global, cast: &[Role], row: &(&str, &str)) -> Result<bool, Fail> {
+    let &(phrase, digits) = row;
+    let frame = hex::decode(alloc, digits)?;
+    is_spelled(alloc, cast, phrase, &frame)
+}
+
+fn are_spelled(rt: &impl Abort, alloc: Global, cast: &[Role]) -> Result<(), Fail> {
+    for row in SPELLED {
+        assert!(rt; is_row_spelled(alloc, cast, row)?, "{}", row.0);
+    }
+    Ok(())
 }
 
 #[test]
 fn phrases_spell_frames(rt: HostRuntime) -> Result<(), Fail> {
     let cast = cast_of(rt.alloc(), CAST)?;
-    for (phrase, wanted) in SPELLED {
-        let frame = frame_of(rt.alloc(), &cast, phrase)?;
-        let bytes = hex::decode(rt.alloc(), wanted)?;
-        assert!(rt; frame.as_slice() == bytes.as_slice(), "{phrase}");
-    }
-    Ok(())
+    are_spelled(&rt, rt.alloc(), &cast)
 }

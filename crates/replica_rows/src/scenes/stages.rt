@@ -22,8 +22,8 @@ use txn_table::entry::{Entry, VoteState};
 /// The replica's clock, in a cluster with f = 1 and a delta of 100.
 const NOW: u64 = 50;
 
-/// A scene: the shards of the cluster, the replica's shard and index, the first of its key's 32 leaves, the transactions,
-/// and what comes, each with what is answered. The others sign with plain keys.
+/// A scene: the shards of the cluster, the replica's shard and index, the first of its key's 32 leaves, the
+/// transactions, and what comes, each with what is answered. The others sign with plain keys.
 #[derive(Clone, Copy)]
 pub(crate) struct Scene {
     pub(crate) shards: u8,
@@ -57,8 +57,8 @@ struct Stage {
     sent: Vec<u8>,
 }
 
-/// The replica of a scene, and a keyring that accepts what its pen signs; fails where the cluster has none of this shard
-/// and index.
+/// The replica of a scene, and a keyring that accepts what its pen signs; fails where the cluster has none of this
+/// shard and index.
 fn replica_of(
     alloc: Global,
     cluster: Cluster,
@@ -99,8 +99,8 @@ fn stage_of(alloc: Global, scene: &Scene) -> Result<Stage, Fail> {
     })
 }
 
-/// What is known of a transaction: its vote with the leaf that signed it, or how many wait for it; and its outcome with the size
-/// of its certificate.
+/// What is known of a transaction: its vote with the leaf that signed it, or how many wait for it; and its outcome with
+/// the size of its certificate.
 fn put_entry(text: &mut String, entry: &Entry) -> Result<(), AllocError> {
     match entry.vote() {
         VoteState::Unvoted => text.push_str("unvoted")?,
@@ -143,20 +143,34 @@ impl Stage {
         self.replica.cell(&id_of(&role.bytes))
     }
 
-    /// What must stay where a frame is refused: what is known of each transaction of the cast, and logged of the one that a
-    /// phrase names; and how much was sent and signed.
-    fn mark(&self, alloc: Global, phrase: &str) -> Result<String, AllocError> {
-        let mut text = String::new(alloc);
+    /// What must stay where a frame is refused: what is known of each transaction of the cast, and logged of the one
+    /// that a phrase names; and how much was sent and signed.
+    fn put_mark(&self, text: &mut String, phrase: &str) -> Result<(), AllocError> {
         for role in self.cast.iter() {
             match self.replica.table().entry_with(&id_of(&role.bytes)) {
-                Some(entry) => put_entry(&mut text, entry)?,
+                Some(entry) => put_entry(text, entry)?,
                 None => text.push_str("unknown; ")?,
             }
         }
-        self.tell_cell(&mut text, phrase)?;
+        self.tell_cell(text, phrase)?;
         let (sent, signed) = (self.out.messages.as_slice(), self.out.signed.as_slice());
-        write!(text, "; {} {} {}", sent.len(), bytes_of(sent), signed.len())?;
+        write!(text, "; {} {} {}", sent.len(), bytes_of(sent), signed.len())
+    }
+
+    fn mark(&self, alloc: Global, phrase: &str) -> Result<String, AllocError> {
+        let mut text = String::new(alloc);
+        self.put_mark(&mut text, phrase)?;
         Ok(text)
+    }
+
+    /// Fails where something changed since this mark.
+    fn stays(&self, alloc: Global, phrase: &str, before: &str) -> Result<(), Fail> {
+        let after = self.mark(alloc, phrase)?;
+        if after.as_str() == before {
+            Ok(())
+        } else {
+            Err(Fail::new("a refused frame changed something"))
+        }
     }
 
     /// Hands a frame in two halves; fails where the plan tells other messages or bytes than are sent.
@@ -209,33 +223,43 @@ impl Stage {
         tell(text, &reader, self.out.messages.as_slice(), from)
     }
 
-    /// Hands the frame of a phrase to the replica, and tells what it answers; fails where a refused frame changed anything.
-    fn hand_phrase(
+    /// Hands a frame to the replica, and tells what it answers; fails where a refused frame changed anything since this
+    /// mark.
+    fn hand_frame(
         &mut self,
         alloc: Global,
         text: &mut String,
-        frame: &mut Vec<u8>,
         way: Way,
         phrase: &str,
+        frame: &[u8],
+        before: &str,
     ) -> Result<(), Fail> {
-        put_frame(frame, &self.line(phrase))?;
         let from = self.line(phrase).sender();
-        let before = self.mark(alloc, phrase)?;
         let place = match way {
             Way::Halves => 0,
             Way::Whole | Way::Again => self.out.messages.as_slice().len(),
         };
-        match self.hand(way, from, frame.as_slice())? {
+        match self.hand(way, from, frame)? {
             Ok(()) => Ok(self.tell(text, place)?),
             Err(refused) => {
                 write!(text, "refused {refused:?}")?;
-                if self.mark(alloc, phrase)?.as_str() == before.as_str() {
-                    Ok(())
-                } else {
-                    Err(Fail::new("a refused frame changed something"))
-                }
+                self.stays(alloc, phrase, before)
             }
         }
+    }
+
+    /// The same with the frame of a phrase.
+    fn hand_phrase(
+        &mut self,
+        alloc: Global,
+        text: &mut String,
+        way: Way,
+        phrase: &str,
+    ) -> Result<(), Fail> {
+        let before = self.mark(alloc, phrase)?;
+        let mut frame = Vec::new(alloc);
+        put_frame(&mut frame, &self.line(phrase))?;
+        self.hand_frame(alloc, text, way, phrase, &frame, &before)
     }
 
     fn tell_cell(&self, text: &mut String, phrase: &str) -> Result<(), AllocError> {
@@ -249,14 +273,23 @@ impl Stage {
     }
 
     /// The answer to a phrase. `the cell A` asks what is logged of A, `the table` how many transactions are known.
+    fn put_answer(
+        &mut self,
+        alloc: Global,
+        text: &mut String,
+        way: Way,
+        phrase: &str,
+    ) -> Result<(), Fail> {
+        match word_at(phrase, 1).as_bytes() {
+            b"cell" => Ok(self.tell_cell(text, phrase)?),
+            b"table" => Ok(write!(text, "{}", self.replica.table().len())?),
+            _ => self.hand_phrase(alloc, text, way, phrase),
+        }
+    }
+
     fn answer(&mut self, alloc: Global, way: Way, phrase: &str) -> Result<String, Fail> {
         let mut text = String::new(alloc);
-        let mut frame = Vec::new(alloc);
-        match word_at(phrase, 1).as_bytes() {
-            b"cell" => self.tell_cell(&mut text, phrase)?,
-            b"table" => write!(text, "{}", self.replica.table().len())?,
-            _ => self.hand_phrase(alloc, &mut text, &mut frame, way, phrase)?,
-        }
+        self.put_answer(alloc, &mut text, way, phrase)?;
         Ok(text)
     }
 
@@ -276,7 +309,8 @@ impl Stage {
     }
 }
 
-/// Plays a scene, and gives the bytes of all frames that the replica sent.
+/// Plays a scene, and gives the bytes of all frames that the replica sent. Its stage is owned here alone, and let go in
+/// one place.
 pub(crate) fn played(
     rt: &impl Abort,
     alloc: Global,
@@ -293,10 +327,21 @@ pub(crate) fn plays(rt: &impl Abort, alloc: Global, scene: &Scene) -> Result<(),
     Ok(())
 }
 
+/// Plays scenes so, one after the other.
+pub(crate) fn play_all(rt: &impl Abort, alloc: Global, scenes: &[Scene]) -> Result<(), Fail> {
+    for scene in scenes {
+        plays(rt, alloc, scene)?;
+    }
+    Ok(())
+}
+
+/// All of them.
+const WAYS: &[Way] = &[Way::Whole, Way::Halves, Way::Again];
+
 /// Plays a scene in each way.
 pub(crate) fn plays_each_way(rt: &impl Abort, alloc: Global, scene: &Scene) -> Result<(), Fail> {
-    for way in [Way::Whole, Way::Halves, Way::Again] {
-        drop(played(rt, alloc, scene, way)?);
+    for way in WAYS {
+        drop(played(rt, alloc, scene, *way)?);
     }
     Ok(())
 }

@@ -1,7 +1,8 @@
 //! What a replica sent, as a text that is spelled as phrases are.
 //!
-//! `vote D abort by E fast 0:012345 #3 to c3 c4` is a vote to abort with the fast commit of E as its proof, which leaf 3 of the
-//! replica's key signed, in one frame to each of two clients. `log D commit 0 1` was decided in view 0, with view 1 current.
+//! `vote D abort by E fast 0:012345 #3 to c3 c4` is a vote to abort with the fast commit of E as its proof, which leaf
+//! 3 of the replica's key signed, in one frame to each of two clients. `log D commit 0 1` was decided in view 0, with
+//! view 1 current.
 
 ghost use Rattle.frame_views.specs.Fitting.{IsSpoken};
 ghost use Rattle.frame_views.specs.Shown.{message_of};
