@@ -116,23 +116,20 @@ fn put_signature(
     out.extend_from_slice(&signature)
 }
 
-/// The transaction of a phrase.
-fn put_transaction(out: &mut Vec<u8>, line: &Line<'_>) -> Result<(), Fail> {
-    let role = line.role(2)?;
-    out.extend_from_slice(&role.bytes)?;
-    Ok(())
-}
-
-/// The transaction of a phrase, with its client's signature.
-fn put_signed(out: &mut Vec<u8>, line: &Line<'_>) -> Result<(), Fail> {
-    let role = line.role(2)?;
+/// A transaction with its client's signature.
+fn put_signed(out: &mut Vec<u8>, role: &Role, spoiled: bool) -> Result<(), AllocError> {
     out.extend_from_slice(&role.bytes)?;
     let words = Words::transaction(&id_of(&role.bytes));
     let client = Party::Client {
         number: role.client,
     };
-    put_signature(out, client, &words, line.is_spoiled())?;
-    Ok(())
+    put_signature(out, client, &words, spoiled)
+}
+
+/// A frame of this kind that carries the transaction of a phrase, signed.
+fn put_first(out: &mut Vec<u8>, line: &Line<'_>, role: &Role, kind: u8) -> Result<(), AllocError> {
+    out.push(kind)?;
+    put_signed(out, role, line.is_spoiled())
 }
 
 fn count_digits(text: &str) -> u8 {
@@ -207,14 +204,11 @@ fn put_read(out: &mut Vec<u8>, line: &Line<'_>) -> Result<(), AllocError> {
     Ok(())
 }
 
-fn put_second(out: &mut Vec<u8>, line: &Line<'_>) -> Result<(), Fail> {
-    out.push(5)?;
-    put_signed(out, line)?;
+fn put_second(out: &mut Vec<u8>, line: &Line<'_>, role: &Role) -> Result<(), AllocError> {
+    put_first(out, line, role, 5)?;
     let decision = line.decision(3);
     out.push(number_for(decision))?;
-    let role = line.role(2)?;
-    put_tallies(out, line, &id_of(&role.bytes), decision, 4)?;
-    Ok(())
+    put_tallies(out, line, &id_of(&role.bytes), decision, 4)
 }
 
 /// A fast commit with the tallies of the words from a place on.
@@ -267,7 +261,12 @@ fn put_fast_abort(out: &mut Vec<u8>, line: &Line<'_>, id: &[u8; 32]) -> Result<(
     put_votes(out, id, Decision::Abort, line.word(4))
 }
 
-fn put_conflict(out: &mut Vec<u8>, line: &Line<'_>, id: &[u8; 32]) -> Result<(), Fail> {
+fn put_conflict(
+    out: &mut Vec<u8>,
+    line: &Line<'_>,
+    id: &[u8; 32],
+    rival: &Role,
+) -> Result<(), AllocError> {
     let (shard, index) = halves(line.word(4));
     let shard = byte_of(shard);
     let index = byte_of(index);
@@ -276,24 +275,28 @@ fn put_conflict(out: &mut Vec<u8>, line: &Line<'_>, id: &[u8; 32]) -> Result<(),
     out.extend_from_slice(&[shard, index])?;
     let words = Words::vote(shard, index, id, Decision::Abort);
     put_signature(out, Party::Replica { shard, index }, &words, false)?;
-    let rival = line.role(5)?;
     out.extend_from_slice(&rival.bytes)?;
-    put_fast(out, line, &id_of(&rival.bytes), 6)?;
-    Ok(())
+    put_fast(out, line, &id_of(&rival.bytes), 6)
 }
 
-fn put_writeback(out: &mut Vec<u8>, line: &Line<'_>) -> Result<(), Fail> {
-    out.push(7)?;
-    put_transaction(out, line)?;
-    let id = id_of(&line.role(2)?.bytes);
+fn put_certificate(out: &mut Vec<u8>, line: &Line<'_>, id: &[u8; 32]) -> Result<(), Fail> {
     match line.word(3).as_bytes() {
-        b"fast" => put_fast(out, line, &id, 4)?,
-        b"logged" => put_logged(out, line, &id)?,
-        b"abort" => put_fast_abort(out, line, &id)?,
-        b"conflict" => put_conflict(out, line, &id)?,
-        _ => return Err(Fail::new("no certificate has this name")),
+        b"fast" => Ok(put_fast(out, line, id, 4)?),
+        b"logged" => Ok(put_logged(out, line, id)?),
+        b"abort" => Ok(put_fast_abort(out, line, id)?),
+        b"conflict" => Ok(put_conflict(out, line, id, line.role(5)?)?),
+        _ => Err(Fail::new("no certificate has this name")),
     }
-    Ok(())
+}
+
+fn put_written(out: &mut Vec<u8>, role: &Role) -> Result<(), AllocError> {
+    out.push(7)?;
+    out.extend_from_slice(&role.bytes)
+}
+
+fn put_writeback(out: &mut Vec<u8>, line: &Line<'_>, role: &Role) -> Result<(), Fail> {
+    put_written(out, role)?;
+    put_certificate(out, line, &id_of(&role.bytes))
 }
 
 /// The log reply that a word like `0:1a` tells, which was decided in view 0.
@@ -326,27 +329,24 @@ fn put_reports(out: &mut Vec<u8>, line: &Line<'_>, id: &[u8; 32]) -> Result<(), 
     Ok(())
 }
 
-fn put_invoke(out: &mut Vec<u8>, line: &Line<'_>) -> Result<(), Fail> {
-    let id = id_of(&line.role(2)?.bytes);
+fn put_invoke(out: &mut Vec<u8>, line: &Line<'_>, id: &[u8; 32]) -> Result<(), AllocError> {
     out.push(9)?;
-    out.extend_from_slice(&id)?;
-    put_reports(out, line, &id)?;
-    Ok(())
+    out.extend_from_slice(id)?;
+    put_reports(out, line, id)
 }
 
-/// The shard, the replica that sends, a decision and a view, behind the transaction.
-fn put_view(out: &mut Vec<u8>, line: &Line<'_>) -> Result<(), Fail> {
-    put_transaction(out, line)?;
+/// The kind, and the shard, the replica that sends, a decision and a view, behind the transaction.
+fn put_view(out: &mut Vec<u8>, line: &Line<'_>, role: &Role, kind: u8) -> Result<(), AllocError> {
+    out.push(kind)?;
+    out.extend_from_slice(&role.bytes)?;
     out.extend_from_slice(&[line.named_shard(), byte_of(line.word(0))])?;
     out.push(number_for(line.decision(3)))?;
-    out.extend_from_slice(&number_of(line.word(4)).to_be_bytes())?;
-    Ok(())
+    out.extend_from_slice(&number_of(line.word(4)).to_be_bytes())
 }
 
-fn put_elect(out: &mut Vec<u8>, line: &Line<'_>) -> Result<(), Fail> {
-    out.push(10)?;
-    put_view(out, line)?;
-    let id = id_of(&line.role(2)?.bytes);
+fn put_elect(out: &mut Vec<u8>, line: &Line<'_>, role: &Role) -> Result<(), AllocError> {
+    put_view(out, line, role, 10)?;
+    let id = id_of(&role.bytes);
     let (shard, index) = (line.named_shard(), byte_of(line.word(0)));
     let words = Words::election(shard, index, &id, line.decision(3), number_of(line.word(4)));
     put_signature(
@@ -354,8 +354,7 @@ fn put_elect(out: &mut Vec<u8>, line: &Line<'_>) -> Result<(), Fail> {
         Party::Replica { shard, index },
         &words,
         line.is_spoiled(),
-    )?;
-    Ok(())
+    )
 }
 
 /// The election word that a word like `3a` tells.
@@ -399,10 +398,9 @@ fn put_words(out: &mut Vec<u8>, line: &Line<'_>, id: &[u8; 32]) -> Result<(), Al
     Ok(())
 }
 
-fn put_decide(out: &mut Vec<u8>, line: &Line<'_>) -> Result<(), Fail> {
-    out.push(11)?;
-    put_view(out, line)?;
-    let id = id_of(&line.role(2)?.bytes);
+fn put_decide(out: &mut Vec<u8>, line: &Line<'_>, role: &Role) -> Result<(), AllocError> {
+    put_view(out, line, role, 11)?;
+    let id = id_of(&role.bytes);
     put_words(out, line, &id)?;
     let (shard, index) = (line.named_shard(), byte_of(line.word(0)));
     let words = Words::proposal(shard, index, &id, line.decision(3), number_of(line.word(4)));
@@ -411,27 +409,24 @@ fn put_decide(out: &mut Vec<u8>, line: &Line<'_>) -> Result<(), Fail> {
         Party::Replica { shard, index },
         &words,
         line.is_spoiled(),
-    )?;
-    Ok(())
+    )
 }
 
 /// `r1 vote A commit`: a vote of replica 1 that nobody signed.
-fn put_vote(out: &mut Vec<u8>, line: &Line<'_>) -> Result<(), Fail> {
+fn put_vote(out: &mut Vec<u8>, line: &Line<'_>, id: &[u8; 32]) -> Result<(), AllocError> {
     out.extend_from_slice(&[4, line.shard, byte_of(line.word(0))])?;
-    out.extend_from_slice(&id_of(&line.role(2)?.bytes))?;
-    out.extend_from_slice(&[number_for(line.decision(3)), 0, 0, 1, 7])?;
-    Ok(())
+    out.extend_from_slice(id)?;
+    out.extend_from_slice(&[number_for(line.decision(3)), 0, 0, 1, 7])
 }
 
 /// `r1 log A commit 0 0`: a log reply of replica 1 that nobody signed.
-fn put_log(out: &mut Vec<u8>, line: &Line<'_>) -> Result<(), Fail> {
+fn put_log(out: &mut Vec<u8>, line: &Line<'_>, id: &[u8; 32]) -> Result<(), AllocError> {
     out.extend_from_slice(&[6, line.shard, byte_of(line.word(0))])?;
-    out.extend_from_slice(&id_of(&line.role(2)?.bytes))?;
+    out.extend_from_slice(id)?;
     out.push(number_for(line.decision(3)))?;
     out.extend_from_slice(&number_of(line.word(4)).to_be_bytes())?;
     out.extend_from_slice(&number_of(line.word(5)).to_be_bytes())?;
-    out.extend_from_slice(&[0, 1, 7])?;
-    Ok(())
+    out.extend_from_slice(&[0, 1, 7])
 }
 
 /// `r1 reply a 40 3`: a read reply of replica 1 with nothing found, that nobody signed.
@@ -453,28 +448,29 @@ fn put_bytes(out: &mut Vec<u8>, line: &Line<'_>) -> Result<(), AllocError> {
     Ok(())
 }
 
+/// The frame of a phrase whose third word names a transaction.
+fn put_frame_of(out: &mut Vec<u8>, line: &Line<'_>, role: &Role) -> Result<(), Fail> {
+    let id = id_of(&role.bytes);
+    match line.word(1).as_bytes() {
+        b"st1" => Ok(put_first(out, line, role, 3)?),
+        b"recover" => Ok(put_first(out, line, role, 8)?),
+        b"st2" => Ok(put_second(out, line, role)?),
+        b"writeback" => put_writeback(out, line, role),
+        b"invoke" => Ok(put_invoke(out, line, &id)?),
+        b"elect" => Ok(put_elect(out, line, role)?),
+        b"decide" => Ok(put_decide(out, line, role)?),
+        b"vote" => Ok(put_vote(out, line, &id)?),
+        b"log" => Ok(put_log(out, line, &id)?),
+        _ => Err(Fail::new("no frame has this name")),
+    }
+}
+
 /// The frame of a phrase.
 pub(crate) fn put_frame(out: &mut Vec<u8>, line: &Line<'_>) -> Result<(), Fail> {
     match line.word(1).as_bytes() {
-        b"read" => put_read(out, line)?,
-        b"st1" => {
-            out.push(3)?;
-            put_signed(out, line)?;
-        }
-        b"recover" => {
-            out.push(8)?;
-            put_signed(out, line)?;
-        }
-        b"st2" => put_second(out, line)?,
-        b"writeback" => put_writeback(out, line)?,
-        b"invoke" => put_invoke(out, line)?,
-        b"elect" => put_elect(out, line)?,
-        b"decide" => put_decide(out, line)?,
-        b"reply" => put_reply(out, line)?,
-        b"vote" => put_vote(out, line)?,
-        b"log" => put_log(out, line)?,
-        b"bytes" => put_bytes(out, line)?,
-        _ => return Err(Fail::new("no frame has this name")),
+        b"read" => Ok(put_read(out, line)?),
+        b"reply" => Ok(put_reply(out, line)?),
+        b"bytes" => Ok(put_bytes(out, line)?),
+        _ => put_frame_of(out, line, line.role(2)?),
     }
-    Ok(())
 }
