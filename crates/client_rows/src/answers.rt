@@ -76,9 +76,9 @@ fn views_in(word: &[u8]) -> (u64, u64) {
     (u64::from(digit(word, 3)), u64::from(digit(word, 4)))
 }
 
-/// The frame that a word names: `c02` and `a02`, a vote of replica 2 of shard 0 to commit or to abort; `p02`, one to abort
-/// with the rival as its proof; `C0213` and `A0213`, its log reply, decided in view 1, with view 3 current; `w` and `x`, the
-/// writeback of a fast commit and of a fast abort of shard 0.
+/// The frame that a word names: `c02` and `a02`, a vote of replica 2 of shard 0 to commit or to abort; `p02`, one to
+/// abort with the rival as its proof; `C0213` and `A0213`, its log reply, decided in view 1, with view 3 current; `w`
+/// and `x`, the writeback of a fast commit and of a fast abort of shard 0.
 pub(crate) fn frame_of(alloc: Global, pursued: &Pursued<'_>, word: &str) -> Result<Vec<u8>, Fail> {
     let word = word.as_bytes();
     let id = id_of(pursued.transaction);

@@ -23,55 +23,54 @@ const T5: Version = Version {
     id: [1; 32],
 };
 
-/// What two replies carry, and the choice that is wanted with f = 1.
-#[derive(Clone, Copy)]
-struct Told {
-    committed: [Version; 2],
-    prepared: [Version; 2],
-    wanted: Choice,
-}
+/// The versions that two replies carry, the committed ones and the prepared ones, the version that is chosen with f =
+/// 1, and whether it is a dependency.
+type Row = ([Version; 2], [Version; 2], Version, bool);
 
-fn two_replies(
-    committed: [Version; 2],
-    prepared: [Version; 2],
-    version: Version,
-    dependency: bool,
-) -> Told {
-    Told {
-        committed,
-        prepared,
-        wanted: Choice {
+const CHOSEN: &[Row] = &[
+    // Both prepared it: a dependency.
+    ([NONE, NONE], [T5, T5], T5, true),
+    // One prepared the greater, which doesn't count; the other one's committed version does.
+    ([NONE, T3], [T5, NONE], T3, false),
+    // Neither has any: none.
+    ([NONE, NONE], [NONE, NONE], NONE, false),
+    // Both prepared what one has committed: no dependency.
+    ([NONE, T5], [T5, T5], T5, false),
+    // One prepared it, which doesn't count: none.
+    ([NONE, NONE], [T5, NONE], NONE, false),
+    // Both prepared a greater one than one has committed: a dependency.
+    ([T3, NONE], [T5, T5], T5, true),
+    // One has committed a greater one than both prepared: no dependency.
+    ([T5, NONE], [T3, T3], T5, false),
+    // Each prepared another, and neither counts: none.
+    ([NONE, NONE], [T5, T3], NONE, false),
+];
+
+/// Whether the version of a row is chosen.
+fn is_chosen(cluster: &Cluster, row: &Row) -> bool {
+    let &(committed, prepared, version, dependency) = row;
+    let replies = [
+        ReplyVersions {
+            committed: committed[0],
+            prepared: prepared[0],
+        },
+        ReplyVersions {
+            committed: committed[1],
+            prepared: prepared[1],
+        },
+    ];
+    choose(cluster, &replies)
+        == Choice {
             version,
             dependency,
-        },
-    }
+        }
 }
 
 #[test]
 fn the_greatest_that_counts_is_chosen(rt: HostRuntime) -> Result<(), Fail> {
     let cluster = Cluster::new(1, 1, 2, 100)?;
-    let rows = [
-        two_replies([NONE, NONE], [T5, T5], T5, true),
-        two_replies([NONE, T3], [T5, NONE], T3, false),
-        two_replies([NONE, NONE], [NONE, NONE], NONE, false),
-        two_replies([NONE, T5], [T5, T5], T5, false),
-        two_replies([NONE, NONE], [T5, NONE], NONE, false),
-        two_replies([T3, NONE], [T5, T5], T5, true),
-        two_replies([T5, NONE], [T3, T3], T5, false),
-        two_replies([NONE, NONE], [T5, T3], NONE, false),
-    ];
-    for row in rows {
-        let replies = [
-            ReplyVersions {
-                committed: row.committed[0],
-                prepared: row.prepared[0],
-            },
-            ReplyVersions {
-                committed: row.committed[1],
-                prepared: row.prepared[1],
-            },
-        ];
-        assert!(rt; choose(&cluster, &replies) == row.wanted);
+    for row in CHOSEN {
+        assert!(rt; is_chosen(&cluster, row));
     }
     assert!(rt; choose(&cluster, &[]).version == NONE);
     Ok(())

@@ -7,7 +7,7 @@ use basil_types::transaction::TransactionView;
 use certificates::{CertRefusal, check_proof};
 use frame_views::frames::{CommittedView, MessageView, check};
 use keyring::plain::PlainKeys;
-use std::process::Abort;
+use std::alloc::Global;
 use std::test::Fail;
 
 type Answer = Result<(), CertRefusal>;
@@ -41,7 +41,9 @@ const ID: usize = 58;
 const END: usize = 302;
 
 /// A transaction, the writeback of its rival with the place of a byte and that byte, and the answer.
-const ROWS: &[(&[u8], &str, usize, u8, Answer)] = &[
+type Row = (&'static [u8], &'static str, usize, u8, Answer);
+
+const ROWS: &[Row] = &[
     (WRITES_A, FAST_COMMIT, KIND, 7, Ok(())),
     (WRITES_B, FAST_COMMIT, KIND, 7, Err(CertRefusal::NoConflict)),
     (WRITES_A, LOGGED, KIND, 7, Err(CertRefusal::NoConflict)),
@@ -60,28 +62,39 @@ const ROWS: &[(&[u8], &str, usize, u8, Answer)] = &[
     (WRITES_B, FAST_COMMIT, END, 0, Err(CertRefusal::NoConflict)),
 ];
 
-/// The answer on the pair in these bytes is so.
-fn proves(rt: &impl Abort, transaction: &[u8], frame: &[u8], answer: Answer) -> Result<(), Fail> {
+/// Whether this is the answer on the pair in these bytes.
+fn is_answered(transaction: &[u8], frame: &[u8], answer: Answer) -> Result<bool, Fail> {
     let cluster = Cluster::new(1, 1, 2, 100)?;
-    let given = judge(transaction, frame, &cluster).ok_or("no proof")?;
-    assert_eq!(rt; given, answer);
-    Ok(())
+    Ok(judge(transaction, frame, &cluster) == Some(answer))
+}
+
+/// Whether a row's answer is given.
+fn is_row_answered(alloc: Global, row: &Row) -> Result<bool, Fail> {
+    let &(transaction, rival, place, byte, answer) = row;
+    let mut frame = hex::decode(alloc, rival)?;
+    if let Some(changed) = frame.get_mut(place) {
+        *changed = byte;
+    }
+    is_answered(transaction, &frame, answer)
+}
+
+/// Too few votes come before the conflict that is wanting.
+const FEW: Answer = Err(CertRefusal::Few {
+    count: 5,
+    needed: 6,
+});
+
+/// Whether that is the answer on five votes.
+fn are_few(alloc: Global) -> Result<bool, Fail> {
+    let five = fast_commit(alloc, WRITES_B, &[(0, 5)])?;
+    is_answered(WRITES_A, &five, FEW)
 }
 
 #[test]
 fn a_proof_shows_a_committed_rival(rt: HostRuntime) -> Result<(), Fail> {
-    for (transaction, rival, place, byte, answer) in ROWS {
-        let mut frame = hex::decode(rt.alloc(), rival)?;
-        if *place < frame.len() {
-            frame[*place] = *byte;
-        }
-        proves(&rt, transaction, &frame, *answer)?;
+    for row in ROWS {
+        assert!(rt; is_row_answered(rt.alloc(), row)?);
     }
-    // Too few votes come before the conflict that is wanting.
-    let five = fast_commit(rt.alloc(), WRITES_B, &[(0, 5)])?;
-    let few = CertRefusal::Few {
-        count: 5,
-        needed: 6,
-    };
-    proves(&rt, WRITES_A, &five, Err(few))
+    assert!(rt; are_few(rt.alloc())?);
+    Ok(())
 }

@@ -40,8 +40,8 @@ pub(crate) fn pursuit_of(
     }
 }
 
-/// What is pursued, with f = 1: a writer of a in a cluster of one shard, and one of a and b in a cluster of two, where a is
-/// of shard 1 and b of shard 0.
+/// What is pursued, with f = 1: a writer of a in a cluster of one shard, and one of a and b in a cluster of two, where
+/// a is of shard 1 and b of shard 0.
 fn pursued<'a>(shards: u8, rival: &'a [u8]) -> Pursued<'a> {
     if shards == 1 {
         Pursued {
@@ -73,8 +73,8 @@ pub(crate) fn take(pursuit: &mut Pursuit, frame: &[u8]) -> Result<Result<(), Fra
     }
 }
 
-/// Takes the frame of this name, or takes the last add back at `u`; `!` stands before the name of a frame that is refused.
-/// Fails where it is otherwise.
+/// Takes the frame of this name, or takes the last add back at `u`; `!` stands before the name of a frame that is
+/// refused. Fails where it is otherwise.
 fn follow(
     alloc: Global,
     pursuit: &mut Pursuit,

@@ -10,8 +10,8 @@ use client_recover::{FrameFault, Pursuit};
 use std::alloc::Global;
 use std::test::Fail;
 
-/// The shards of the cluster, the frames, and the certificate that decides, with f = 1: a fast commit wants six votes of
-/// each shard, a fast abort four of one, and a logged decision five log replies.
+/// The shards of the cluster, the frames, and the certificate that decides, with f = 1: a fast commit wants six votes
+/// of each shard, a fast abort four of one, and a logged decision five log replies.
 const OUTCOMES: &[(u8, &str, &str)] = &[
     // Each rule alone, and with one frame too few.
     (1, "w", "fast commit 0:012345"), // A writeback alone: its commit.
@@ -83,8 +83,8 @@ fn five_rules_decide_in_their_order(rt: HostRuntime) -> Result<(), Fail> {
     are_answered(&rt, rt.alloc(), OUTCOMES, Asked::Outcome)
 }
 
-/// What a frame with one byte changed meets: the shards of the cluster, the transaction that is pursued, the committed one
-/// that `p` shows as its rival, the frame, the place of the byte, the bits of it that are turned, and the answer.
+/// What a frame with one byte changed meets: the shards of the cluster, the transaction that is pursued, the committed
+/// one that `p` shows as its rival, the frame, the place of the byte, the bits of it that are turned, and the answer.
 type Row = (
     u8,
     &'static [u8],

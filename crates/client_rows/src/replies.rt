@@ -36,146 +36,168 @@ fn versions(frame: &[u8], cluster: &Cluster) -> Option<ReplyVersions> {
     }
 }
 
-/// A frame, a cluster, a read, and what is wanted of the frame.
-#[derive(Clone, Copy)]
-struct Row {
-    frame: &'static str,
-    f: u8,
-    shards: u8,
-    reads: u8,
-    key: &'static [u8],
-    time: u64,
-    client: u8,
-    wanted: Answer,
+/// The f and the shards of a cluster, and how many replies a read waits for.
+type Of = (u8, u8, u8);
+
+const ONE_SHARD: Of = (0, 1, 1);
+
+const TWO_SHARDS: Of = (0, 2, 1);
+
+const TWELVE_REPLICAS: Of = (1, 2, 2);
+
+/// A key, a time and a client.
+type Read = (&'static [u8], u64, u8);
+
+const READ: Read = (b"a", 20, 2);
+
+/// A frame, the cluster, the read, and what is answered.
+type Row = (&'static str, Of, Read, Answer);
+
+const MINE: Answer = Ok(());
+
+const NOT_MINE: Answer = Err(FrameFault::NotMine);
+
+const BAD_VERSION: Answer = Err(FrameFault::BadVersion);
+
+const UNSIGNED: Answer = Err(FrameFault::BadSignature);
+
+/// Whether a row's answer is given.
+fn is_answered(alloc: Global, row: &Row) -> Result<bool, Fail> {
+    let &(frame, (f, shards, reads), (key, time, client), answer) = row;
+    let cluster = Cluster::new(f, shards, reads, 100)?;
+    let bytes = hex::decode(alloc, frame)?;
+    Ok(judge(&bytes, &cluster, key, time, client) == Some(answer))
 }
 
-/// A row of a read of a at time 20 by client 2, with f = 0 and one shard.
-fn of_one_shard(frame: &'static str, wanted: Answer) -> Row {
-    Row {
-        frame,
-        f: 0,
-        shards: 1,
-        reads: 1,
-        key: b"a",
-        time: 20,
-        client: 2,
-        wanted,
-    }
-}
-
-/// Each row answers as wanted.
-fn rows_hold(rt: &impl Abort, alloc: Global, rows: &[Row]) -> Result<(), Fail> {
+/// Each row's answer is given.
+fn are_answered(rt: &impl Abort, alloc: Global, rows: &[Row]) -> Result<(), Fail> {
     for row in rows {
-        let cluster = Cluster::new(row.f, row.shards, row.reads, 100)?;
-        let frame = hex::decode(alloc, row.frame)?;
-        let answer = judge(&frame, &cluster, row.key, row.time, row.client);
-        assert_eq!(rt; answer.ok_or("no read reply")?, row.wanted);
+        assert!(rt; is_answered(alloc, row)?);
     }
     Ok(())
 }
 
-/// What `check_reply` answers on CERTIFIED with one bit of the byte at a place changed, to a read of this key.
-fn spoiled(alloc: Global, place: usize, key: &[u8]) -> Result<Answer, Fail> {
-    let cluster = Cluster::new(1, 2, 2, 100)?;
-    let mut frame = hex::decode(alloc, CERTIFIED)?;
-    if place < frame.len() {
-        frame[place] ^= 1;
-    }
-    Ok(judge(&frame, &cluster, key, 20, 2).ok_or("no read reply")?)
-}
+const TAKEN: &[Row] = &[
+    // Nothing is found.
+    (NOTHING, ONE_SHARD, (b"a", 30, 2), MINE),
+    // A transaction is prepared, of two shards.
+    (PREPARED, TWO_SHARDS, READ, MINE),
+    // A transaction is committed, by six votes of each of two shards.
+    (CERTIFIED, TWELVE_REPLICAS, READ, MINE),
+    // A transaction is committed, by one vote.
+    (COMMITTED, ONE_SHARD, READ, MINE),
+    // A transaction of the read's time and an earlier client is prepared.
+    (EARLIER_CLIENT, ONE_SHARD, READ, MINE),
+];
 
 #[test]
 fn replies_of_another_program_are_taken(rt: HostRuntime) -> Result<(), Fail> {
-    let rows = [
-        Row {
-            time: 30,
-            ..of_one_shard(NOTHING, Ok(()))
-        },
-        Row {
-            shards: 2,
-            ..of_one_shard(PREPARED, Ok(()))
-        },
-        Row {
-            f: 1,
-            shards: 2,
-            reads: 2,
-            ..of_one_shard(CERTIFIED, Ok(()))
-        },
-        of_one_shard(COMMITTED, Ok(())),
-        of_one_shard(EARLIER_CLIENT, Ok(())),
-    ];
-    rows_hold(&rt, rt.alloc(), &rows)
+    are_answered(&rt, rt.alloc(), TAKEN)
 }
+
+const OTHERS: &[Row] = &[
+    // The read is of another key.
+    (COMMITTED, ONE_SHARD, (b"b", 20, 2), NOT_MINE),
+    // It is of another time.
+    (COMMITTED, ONE_SHARD, (b"a", 21, 2), NOT_MINE),
+    // It is of another client.
+    (COMMITTED, ONE_SHARD, (b"a", 20, 3), NOT_MINE),
+    // In a cluster of two shards a is of shard 1, and this reply of shard 0.
+    (COMMITTED, TWO_SHARDS, READ, NOT_MINE),
+];
 
 #[test]
 fn replies_to_other_reads_are_not_mine(rt: HostRuntime) -> Result<(), Fail> {
-    let rows = [
-        Row {
-            key: b"b",
-            ..of_one_shard(COMMITTED, Err(FrameFault::NotMine))
-        },
-        Row {
-            time: 21,
-            ..of_one_shard(COMMITTED, Err(FrameFault::NotMine))
-        },
-        Row {
-            client: 3,
-            ..of_one_shard(COMMITTED, Err(FrameFault::NotMine))
-        },
-        // In a cluster of two shards a is of shard 1, and this reply of shard 0.
-        Row {
-            shards: 2,
-            ..of_one_shard(COMMITTED, Err(FrameFault::NotMine))
-        },
-    ];
-    rows_hold(&rt, rt.alloc(), &rows)
+    are_answered(&rt, rt.alloc(), OTHERS)
 }
+
+const UNSEEN: &[Row] = &[
+    // What is committed doesn't write the key.
+    (ELSEWHERE, ONE_SHARD, READ, BAD_VERSION),
+    // What is prepared doesn't write the key.
+    (UNWRITTEN, ONE_SHARD, READ, BAD_VERSION),
+    // What is prepared is of the read's own time and client.
+    (OWN_TIME, ONE_SHARD, READ, BAD_VERSION),
+    // What is prepared is of time 0.
+    (TIMELESS, ONE_SHARD, READ, BAD_VERSION),
+];
 
 #[test]
 fn a_read_sees_earlier_writes_of_its_key(rt: HostRuntime) -> Result<(), Fail> {
-    let rows = [
-        of_one_shard(ELSEWHERE, Err(FrameFault::BadVersion)),
-        of_one_shard(UNWRITTEN, Err(FrameFault::BadVersion)),
-        of_one_shard(OWN_TIME, Err(FrameFault::BadVersion)),
-        of_one_shard(TIMELESS, Err(FrameFault::BadVersion)),
-    ];
-    rows_hold(&rt, rt.alloc(), &rows)
+    are_answered(&rt, rt.alloc(), UNSEEN)
 }
+
+const FIRST: Answer = Err(FrameFault::BadCertificate(CertRefusal::BadSignature(0)));
+
+const LAST: Answer = Err(FrameFault::BadCertificate(CertRefusal::BadSignature(11)));
+
+const FEW: Answer = Err(FrameFault::BadCertificate(CertRefusal::Few {
+    count: 0,
+    needed: 1,
+}));
+
+/// A place in CERTIFIED, one bit of whose byte is turned, the key that is read, and the answer.
+type Spoiled = (usize, &'static [u8], Answer);
+
+const SPOILED: &[Spoiled] = &[
+    // In the first vote's signature.
+    (79, b"a", FIRST),
+    // In the last vote's.
+    (466, b"a", LAST),
+    // In the reply's own.
+    (532, b"a", UNSIGNED),
+    // The key c is of the same shard, and another key comes before the signature.
+    (532, b"c", NOT_MINE),
+];
+
+/// Whether a row's answer is given.
+fn is_spoiled(alloc: Global, row: &Spoiled) -> Result<bool, Fail> {
+    let &(place, key, answer) = row;
+    let cluster = Cluster::new(1, 2, 2, 100)?;
+    let mut frame = hex::decode(alloc, CERTIFIED)?;
+    if let Some(byte) = frame.get_mut(place) {
+        *byte ^= 1;
+    }
+    Ok(judge(&frame, &cluster, key, 20, 2) == Some(answer))
+}
+
+/// No vote is in the certificate.
+const NO_VOTE: Row = (UNPROVEN, ONE_SHARD, READ, FEW);
 
 #[test]
 fn signatures_and_certificates_are_tested(rt: HostRuntime) -> Result<(), Fail> {
-    let first = FrameFault::BadCertificate(CertRefusal::BadSignature(0));
-    let last = FrameFault::BadCertificate(CertRefusal::BadSignature(11));
-    let few = FrameFault::BadCertificate(CertRefusal::Few {
-        count: 0,
-        needed: 1,
-    });
-    // A byte of the first vote's signature, of the last vote's, and of the reply's own.
-    assert_eq!(rt; spoiled(rt.alloc(), 79, b"a")?, Err(first));
-    assert_eq!(rt; spoiled(rt.alloc(), 466, b"a")?, Err(last));
-    assert_eq!(rt;
-        spoiled(rt.alloc(), 532, b"a")?,
-        Err(FrameFault::BadSignature)
-    );
-    // The key c is of the same shard.
-    assert_eq!(rt; spoiled(rt.alloc(), 532, b"c")?, Err(FrameFault::NotMine));
-    rows_hold(&rt, rt.alloc(), &[of_one_shard(UNPROVEN, Err(few))])
+    for row in SPOILED {
+        assert!(rt; is_spoiled(rt.alloc(), row)?);
+    }
+    assert!(rt; is_answered(rt.alloc(), &NO_VOTE)?);
+    Ok(())
 }
 
 /// The id of the transaction that is prepared.
 const PREPARED_ID: &str = "d6bd8f1af9e1e734f81856188a5e33fbdfb31705ceafd9abb3472b2f0430fd4e";
 
-#[test]
-fn versions_are_those_of_the_transactions(rt: HostRuntime) -> Result<(), Fail> {
+/// Whether a frame's versions are genesis, which is committed, and this one, which is prepared.
+fn is_prepared(frame: &[u8], wanted: Version) -> Result<bool, Fail> {
     let cluster = Cluster::new(0, 2, 1, 100)?;
-    let frame = hex::decode(rt.alloc(), PREPARED)?;
-    let told = versions(&frame, &cluster).ok_or("no read reply")?;
+    Ok(match versions(frame, &cluster) {
+        Some(told) => told.committed == Version::genesis() && told.prepared == wanted,
+        None => false,
+    })
+}
+
+/// Whether those of PREPARED are so.
+fn are_told(alloc: Global) -> Result<bool, Fail> {
     let wanted = Version {
         time: 10,
         client: 1,
         id: <[u8; 32] as FromHex>::from_hex(PREPARED_ID)?,
     };
-    assert!(rt; told.committed == Version::genesis());
-    assert!(rt; told.prepared == wanted);
+    let frame = hex::decode(alloc, PREPARED)?;
+    is_prepared(&frame, wanted)
+}
+
+#[test]
+fn versions_are_those_of_the_transactions(rt: HostRuntime) -> Result<(), Fail> {
+    assert!(rt; are_told(rt.alloc())?);
     Ok(())
 }

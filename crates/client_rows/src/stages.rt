@@ -3,8 +3,8 @@
 use crate::pursuing::{Asked, are_answered};
 use std::test::Fail;
 
-/// The shards of the cluster, the frames, and the second stage with its voters, with f = 1: a commit wants four votes of each
-/// shard, an abort two of one.
+/// The shards of the cluster, the frames, and the second stage with its voters, with f = 1: a commit wants four votes
+/// of each shard, an abort two of one.
 const SECONDS: &[(u8, &str, &str)] = &[
     (1, "c05 c03 c01", ""),
     (1, "c05 c03 c01 c04", "commit 0:1345"),

@@ -6,6 +6,7 @@ use basil_types::party::Decision;
 use certificates::{CertRefusal, check_tallies};
 use frame_views::frames::{MessageView, check};
 use keyring::plain::PlainKeys;
+use std::alloc::Global;
 use std::test::Fail;
 use txn_meta::form::check_form;
 
@@ -23,8 +24,10 @@ fn weigh(frame: &[u8], cluster: &Cluster, decision: Decision) -> Option<Answer> 
     }
 }
 
-/// Frames in hex, the decision that is asked for, and what is answered, with f = 1 and one shard.
-const WEIGHED: &[(&str, Decision, Answer)] = &[
+/// A frame in hex, the decision that is asked for, and what is answered, with f = 1 and one shard.
+type Row = (&'static str, Decision, Answer);
+
+const WEIGHED: &[Row] = &[
     (COMMIT_TALLIES, Decision::Commit, Ok(())),
     (ABORT_TALLIES, Decision::Abort, Ok(())),
     // The votes say commit.
@@ -43,13 +46,18 @@ const WEIGHED: &[(&str, Decision, Answer)] = &[
     ),
 ];
 
+/// Whether a row's answer is given.
+fn is_weighed(alloc: Global, row: &Row) -> Result<bool, Fail> {
+    let &(frame, decision, answer) = row;
+    let cluster = Cluster::new(1, 1, 2, 100)?;
+    let bytes = hex::decode(alloc, frame)?;
+    Ok(weigh(&bytes, &cluster, decision) == Some(answer))
+}
+
 #[test]
 fn tallies_of_another_program_are_weighed(rt: HostRuntime) -> Result<(), Fail> {
-    let cluster = Cluster::new(1, 1, 2, 100)?;
-    for (frame, decision, answer) in WEIGHED {
-        let bytes = hex::decode(rt.alloc(), frame)?;
-        let weighed = weigh(&bytes, &cluster, *decision).ok_or("no ST2")?;
-        assert_eq!(rt; weighed, *answer);
+    for row in WEIGHED {
+        assert!(rt; is_weighed(rt.alloc(), row)?);
     }
     Ok(())
 }

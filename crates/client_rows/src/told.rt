@@ -41,19 +41,18 @@ fn put_logs(text: &mut String, logs: &[LogPart]) -> Result<(), AllocError> {
 }
 
 /// A certificate: what it is, and by whom.
-fn certificate(alloc: Global, told: &Certificate) -> Result<String, AllocError> {
-    let mut text = String::new(alloc);
+fn put_certificate(text: &mut String, told: &Certificate) -> Result<(), AllocError> {
     match &told.body {
         CertificateBody::FastCommit { tallies } => {
             text.push_str("fast commit")?;
-            put_tallies(&mut text, tallies.as_slice())?;
+            put_tallies(text, tallies.as_slice())
         }
         CertificateBody::FastAbort { shard, votes } => {
             text.push_str("fast abort")?;
-            put_votes(&mut text, *shard, votes.as_slice())?;
+            put_votes(text, *shard, votes.as_slice())
         }
         CertificateBody::ConflictAbort { shard, replica, .. } => {
-            write!(text, "conflict {shard}:{replica}")?;
+            write!(text, "conflict {shard}:{replica}")
         }
         CertificateBody::Logged {
             decision,
@@ -62,10 +61,9 @@ fn certificate(alloc: Global, told: &Certificate) -> Result<String, AllocError> 
             ..
         } => {
             write!(text, "logged {} in {decided}:", name_of(*decision))?;
-            put_logs(&mut text, logs.as_slice())?;
+            put_logs(text, logs.as_slice())
         }
     }
-    Ok(text)
 }
 
 /// ` 2@3 commit 1`, the log reply of replica 2 with view 3 current: it commits, decided in view 1.
@@ -77,21 +75,19 @@ fn put_replies(text: &mut String, replies: &[InvokePart]) -> Result<(), AllocErr
     Ok(())
 }
 
-/// A second stage or an invoke: what it says, and by whom. Empty for another message.
-fn message(alloc: Global, told: &Message) -> Result<String, AllocError> {
-    let mut text = String::new(alloc);
+/// A second stage or an invoke: what it says, and by whom. Nothing for another message.
+fn put_message(text: &mut String, told: &Message) -> Result<(), AllocError> {
     match told {
         Message::St2(m) => {
             text.push_str(name_of(m.decision))?;
-            put_tallies(&mut text, m.tallies.as_slice())?;
+            put_tallies(text, m.tallies.as_slice())
         }
         Message::Invoke(m) => {
             write!(text, "{}:", m.shard)?;
-            put_replies(&mut text, m.replies.as_slice())?;
+            put_replies(text, m.replies.as_slice())
         }
-        _ => {}
+        _ => Ok(()),
     }
-    Ok(text)
 }
 
 /// An outcome, empty where there is none.
@@ -99,18 +95,20 @@ pub(crate) fn outcome(
     alloc: Global,
     outcome: Option<(Decision, &Certificate)>,
 ) -> Result<String, Fail> {
-    match outcome {
-        Some((_, told)) => Ok(certificate(alloc, told)?),
-        None => Ok(String::new(alloc)),
+    let mut text = String::new(alloc);
+    if let Some((_, told)) = outcome {
+        put_certificate(&mut text, told)?;
     }
+    Ok(text)
 }
 
 /// What a pursuit sends, empty where it sends nothing.
 pub(crate) fn asking(alloc: Global, sent: &Option<Message>) -> Result<String, Fail> {
-    match sent {
-        Some(told) => Ok(message(alloc, told)?),
-        None => Ok(String::new(alloc)),
+    let mut text = String::new(alloc);
+    if let Some(told) = sent {
+        put_message(&mut text, told)?;
     }
+    Ok(text)
 }
 
 /// `2 fast commit 0:012345`, how many are held and the outcome, if there is one.
@@ -134,7 +132,8 @@ fn is_in(alloc: Global, pursuit: &Pursuit, told: &str) -> Result<bool, Fail> {
     Ok(now.as_str() == told && before(alloc, pursuit)?.as_str() == told)
 }
 
-/// The state of a pursuit before its last add; fails where it isn't in it once that is taken back, or is taken back twice.
+/// The state of a pursuit before its last add; fails where it isn't in it once that is taken back, or is taken back
+/// twice.
 pub(crate) fn back(alloc: Global, pursuit: &mut Pursuit) -> Result<String, Fail> {
     let told = before(alloc, pursuit)?;
     pursuit.undo();
