@@ -759,7 +759,7 @@ def played_rows(folder):
             for shards, words, *expected in tables.constants[table]:
                 yield table, [(words, expected, told_row(table, shards, words))]
     tables = Tables(folder / "choices.rt")
-    for committed, prepared, *expected in tables.calls("two_replies"):
+    for committed, prepared, *expected in tables.constants["CHOSEN"]:
         yield "choices", [(f"{committed} {prepared}", expected, told_choice(committed, prepared))]
 
 
