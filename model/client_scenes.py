@@ -470,18 +470,18 @@ def cast_of(texts):
     marks dependencies, and the writes, of which `/` marks deletions."""
     cast = {"-": Record(version=GENESIS, id=GENESIS.id)}
     for text in texts:
-        name, time, client, *words = text.split()
-        reads = [re.fullmatch(r"(\w+)([?=])(\S+)", word).groups() for word in words if word[0] not in "+/"]
-        writes = [re.fullmatch(r"([+/])(\w+)=?(\S*)", word).groups() for word in words if word[0] in "+/"]
+        name, time, client, *tokens = text.split()
+        reads = [re.fullmatch(r"(\w+)([?=])(\S+)", token).groups() for token in tokens if token[0] not in "+/"]
+        writes = [re.fullmatch(r"([+/])(\w+)=?(\S*)", token).groups() for token in tokens if token[0] in "+/"]
         reads = [(key.encode(), cast[writer].version, mark == "?") for key, mark, writer in reads]
         writes = [(key.encode(), (value or "x1").encode() if mark == "+" else None) for mark, key, value in writes]
         cast[name] = Transaction(int(time), int(client), reads, writes)
     return cast
 
 
-def senders(word):
-    """The shard, the index and the flaw of each replica of a word like `0:01x2`, where x spoils a signature."""
-    shard, _, indices = word.partition(":")
+def senders(token):
+    """The shard, the index and the flaw of each replica of a token like `0:01x2`, where x spoils a signature."""
+    shard, _, indices = token.partition(":")
     return [(int(shard), int(index), flaw) for flaw, index in re.findall(r"(x?)(\d)", indices)]
 
 
@@ -491,15 +491,15 @@ def signed(message, flaw):
 
 def certificate_in(cast, text, identity):
     """A certificate on this id: `fast 0:012345`, `abort 0:0123`, `logged commit 1 0:01234` or `conflict 0:3 E fast 0:012345`."""
-    kind, *words = text.split()
-    decision = words[0] if kind == "logged" else COMMIT if kind == "fast" else ABORT
+    kind, *tokens = text.split()
+    decision = tokens[0] if kind == "logged" else COMMIT if kind == "fast" else ABORT
     tallies, nested = {}, []
     if kind == "conflict":
-        words, nested = words[:1], pair_in(cast, " ".join(words[1:]))
-    for shard, index, flaw in [sender for word in words if ":" in word for sender in senders(word)]:
+        tokens, nested = tokens[:1], pair_in(cast, " ".join(tokens[1:]))
+    for shard, index, flaw in [sender for token in tokens if ":" in token for sender in senders(token)]:
         part = Vote(shard, index, identity, decision)
         if kind == "logged":
-            part = Log(shard, index, identity, decision, int(words[1]), int(words[1]))
+            part = Log(shard, index, identity, decision, int(tokens[1]), int(tokens[1]))
         tallies.setdefault(shard, []).append(signed(part, flaw))
     return Certificate(kind, identity, decision, tallies, *nested)
 
@@ -518,12 +518,12 @@ def messages_of(cast, kind, rest):
         return [Writeback(*pair_in(cast, rest))]
     rest, _, prepared = rest.partition(" prepared ")
     rest, _, carried = rest.replace(" by ", " committed ").partition(" committed ")
-    who, name, *words = rest.split()
+    who, name, *tokens = rest.split()
     pair = pair_in(cast, carried) if carried else None
     make = {
-        "vote": lambda *replica: Vote(*replica, cast[name].id, *words, pair),
-        "log": lambda *replica: Log(*replica, cast[name].id, words[0], *map(int, words[1:])),
-        "reply": lambda *replica: Reply(*replica, name.encode(), *map(int, words), pair, cast[prepared] if prepared else None),
+        "vote": lambda *replica: Vote(*replica, cast[name].id, *tokens, pair),
+        "log": lambda *replica: Log(*replica, cast[name].id, tokens[0], *map(int, tokens[1:])),
+        "reply": lambda *replica: Reply(*replica, name.encode(), *map(int, tokens), pair, cast[prepared] if prepared else None),
     }[kind]
     return [signed(make(shard, index), flaw) for shard, index, flaw in senders(who)]
 
@@ -605,43 +605,43 @@ class Stage:
 
     def answer(self, phrase):
         """The answer to a question, or to what is asked or comes: what is sent, and `same` where no slot tells anything new."""
-        word, *words = phrase.split(" ")
-        if word == "signed":
+        token, *tokens = phrase.split(" ")
+        if token == "signed":
             return " ".join(map(self.name, self.client.signed))
-        if word in ("value", "formed", "held", "outcome"):
-            return getattr(self, word)(self.client.slots[int(words[0])], *(key.encode() for key in words[1:]))
+        if token in ("value", "formed", "held", "outcome"):
+            return getattr(self, token)(self.client.slots[int(tokens[0])], *(key.encode() for key in tokens[1:]))
         before = self.told_slots()
-        return "; ".join(self.told_asks(word, words)) or ("same" if self.told_slots() == before else "")
+        return "; ".join(self.told_asks(token, tokens)) or ("same" if self.told_slots() == before else "")
 
-    def told_asks(self, word, words):
+    def told_asks(self, token, tokens):
         """What is told of each ask of a phrase. What is asked behind `drop` is planned and given up, and tells its refusal alone,
         as reads and writes of many keys do."""
         texts = []
-        for ask in self.asks(*words) if word == "drop" else self.asks(word, *words):
-            client = copy.deepcopy(self.client) if word == "drop" else self.client
+        for ask in self.asks(*tokens) if token == "drop" else self.asks(token, *tokens):
+            client = copy.deepcopy(self.client) if token == "drop" else self.client
             try:
                 slot = ask(client)
                 told = [f"slot {slot}"] * (slot is not None) + self.told_sent(client)
-                texts += [] if word in ("drop", "reads", "writes") else told
+                texts += [] if token in ("drop", "reads", "writes") else told
             except Refused as refused:
                 texts.append(f"refused {refused}")
         return texts
 
-    def asks(self, word, *words):
+    def asks(self, token, *tokens):
         """What a phrase asks of a client: its call, or that it takes one message after the other. `a*65` spells 65 letters, and
         `reads 0 32` is of the keys r0 to r31."""
-        if word in ("vote", "log", "reply", "writeback"):
-            messages = messages_of(self.cast, word, " ".join(words))
+        if token in ("vote", "log", "reply", "writeback"):
+            messages = messages_of(self.cast, token, " ".join(tokens))
             return [lambda client, message=message: client.receive(message) for message in messages]
-        if word == "begin":
-            return [lambda client: client.begin(int(words[0]))]
-        if word == "recover":
-            return [lambda client: client.recover(self.cast[words[0]], None)]
-        place, call = int(words[0]), {"reads": "read", "writes": "write", "delete": "write"}.get(word, word)
-        parts = [re.sub(r"(.)\*(\d+)", lambda found: found[1] * int(found[2]), part).encode() for part in words[1:]]
+        if token == "begin":
+            return [lambda client: client.begin(int(tokens[0]))]
+        if token == "recover":
+            return [lambda client: client.recover(self.cast[tokens[0]], None)]
+        place, call = int(tokens[0]), {"reads": "read", "writes": "write", "delete": "write"}.get(token, token)
+        parts = [re.sub(r"(.)\*(\d+)", lambda found: found[1] * int(found[2]), part).encode() for part in tokens[1:]]
         calls = [parts]
-        if word in ("reads", "writes"):
-            calls = [[f"{word[0]}{number}".encode()] + [b"v"] * (word == "writes") for number in range(int(words[1]))]
+        if token in ("reads", "writes"):
+            calls = [[f"{token[0]}{number}".encode()] + [b"v"] * (token == "writes") for number in range(int(tokens[1]))]
         return [lambda client, parts=parts: getattr(client, call)(client.slots[place], *parts) for parts in calls]
 
 
@@ -756,8 +756,8 @@ def played_rows(folder):
     for path, names in (("pursuits.rt", ["OUTCOMES"]), ("stages.rt", ["SECONDS", "INVOKES"]), ("undone.rt", ["HELD", "UNDONE"])):
         tables = Tables(folder / path)
         for table in names:
-            for shards, words, *expected in tables.constants[table]:
-                yield table, [(words, expected, told_row(table, shards, words))]
+            for shards, tokens, *expected in tables.constants[table]:
+                yield table, [(tokens, expected, told_row(table, shards, tokens))]
     tables = Tables(folder / "choices.rt")
     for committed, prepared, *expected in tables.constants["CHOSEN"]:
         yield "choices", [(f"{committed} {prepared}", expected, told_choice(committed, prepared))]

@@ -496,17 +496,17 @@ class Replica:
 # Phrases, and the transactions that they name.
 
 
-def number_in(word):
-    return int("0" + re.sub(r"\D", "", word))
+def number_in(token):
+    return int("0" + re.sub(r"\D", "", token))
 
 
-def decision_in(word):
-    return ABORT if "a" in word else COMMIT
+def decision_in(token):
+    return ABORT if "a" in token else COMMIT
 
 
-def read_in(word, cast):
+def read_in(token, cast):
     """`a=B` reads the version of B, or of genesis for `-`; `a?B` depends on it; `a~B` on B's id at a later time."""
-    key, mark, name = re.fullmatch(r"([^=?~]+)([=?~])(.+)", word).groups()
+    key, mark, name = re.fullmatch(r"([^=?~]+)([=?~])(.+)", token).groups()
     version = GENESIS
     if name != "-":
         time, client, identity = cast[name].version
@@ -530,15 +530,15 @@ def cast_of(texts):
 
 
 class Phrase:
-    """A frame in words, such as `c3 st2 D commit 0:0123 1:1234`, that comes to a replica of a shard."""
+    """A frame in tokens, such as `c3 st2 D commit 0:0123 1:1234`, that comes to a replica of a shard."""
 
     def __init__(self, phrase, cast, shard):
-        self.words, self.cast = phrase.split(" "), cast
-        self.kind, self.index = self.words[1], number_in(self.words[0])
-        self.sender = ("c", self.index) if self.words[0][0] == "c" else ("r", shard, self.index)
-        self.shard = next((number_in(word) for word in self.words if word[0] == "@"), shard)
-        self.transaction = cast.get(self.words[2]) if len(self.words) > 2 else None
-        self.mark = "x" if "x" in self.words else ""
+        self.tokens, self.cast = phrase.split(" "), cast
+        self.kind, self.index = self.tokens[1], number_in(self.tokens[0])
+        self.sender = ("c", self.index) if self.tokens[0][0] == "c" else ("r", shard, self.index)
+        self.shard = next((number_in(token) for token in self.tokens if token[0] == "@"), shard)
+        self.transaction = cast.get(self.tokens[2]) if len(self.tokens) > 2 else None
+        self.mark = "x" if "x" in self.tokens else ""
 
     def frame(self):
         return Part(kind=self.kind, **getattr(self, "tell_" + self.kind)())
@@ -556,10 +556,10 @@ class Phrase:
         return self.item(shard, index, mark, "log", self.transaction.id, *fields.values(), **fields)
 
     def pairs(self, start):
-        return [tuple(word.split(":")) for word in self.words[start:] if ":" in word]
+        return [tuple(token.split(":")) for token in self.tokens[start:] if ":" in token]
 
     def tallies(self, identity, decision, start):
-        """The votes of words like `0:01x2`, where an x spoils that of the next replica."""
+        """The votes of tokens like `0:01x2`, where an x spoils that of the next replica."""
         tallies = [Part(shard=int(shard), votes=re.findall(r"(x?)(\d)", told)) for shard, told in self.pairs(start)]
         for tally in tallies:
             votes = [(tally.shard, int(index), mark) for mark, index in tally.votes]
@@ -567,23 +567,23 @@ class Phrase:
         return tallies
 
     def certificate(self):
-        kind, identity = self.words[3], self.transaction.id
+        kind, identity = self.tokens[3], self.transaction.id
         if kind == "fast":
             return Part(kind=kind, id=identity, tallies=self.tallies(identity, COMMIT, 4))
         if kind == "abort":
             return Part(kind=kind, id=identity, **vars(self.tallies(identity, ABORT, 4)[0]))
         if kind == "logged":
-            decision, view = decision_in(self.words[4]), int(self.words[5])
-            shard, replicas = self.words[6].split(":")
+            decision, view = decision_in(self.tokens[4]), int(self.tokens[5])
+            shard, replicas = self.tokens[6].split(":")
             replies = [self.log(int(shard), int(index), "", decision, view, view) for index in replicas]
             return Part(kind=kind, id=identity, shard=int(shard), decision=decision, decided=view, replies=replies)
-        (shard, index), other = map(int, self.words[4].split(":")), self.cast[self.words[5]]
+        (shard, index), other = map(int, self.tokens[4].split(":")), self.cast[self.tokens[5]]
         proof = Part(kind="fast", id=other.id, tallies=self.tallies(other.id, COMMIT, 6))
         vote = self.item(shard, index, "", "vote", identity, ABORT)
         return Part(kind=kind, id=identity, shard=shard, other=other, proof=proof, **vars(vote))
 
     def tell_read(self):
-        return {"key": self.words[2], "time": int(self.words[3]), "client": int(self.words[4])}
+        return {"key": self.tokens[2], "time": int(self.tokens[3]), "client": int(self.tokens[4])}
 
     def tell_st1(self):
         client, words = ("c", self.transaction.client), ("transaction", self.transaction.id)
@@ -592,20 +592,20 @@ class Phrase:
     tell_recover = tell_st1
 
     def tell_st2(self):
-        decision = decision_in(self.words[3])
+        decision = decision_in(self.tokens[3])
         return {**self.tell_st1(), "decision": decision, "tallies": self.tallies(self.transaction.id, decision, 4)}
 
     def tell_writeback(self):
         return {"transaction": self.transaction, "certificate": self.certificate()}
 
     def tell_invoke(self):
-        told = [(int(index), word) for index, word in self.pairs(3)]
-        replies = [self.log(self.shard, index, word, decision_in(word), 0, number_in(word)) for index, word in told]
+        told = [(int(index), token) for index, token in self.pairs(3)]
+        replies = [self.log(self.shard, index, token, decision_in(token), 0, number_in(token)) for index, token in told]
         return {"id": self.transaction.id, "shard": self.shard, "replies": replies}
 
     def tell_elect(self):
         """A word or a proposal. A view of 0 is out of range, behind the kind, the transaction and three bytes."""
-        decision, view = decision_in(self.words[3]), int(self.words[4])
+        decision, view = decision_in(self.tokens[3]), int(self.tokens[4])
         fault = None if view else f"Range({len(bytes_of(self.transaction)) + 4})"
         word = self.item(self.shard, self.index, self.mark, self.kind, self.transaction.id, view, decision)
         place = {"transaction": self.transaction, "shard": self.shard, **vars(word)}
@@ -613,14 +613,14 @@ class Phrase:
 
     def tell_decide(self):
         front, words = self.tell_elect(), []
-        for told in [word for word in self.words[5:] if word[0].isdigit()]:
+        for told in [token for token in self.tokens[5:] if token[0].isdigit()]:
             spoken = "elect", self.transaction.id, front["view"], decision_in(told)
             words.append(self.item(self.shard, number_in(told), told, *spoken, decision=decision_in(told)))
         return {**front, "words": words}
 
     def tell_bytes(self):
         """What is no frame: no byte, one that is no kind, or a kind with nothing behind it."""
-        kinds = [int(word) for word in self.words[2:]]
+        kinds = [int(token) for token in self.tokens[2:]]
         return {"fault": "Short(0)" if not kinds else "Short(1)" if 1 <= kinds[0] <= 11 else "Kind"}
 
     def tell_nothing(self):

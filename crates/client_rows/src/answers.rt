@@ -1,5 +1,5 @@
 //! What replicas answer a client that pursues a transaction: votes, log replies and writebacks with plain signatures,
-//! each named by a word.
+//! each named by a token.
 
 use crate::made::{fast_abort, fast_commit, put_signature};
 use basil_types::bytes::id_of;
@@ -61,34 +61,34 @@ fn log_reply(
     Ok(out)
 }
 
-/// The decimal digit at a place of a word; 0 where none stands there.
-fn digit(word: &[u8], place: usize) -> u8 {
-    word.get(place).map_or(0, |byte| byte.saturating_sub(b'0'))
+/// The decimal digit at a place of a token; 0 where none stands there.
+fn digit(token: &[u8], place: usize) -> u8 {
+    token.get(place).map_or(0, |byte| byte.saturating_sub(b'0'))
 }
 
-/// The shard and the replica that a word names first.
-fn replica_in(word: &[u8]) -> (u8, u8) {
-    (digit(word, 1), digit(word, 2))
+/// The shard and the replica that a token names first.
+fn replica_in(token: &[u8]) -> (u8, u8) {
+    (digit(token, 1), digit(token, 2))
 }
 
-/// The views that a word names behind its replica.
-fn views_in(word: &[u8]) -> (u64, u64) {
-    (u64::from(digit(word, 3)), u64::from(digit(word, 4)))
+/// The views that a token names behind its replica.
+fn views_in(token: &[u8]) -> (u64, u64) {
+    (u64::from(digit(token, 3)), u64::from(digit(token, 4)))
 }
 
-/// The frame that a word names: `c02` and `a02`, a vote of replica 2 of shard 0 to commit or to abort; `p02`, one to
+/// The frame that a token names: `c02` and `a02`, a vote of replica 2 of shard 0 to commit or to abort; `p02`, one to
 /// abort with the rival as its proof; `C0213` and `A0213`, its log reply, decided in view 1, with view 3 current; `w`
 /// and `x`, the writeback of a fast commit and of a fast abort of shard 0.
-pub(crate) fn frame_of(alloc: Global, pursued: &Pursued<'_>, word: &str) -> Result<Vec<u8>, Fail> {
-    let word = word.as_bytes();
+pub(crate) fn frame_of(alloc: Global, pursued: &Pursued<'_>, token: &str) -> Result<Vec<u8>, Fail> {
+    let token = token.as_bytes();
     let id = id_of(pursued.transaction);
-    let replica = replica_in(word);
-    Ok(match word.first() {
+    let replica = replica_in(token);
+    Ok(match token.first() {
         Some(b'c') => vote(alloc, &id, replica, Decision::Commit, &[])?,
         Some(b'a') => vote(alloc, &id, replica, Decision::Abort, &[])?,
         Some(b'p') => vote(alloc, &id, replica, Decision::Abort, pursued.rival)?,
-        Some(b'C') => log_reply(alloc, &id, replica, Decision::Commit, views_in(word))?,
-        Some(b'A') => log_reply(alloc, &id, replica, Decision::Abort, views_in(word))?,
+        Some(b'C') => log_reply(alloc, &id, replica, Decision::Commit, views_in(token))?,
+        Some(b'A') => log_reply(alloc, &id, replica, Decision::Abort, views_in(token))?,
         Some(b'w') => fast_commit(alloc, pursued.transaction, pursued.tallies)?,
         Some(b'x') => fast_abort(alloc, pursued.transaction, 4)?,
         _ => return Err(Fail::new("no frame has this name")),

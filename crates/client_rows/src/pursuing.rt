@@ -1,4 +1,4 @@
-//! Pursuits that took frames, which are named by words.
+//! Pursuits that took frames, which are named by tokens.
 
 use crate::answers::{Pursued, frame_of};
 use crate::made::fast_commit;
@@ -79,15 +79,15 @@ fn follow(
     alloc: Global,
     pursuit: &mut Pursuit,
     pursued: &Pursued<'_>,
-    word: &str,
+    token: &str,
 ) -> Result<(), Fail> {
-    if word == "u" {
+    if token == "u" {
         pursuit.undo();
         return Ok(());
     }
-    let (taken, name) = match word.strip_prefix('!') {
+    let (taken, name) = match token.strip_prefix('!') {
         Some(name) => (false, name),
-        None => (true, word),
+        None => (true, token),
     };
     let frame = frame_of(alloc, pursued, name)?;
     if take(pursuit, &frame)?.is_ok() == taken {
@@ -117,11 +117,11 @@ fn answer(
     alloc: Global,
     pursuit: &mut Pursuit,
     pursued: &Pursued<'_>,
-    words: &str,
+    tokens: &str,
     asked: Asked,
 ) -> Result<String, Fail> {
-    for word in words.split(' ') {
-        follow(alloc, pursuit, pursued, word)?;
+    for token in tokens.split(' ') {
+        follow(alloc, pursuit, pursued, token)?;
     }
     match asked {
         Asked::Outcome => told::outcome(alloc, pursuit.outcome()),
@@ -133,12 +133,12 @@ fn answer(
 }
 
 /// What a new pursuit answers once it took the frames of these names. It is owned here alone, and let go in one place.
-fn after(alloc: Global, shards: u8, words: &str, asked: Asked) -> Result<String, Fail> {
+fn after(alloc: Global, shards: u8, tokens: &str, asked: Asked) -> Result<String, Fail> {
     let cluster = Cluster::new(1, shards, 2, 100)?;
     let rival = fast_commit(alloc, READS_A, &[(shards.saturating_sub(1), 6)])?;
     let pursued = pursued(shards, &rival);
     let mut pursuit = pursuit_of(alloc, pursued.transaction, &cluster)?;
-    answer(alloc, &mut pursuit, &pursued, words, asked)
+    answer(alloc, &mut pursuit, &pursued, tokens, asked)
 }
 
 /// Each row's answer is its last text: the shards of a cluster with f = 1, the frames that were taken, and the answer.
@@ -148,9 +148,9 @@ pub(crate) fn are_answered(
     rows: &[(u8, &str, &str)],
     asked: Asked,
 ) -> Result<(), Fail> {
-    for &(shards, words, wanted) in rows {
-        let found = after(alloc, shards, words, asked)?;
-        assert!(rt; found.as_str() == wanted, "{words}: {found}");
+    for &(shards, tokens, wanted) in rows {
+        let found = after(alloc, shards, tokens, asked)?;
+        assert!(rt; found.as_str() == wanted, "{tokens}: {found}");
     }
     Ok(())
 }

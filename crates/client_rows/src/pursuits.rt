@@ -138,14 +138,14 @@ const FAULTS: &[Row] = &[
 
 /// A row's frame with its byte changed.
 fn changed(alloc: Global, row: &Row) -> Result<Vec<u8>, Fail> {
-    let (_, transaction, rival, word, place, mask, _) = *row;
+    let (_, transaction, rival, token, place, mask, _) = *row;
     let writeback = fast_commit(alloc, rival, &[(0, 6)])?;
     let pursued = Pursued {
         transaction,
         rival: &writeback,
         tallies: &[(0, 6)],
     };
-    let mut frame = frame_of(alloc, &pursued, word)?;
+    let mut frame = frame_of(alloc, &pursued, token)?;
     if place < frame.len() {
         frame[place] ^= mask;
     }

@@ -1,6 +1,6 @@
 //! What a phrase asks of a client, and what is told of that: what is sent, or why it is refused.
 
-use crate::casts::{Role, byte_of, number_of, role_named, word_at};
+use crate::casts::{Role, byte_of, number_of, role_named, token_at};
 use crate::guest::{Answer, Halves};
 use crate::phrases::{Sender, plain_signature, put_frame, senders_of};
 use crate::seen::bytes_of;
@@ -48,23 +48,23 @@ impl<'a> Call<'a> {
     }
 }
 
-/// A word's bytes: `a*65` spells 65 letters a.
-fn spelled(alloc: Global, word: &str) -> Result<Vec<u8>, AllocError> {
+/// A token's bytes: `a*65` spells 65 letters a.
+fn spelled(alloc: Global, token: &str) -> Result<Vec<u8>, AllocError> {
     let mut bytes = Vec::new(alloc);
-    match word.split_once('*') {
+    match token.split_once('*') {
         Some((letter, count)) => {
             for _ in 0..number_of(count) {
                 bytes.extend_from_slice(letter.as_bytes())?;
             }
         }
-        None => bytes.extend_from_slice(word.as_bytes())?,
+        None => bytes.extend_from_slice(token.as_bytes())?,
     }
     Ok(bytes)
 }
 
-/// The slot that the second word of a phrase names.
+/// The slot that the second token of a phrase names.
 pub(crate) fn slot_in(phrase: &str) -> u32 {
-    u32::from(byte_of(word_at(phrase, 1)))
+    u32::from(byte_of(token_at(phrase, 1)))
 }
 
 /// A role's transaction; fails where it is none.
@@ -239,9 +239,9 @@ impl Stage<'_> {
     /// Reads, writes or deletes a key.
     fn tell_keyed(&mut self, text: &mut String, way: Way, phrase: &str) -> Result<(), Fail> {
         let slot = slot_in(phrase);
-        let key = spelled(self.alloc, word_at(phrase, 2))?;
-        let value = spelled(self.alloc, word_at(phrase, 3))?;
-        let call = match word_at(phrase, 0).as_bytes() {
+        let key = spelled(self.alloc, token_at(phrase, 2))?;
+        let value = spelled(self.alloc, token_at(phrase, 3))?;
+        let call = match token_at(phrase, 0).as_bytes() {
             b"read" => Call::Planned(Ask::Read { slot, key: &key }),
             b"write" => Call::Write {
                 slot,
@@ -262,7 +262,7 @@ impl Stage<'_> {
         number: u64,
     ) -> Result<(), Fail> {
         let (alloc, slot) = (self.alloc, slot_in(phrase));
-        let keyed = if word_at(phrase, 0) == "writes" {
+        let keyed = if token_at(phrase, 0) == "writes" {
             format!(in alloc; "write {slot} w{number} v")?
         } else {
             format!(in alloc; "read {slot} r{number}")?
@@ -272,7 +272,7 @@ impl Stage<'_> {
 
     /// Reads or writes so many keys; fails where one is refused.
     fn fill(&mut self, text: &mut String, way: Way, phrase: &str) -> Result<(), Fail> {
-        for number in 0..number_of(word_at(phrase, 2)) {
+        for number in 0..number_of(token_at(phrase, 2)) {
             self.tell_numbered(text, way, phrase, number)?;
         }
         if text.contains("refused") {
@@ -283,7 +283,7 @@ impl Stage<'_> {
     }
 
     fn tell_recover(&mut self, text: &mut String, way: Way, phrase: &str) -> Result<(), Fail> {
-        let role = role_named(self.reader.cast, word_at(phrase, 1))?;
+        let role = role_named(self.reader.cast, token_at(phrase, 1))?;
         let signature = signature_of(role);
         let t = transaction_of(self.alloc, role)?;
         let ask = Ask::Recover {
@@ -328,8 +328,8 @@ impl Stage<'_> {
     /// Does what a phrase says that isn't a question.
     fn tell_done(&mut self, text: &mut String, way: Way, phrase: &str) -> Result<(), Fail> {
         let slot = slot_in(phrase);
-        let time = number_of(word_at(phrase, 1));
-        match word_at(phrase, 0).as_bytes() {
+        let time = number_of(token_at(phrase, 1));
+        match token_at(phrase, 0).as_bytes() {
             b"begin" => self.tell_call(text, way, Call::Begin { time }),
             b"read" | b"write" | b"delete" => self.tell_keyed(text, way, phrase),
             b"prepare" => self.tell_call(text, way, Call::Planned(Ask::Prepare { slot })),

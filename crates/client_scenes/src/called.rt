@@ -1,4 +1,5 @@
-//! What a client refuses of its calls, the first refusal of each. That nothing changes by it each scene tests by itself.
+//! What a client refuses of its calls, the first refusal of each. That nothing changes by it each scene tests by
+//! itself.
 
 use crate::stages::{Scene, plays};
 use std::test::Fail;

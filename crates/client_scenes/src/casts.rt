@@ -1,4 +1,4 @@
-//! The transactions of a scene, and the words of its phrases.
+//! The transactions of a scene, and the tokens of its phrases.
 
 use basil_types::bytes::id_of;
 use basil_types::version::Version;
@@ -14,32 +14,32 @@ pub(crate) struct Role {
     pub(crate) bytes: Vec<u8>,
 }
 
-/// The word at a place of a text, from 0; empty where it has fewer.
-pub(crate) fn word_at(text: &str, place: usize) -> &str {
-    let mut words = text.split(' ');
-    words.nth(place).unwrap_or("")
+/// The token at a place of a text, from 0; empty where it has fewer.
+pub(crate) fn token_at(text: &str, place: usize) -> &str {
+    let mut tokens = text.split(' ');
+    tokens.nth(place).unwrap_or("")
 }
 
-/// A text behind its first word; empty where it has no more.
-pub(crate) fn behind_word(text: &str) -> &str {
+/// A text behind its first token; empty where it has no more.
+pub(crate) fn behind_token(text: &str) -> &str {
     match text.split_once(' ') {
         Some((_, rest)) => rest,
         None => "",
     }
 }
 
-/// The first byte of a word; 0 where it is empty.
-pub(crate) fn initial(word: &str) -> u8 {
-    match word.as_bytes() {
+/// The first byte of a token; 0 where it is empty.
+pub(crate) fn initial(token: &str) -> u8 {
+    match token.as_bytes() {
         [first, ..] => *first,
         [] => 0,
     }
 }
 
-/// The number that the decimal digits of a word spell, whatever else stands between them.
-pub(crate) fn number_of(word: &str) -> u64 {
+/// The number that the decimal digits of a token spell, whatever else stands between them.
+pub(crate) fn number_of(token: &str) -> u64 {
     let mut number = 0u64;
-    for byte in word.as_bytes() {
+    for byte in token.as_bytes() {
         if byte.is_ascii_digit() {
             let digit = byte.saturating_sub(b'0');
             number = number.saturating_mul(10).saturating_add(u64::from(digit));
@@ -49,8 +49,8 @@ pub(crate) fn number_of(word: &str) -> u64 {
 }
 
 /// The same as a byte.
-pub(crate) fn byte_of(word: &str) -> u8 {
-    u8::try_from(number_of(word)).unwrap_or(u8::MAX)
+pub(crate) fn byte_of(token: &str) -> u8 {
+    u8::try_from(number_of(token)).unwrap_or(u8::MAX)
 }
 
 /// The transaction of this name.
@@ -81,7 +81,8 @@ pub(crate) fn name_with(cast: &[Role], id: &[u8; 32]) -> &'static str {
     "another"
 }
 
-/// What a word like `a?B` tells of a read: the key, how, and whose version. `a=B` is a read of the version of B, or for
+/// What a token like `a?B` tells of a read: the key, how, and whose version. `a=B` is a read of the version of B, or
+/// for
 /// `-` of genesis; `a?B` is the same as a dependency.
 #[derive(Clone, Copy)]
 struct Reading<'a> {
@@ -90,32 +91,32 @@ struct Reading<'a> {
     writer: &'a str,
 }
 
-fn marked(word: &str, mark: char) -> Option<Reading<'_>> {
-    match word.split_once(mark) {
+fn marked(token: &str, mark: char) -> Option<Reading<'_>> {
+    match token.split_once(mark) {
         Some((key, writer)) => Some(Reading { key, mark, writer }),
         None => None,
     }
 }
 
-fn read_in(word: &str) -> Option<Reading<'_>> {
-    if initial(word) == b'+' {
+fn read_in(token: &str) -> Option<Reading<'_>> {
+    if initial(token) == b'+' {
         return None;
     }
-    match marked(word, '?') {
+    match marked(token, '?') {
         Some(told) => Some(told),
-        None => marked(word, '='),
+        None => marked(token, '='),
     }
 }
 
-/// What a word tells of a write: `+a=x2` gives a the value x2, `+a` the value x1, and `/a` deletes it.
+/// What a token tells of a write: `+a=x2` gives a the value x2, `+a` the value x1, and `/a` deletes it.
 #[derive(Clone, Copy)]
 struct Writing<'a> {
     key: &'a str,
     value: Option<&'a str>,
 }
 
-fn value_in(word: &str) -> Option<Writing<'_>> {
-    let told = word.strip_prefix('+')?;
+fn value_in(token: &str) -> Option<Writing<'_>> {
+    let told = token.strip_prefix('+')?;
     let (key, value) = told.split_once('=').unwrap_or((told, "x1"));
     Some(Writing {
         key,
@@ -123,17 +124,17 @@ fn value_in(word: &str) -> Option<Writing<'_>> {
     })
 }
 
-fn write_in(word: &str) -> Option<Writing<'_>> {
-    match word.strip_prefix('/') {
+fn write_in(token: &str) -> Option<Writing<'_>> {
+    match token.strip_prefix('/') {
         Some(key) => Some(Writing { key, value: None }),
-        None => value_in(word),
+        None => value_in(token),
     }
 }
 
 fn count_reads(text: &str) -> u8 {
     let mut count = 0u8;
-    for word in text.split(' ') {
-        if read_in(word).is_some() {
+    for token in text.split(' ') {
+        if read_in(token).is_some() {
             count = count.saturating_add(1);
         }
     }
@@ -142,8 +143,8 @@ fn count_reads(text: &str) -> u8 {
 
 fn count_writes(text: &str) -> u8 {
     let mut count = 0u8;
-    for word in text.split(' ') {
-        if write_in(word).is_some() {
+    for token in text.split(' ') {
+        if write_in(token).is_some() {
             count = count.saturating_add(1);
         }
     }
@@ -187,8 +188,8 @@ pub(crate) fn put_text(out: &mut Vec<u8>, text: &str) -> Result<(), AllocError> 
 
 fn put_reads(out: &mut Vec<u8>, cast: &[Role], text: &str) -> Result<(), Fail> {
     out.push(count_reads(text))?;
-    for word in text.split(' ') {
-        if let Some(told) = read_in(word) {
+    for token in text.split(' ') {
+        if let Some(told) = read_in(token) {
             put_text(out, told.key)?;
             put_version(out, &version_named(cast, told.writer)?)?;
             out.push(u8::from(told.mark == '?'))?;
@@ -213,8 +214,8 @@ fn put_value(out: &mut Vec<u8>, format: u8, value: Option<&str>) -> Result<(), A
 
 fn put_writes(out: &mut Vec<u8>, text: &str) -> Result<(), AllocError> {
     out.push(count_writes(text))?;
-    for word in text.split(' ') {
-        if let Some(told) = write_in(word) {
+    for token in text.split(' ') {
+        if let Some(told) = write_in(token) {
             put_text(out, told.key)?;
             put_value(out, format_of(text), told.value)?;
         }
@@ -225,8 +226,8 @@ fn put_writes(out: &mut Vec<u8>, text: &str) -> Result<(), AllocError> {
 /// The canonical bytes of the transaction that a text tells.
 fn put_transaction(out: &mut Vec<u8>, cast: &[Role], text: &str) -> Result<(), Fail> {
     out.push(format_of(text))?;
-    out.extend_from_slice(&number_of(word_at(text, 1)).to_be_bytes())?;
-    out.push(byte_of(word_at(text, 2)))?;
+    out.extend_from_slice(&number_of(token_at(text, 1)).to_be_bytes())?;
+    out.push(byte_of(token_at(text, 2)))?;
     put_reads(out, cast, text)?;
     put_writes(out, text)?;
     Ok(())
@@ -237,9 +238,9 @@ fn role_of(alloc: Global, cast: &[Role], text: &'static str) -> Result<Role, Fai
     let mut bytes = Vec::new(alloc);
     put_transaction(&mut bytes, cast, text)?;
     Ok(Role {
-        name: word_at(text, 0),
-        time: number_of(word_at(text, 1)),
-        client: byte_of(word_at(text, 2)),
+        name: token_at(text, 0),
+        time: number_of(token_at(text, 1)),
+        client: byte_of(token_at(text, 2)),
         bytes,
     })
 }

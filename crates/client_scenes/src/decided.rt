@@ -3,8 +3,8 @@
 use crate::stages::{Scene, plays};
 use std::test::Fail;
 
-/// Client 1 in a cluster of one shard with f = 1: a fast commit wants six votes of each shard, a fast abort four of one, and a
-/// logged decision five log replies.
+/// Client 1 in a cluster of one shard with f = 1: a fast commit wants six votes of each shard, a fast abort four of
+/// one, and a logged decision five log replies.
 const ONE: Scene = Scene {
     f: 1,
     shards: 1,
@@ -265,8 +265,8 @@ const ABORTS_AND_PROVES: Scene = Scene {
     ..ONE
 };
 
-/// Of what each single frame completes the first rule decides; what decided stays, whatever comes then and would have decided
-/// before it. Frames that come later are tested still.
+/// Of what each single frame completes the first rule decides; what decided stays, whatever comes then and would have
+/// decided before it. Frames that come later are tested still.
 const LOG_FIRST: Scene = Scene {
     cast: &["A 10 1 +a", "R 30 2 a=-", "F 31 2 +a"],
     steps: &[

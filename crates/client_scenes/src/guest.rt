@@ -34,7 +34,8 @@ pub(crate) struct Halves {
     pub(crate) slot: Option<u32>,
 }
 
-/// The slot that a recovery answers, none for the other asks; fails where a slot isn't held, or a signature is out of size.
+/// The slot that a recovery answers, none for the other asks; fails where a slot isn't held, or a signature is out of
+/// size.
 pub(crate) type Answer = Result<Result<Option<u32>, AskFault>, Fail>;
 
 fn no_slot() -> Fail {

@@ -1,16 +1,18 @@
 //! Frames that come to a client, by phrases, with plain signatures.
 //!
-//! `vote 0:35 D commit` are the votes of the replicas 3 and 5 of shard 0, one frame after the other, and `vote 0:3 D abort by E
-//! fast 0:012345` is one to abort with the fast commit of E as its proof. `log 0:4 D commit 1 3` is a log reply, decided in view 1,
-//! with view 3 current. `reply 0:12 a 40 3` answers a read of key a at time 40 by client 3: nothing is there; behind it
+//! `vote 0:35 D commit` are the votes of the replicas 3 and 5 of shard 0, one frame after the other, and `vote 0:3 D
+//! abort by E fast 0:012345` is one to abort with the fast commit of E as its proof. `log 0:4 D commit 1 3` is a log
+//! reply, decided in view 1, with view 3 current. `reply 0:12 a 40 3` answers a read of key a at time 40 by client 3:
+//! nothing is there; behind it
 //! `committed E fast 0:012345` and `prepared F` tell the transactions that it carries. Writebacks are
-//! `writeback D fast 0:012345 1:012345`, `.. abort 0:0123`, `.. logged commit 1 0:01234`, which was decided in view 1, and
-//! `.. conflict 0:3 E fast 0:012345`, with the vote of replica 3 of shard 0 and the fast commit of E. `D/E` in the place of D is
-//! the transaction D with a certificate of E's id. An x before a replica spoils its signature. `frame 0301` are these bytes, and `zeros 9`
-//! are nine zeros.
+//! `writeback D fast 0:012345 1:012345`, `.. abort 0:0123`, `.. logged commit 1 0:01234`, which was decided in view 1,
+//! and
+//! `.. conflict 0:3 E fast 0:012345`, with the vote of replica 3 of shard 0 and the fast commit of E. `D/E` in the
+//! place of D is the transaction D with a certificate of E's id. An x before a replica spoils its signature. `frame
+//! 0301` are these bytes, and `zeros 9` are nine zeros.
 
 use crate::casts::{
-    Role, behind_word, byte_of, number_of, put_text, role_named, version_named, word_at,
+    Role, behind_token, byte_of, number_of, put_text, role_named, version_named, token_at,
 };
 use basil_types::bytes::id_of;
 use basil_types::party::{Decision, Party};
@@ -21,7 +23,7 @@ use keyring::signer::Signer;
 use std::alloc::{AllocError, Global};
 use std::test::Fail;
 
-/// A replica that a word names, and whether its signature is spoiled.
+/// A replica that a token names, and whether its signature is spoiled.
 #[derive(Clone, Copy)]
 pub(crate) struct Sender {
     pub(crate) shard: u8,
@@ -38,14 +40,14 @@ impl Sender {
     }
 }
 
-/// What stands before and behind the colon of a word.
-fn halves(word: &str) -> (&str, &str) {
-    word.split_once(':').unwrap_or((word, ""))
+/// What stands before and behind the colon of a token.
+fn halves(token: &str) -> (&str, &str) {
+    token.split_once(':').unwrap_or((token, ""))
 }
 
-/// The replicas of a word like `0:01x2`: of shard 0 the replicas 0, 1 and 2, the last with a spoiled signature.
-fn senders(alloc: Global, word: &str) -> Result<Vec<Sender>, AllocError> {
-    let (shard, replicas) = halves(word);
+/// The replicas of a token like `0:01x2`: of shard 0 the replicas 0, 1 and 2, the last with a spoiled signature.
+fn senders(alloc: Global, token: &str) -> Result<Vec<Sender>, AllocError> {
+    let (shard, replicas) = halves(token);
     let shard = byte_of(shard);
     let mut senders = Vec::new(alloc);
     let mut spoiled = false;
@@ -65,8 +67,8 @@ fn senders(alloc: Global, word: &str) -> Result<Vec<Sender>, AllocError> {
     Ok(senders)
 }
 
-pub(crate) fn decision_in(word: &str) -> Decision {
-    if word == "abort" {
+pub(crate) fn decision_in(token: &str) -> Decision {
+    if token == "abort" {
         Decision::Abort
     } else {
         Decision::Commit
@@ -120,35 +122,35 @@ fn put_voters(
 
 fn count_pairs(text: &str) -> usize {
     let mut count = 0usize;
-    for word in text.split(' ') {
-        if word.contains(':') {
+    for token in text.split(' ') {
+        if token.contains(':') {
             count = count.saturating_add(1);
         }
     }
     count
 }
 
-/// The shard of a word like `0:0123`, and votes of these replicas behind their number.
+/// The shard of a token like `0:0123`, and votes of these replicas behind their number.
 fn put_votes(
     alloc: Global,
     out: &mut Vec<u8>,
     id: &[u8; 32],
     decision: Decision,
-    word: &str,
+    token: &str,
 ) -> Result<(), AllocError> {
-    out.push(byte_of(halves(word).0))?;
-    let voters = senders(alloc, word)?;
+    out.push(byte_of(halves(token).0))?;
+    let voters = senders(alloc, token)?;
     put_voters(out, id, decision, &voters)
 }
 
-/// A fast commit, with the votes of each word.
+/// A fast commit, with the votes of each token.
 fn put_fast(alloc: Global, out: &mut Vec<u8>, id: &[u8; 32], text: &str) -> Result<(), AllocError> {
     out.push(1)?;
     out.extend_from_slice(id)?;
     put_count(out, count_pairs(text))?;
-    for word in text.split(' ') {
-        if word.contains(':') {
-            put_votes(alloc, out, id, Decision::Commit, word)?;
+    for token in text.split(' ') {
+        if token.contains(':') {
+            put_votes(alloc, out, id, Decision::Commit, token)?;
         }
     }
     Ok(())
@@ -178,14 +180,14 @@ fn put_logged(
     id: &[u8; 32],
     text: &str,
 ) -> Result<(), AllocError> {
-    let decision = decision_in(word_at(text, 1));
-    let view = number_of(word_at(text, 2));
-    let word = word_at(text, 3);
+    let decision = decision_in(token_at(text, 1));
+    let view = number_of(token_at(text, 2));
+    let token = token_at(text, 3);
     out.push(2)?;
     out.extend_from_slice(id)?;
-    out.extend_from_slice(&[byte_of(halves(word).0), number_for(decision)])?;
+    out.extend_from_slice(&[byte_of(halves(token).0), number_for(decision)])?;
     out.extend_from_slice(&view.to_be_bytes())?;
-    let loggers = senders(alloc, word)?;
+    let loggers = senders(alloc, token)?;
     put_logs(out, id, (decision, view), &loggers)
 }
 
@@ -196,17 +198,17 @@ fn put_commit(
     id: &[u8; 32],
     text: &str,
 ) -> Result<(), AllocError> {
-    if word_at(text, 0) == "logged" {
+    if token_at(text, 0) == "logged" {
         put_logged(alloc, out, id, text)
     } else {
         put_fast(alloc, out, id, text)
     }
 }
 
-/// The transaction and the id that the first word of a pair names.
+/// The transaction and the id that the first token of a pair names.
 fn pair_in<'a>(cast: &'a [Role], pair: &str) -> Result<(&'a Role, [u8; 32]), Fail> {
-    let word = word_at(pair, 0);
-    let (transaction, named) = word.split_once('/').unwrap_or((word, word));
+    let token = token_at(pair, 0);
+    let (transaction, named) = token.split_once('/').unwrap_or((token, token));
     let role = role_named(cast, transaction)?;
     let other = role_named(cast, named)?;
     Ok((role, id_of(&other.bytes)))
@@ -216,16 +218,16 @@ fn pair_in<'a>(cast: &'a [Role], pair: &str) -> Result<(&'a Role, [u8; 32]), Fai
 fn put_committed(alloc: Global, out: &mut Vec<u8>, cast: &[Role], pair: &str) -> Result<(), Fail> {
     let (role, id) = pair_in(cast, pair)?;
     out.extend_from_slice(&role.bytes)?;
-    put_commit(alloc, out, &id, behind_word(pair))?;
+    put_commit(alloc, out, &id, behind_token(pair))?;
     Ok(())
 }
 
-/// The first replica of a word, which names one.
-fn first_sender(alloc: Global, word: &str) -> Result<Sender, Fail> {
-    let named = senders(alloc, word)?;
+/// The first replica of a token, which names one.
+fn first_sender(alloc: Global, token: &str) -> Result<Sender, Fail> {
+    let named = senders(alloc, token)?;
     match named.first() {
         Some(sender) => Ok(*sender),
-        None => Err(Fail::new("the word names no replica")),
+        None => Err(Fail::new("the token names no replica")),
     }
 }
 
@@ -237,13 +239,13 @@ fn put_conflict(
     id: &[u8; 32],
     text: &str,
 ) -> Result<(), Fail> {
-    let voter = first_sender(alloc, word_at(text, 1))?;
+    let voter = first_sender(alloc, token_at(text, 1))?;
     out.push(4)?;
     out.extend_from_slice(id)?;
     out.extend_from_slice(&[voter.shard, voter.index])?;
     let words = Words::vote(voter.shard, voter.index, id, Decision::Abort);
     put_signature(out, &voter, &words)?;
-    put_committed(alloc, out, cast, behind_word(behind_word(text)))
+    put_committed(alloc, out, cast, behind_token(behind_token(text)))
 }
 
 fn put_fast_abort(
@@ -254,7 +256,7 @@ fn put_fast_abort(
 ) -> Result<(), AllocError> {
     out.push(3)?;
     out.extend_from_slice(id)?;
-    put_votes(alloc, out, id, Decision::Abort, word_at(text, 1))
+    put_votes(alloc, out, id, Decision::Abort, token_at(text, 1))
 }
 
 // ---- frames
@@ -276,9 +278,9 @@ fn put_proof(
     Ok(())
 }
 
-/// What stands before and behind a word of a text.
-fn parted<'a>(text: &'a str, word: &str) -> (&'a str, Option<&'a str>) {
-    match text.split_once(word) {
+/// What stands before and behind a token of a text.
+fn parted<'a>(text: &'a str, token: &str) -> (&'a str, Option<&'a str>) {
+    match text.split_once(token) {
         Some((head, rest)) => (head, Some(rest)),
         None => (text, None),
     }
@@ -293,8 +295,8 @@ fn put_vote(
     sender: &Sender,
 ) -> Result<(), Fail> {
     let (head, proof) = parted(phrase, " by ");
-    let id = id_of(&role_named(cast, word_at(head, 2))?.bytes);
-    let decision = decision_in(word_at(head, 3));
+    let id = id_of(&role_named(cast, token_at(head, 2))?.bytes);
+    let decision = decision_in(token_at(head, 3));
     out.extend_from_slice(&[4, sender.shard, sender.index])?;
     out.extend_from_slice(&id)?;
     out.push(number_for(decision))?;
@@ -306,9 +308,9 @@ fn put_vote(
 
 /// `log 0:4 D commit 1 3`
 fn put_log(out: &mut Vec<u8>, cast: &[Role], phrase: &str, sender: &Sender) -> Result<(), Fail> {
-    let id = id_of(&role_named(cast, word_at(phrase, 2))?.bytes);
-    let decision = decision_in(word_at(phrase, 3));
-    let (decided, current) = (number_of(word_at(phrase, 4)), number_of(word_at(phrase, 5)));
+    let id = id_of(&role_named(cast, token_at(phrase, 2))?.bytes);
+    let decision = decision_in(token_at(phrase, 3));
+    let (decided, current) = (number_of(token_at(phrase, 4)), number_of(token_at(phrase, 5)));
     out.extend_from_slice(&[6, sender.shard, sender.index])?;
     out.extend_from_slice(&id)?;
     out.push(number_for(decision))?;
@@ -338,8 +340,8 @@ fn reply_words(
     committed: Version,
     prepared: Version,
 ) -> Result<Words, Fail> {
-    let key = word_at(head, 2).as_bytes();
-    let (time, client) = (number_of(word_at(head, 3)), byte_of(word_at(head, 4)));
+    let key = token_at(head, 2).as_bytes();
+    let (time, client) = (number_of(token_at(head, 3)), byte_of(token_at(head, 4)));
     if key.is_empty() || key.len() > 64 {
         return Err(Fail::new("a key is out of size"));
     }
@@ -358,8 +360,8 @@ fn reply_words(
 fn version_in(cast: &[Role], pair: Option<&str>) -> Result<Version, Fail> {
     match pair {
         Some(pair) => {
-            let word = word_at(pair, 0);
-            let (name, _) = word.split_once('/').unwrap_or((word, word));
+            let token = token_at(pair, 0);
+            let (name, _) = token.split_once('/').unwrap_or((token, token));
             version_named(cast, name)
         }
         None => Ok(Version::genesis()),
@@ -377,9 +379,9 @@ fn put_reply(
     let (rest, prepared) = parted(phrase, " prepared ");
     let (head, committed) = parted(rest, " committed ");
     out.extend_from_slice(&[2, sender.shard, sender.index])?;
-    put_text(out, word_at(head, 2))?;
-    out.extend_from_slice(&number_of(word_at(head, 3)).to_be_bytes())?;
-    out.push(byte_of(word_at(head, 4)))?;
+    put_text(out, token_at(head, 2))?;
+    out.extend_from_slice(&number_of(token_at(head, 3)).to_be_bytes())?;
+    out.push(byte_of(token_at(head, 4)))?;
     put_proof(alloc, out, cast, committed)?;
     put_prepared(out, cast, prepared)?;
     let first = version_in(cast, committed)?;
@@ -395,12 +397,12 @@ fn put_writeback(
     cast: &[Role],
     phrase: &str,
 ) -> Result<(), Fail> {
-    let pair = behind_word(phrase);
+    let pair = behind_token(phrase);
     let (role, id) = pair_in(cast, pair)?;
-    let text = behind_word(pair);
+    let text = behind_token(pair);
     out.push(7)?;
     out.extend_from_slice(&role.bytes)?;
-    match word_at(text, 0).as_bytes() {
+    match token_at(text, 0).as_bytes() {
         b"abort" => put_fast_abort(alloc, out, &id, text)?,
         b"conflict" => put_conflict(alloc, out, cast, &id, text)?,
         _ => put_commit(alloc, out, &id, text)?,
@@ -415,10 +417,11 @@ fn put_zeros(out: &mut Vec<u8>, count: u64) -> Result<(), AllocError> {
     Ok(())
 }
 
-/// The word that names who sends the frames of a phrase; of a writeback or of bytes, whose one frame names no sender, anybody.
+/// The token that names who sends the frames of a phrase; of a writeback or of bytes, whose one frame names no sender,
+/// anybody.
 fn sending(phrase: &str) -> &str {
-    match word_at(phrase, 0).as_bytes() {
-        b"vote" | b"log" | b"reply" => word_at(phrase, 1),
+    match token_at(phrase, 0).as_bytes() {
+        b"vote" | b"log" | b"reply" => token_at(phrase, 1),
         _ => "0:0",
     }
 }
@@ -441,14 +444,14 @@ pub(crate) fn put_frame(
     phrase: &str,
     sender: &Sender,
 ) -> Result<(), Fail> {
-    match word_at(phrase, 0).as_bytes() {
+    match token_at(phrase, 0).as_bytes() {
         b"vote" => put_vote(alloc, out, cast, phrase, sender),
         b"log" => put_log(out, cast, phrase, sender),
         b"reply" => put_reply(alloc, out, cast, phrase, sender),
         b"writeback" => put_writeback(alloc, out, cast, phrase),
-        b"zeros" => Ok(put_zeros(out, number_of(word_at(phrase, 1)))?),
+        b"zeros" => Ok(put_zeros(out, number_of(token_at(phrase, 1)))?),
         b"frame" => {
-            let bytes = hex::decode(alloc, word_at(phrase, 1))?;
+            let bytes = hex::decode(alloc, token_at(phrase, 1))?;
             out.extend_from_slice(&bytes)?;
             Ok(())
         }

@@ -3,8 +3,8 @@
 use crate::stages::{Scene, plays};
 use std::test::Fail;
 
-/// Client 1 in a cluster of two shards with f = 1: a, c and e are in shard 1, b and d in shard 0. B and E are logged in shard 0, C
-/// in shard 1.
+/// Client 1 in a cluster of two shards with f = 1: a, c and e are in shard 1, b and d in shard 0. B and E are logged in
+/// shard 0, C in shard 1.
 const TWO: Scene = Scene {
     f: 1,
     shards: 2,
@@ -86,8 +86,8 @@ fn a_recovered_transaction_is_pursued(rt: HostRuntime) -> Result<(), Fail> {
     plays(&rt, rt.alloc(), 1, RECOVERED)
 }
 
-/// The log replies that are held go to the log shard: of each replica the one with the greatest current view, the earliest
-/// among equals.
+/// The log replies that are held go to the log shard: of each replica the one with the greatest current view, the
+/// earliest among equals.
 const INVOKED: Scene = Scene {
     steps: &[
         ("recover C", "slot 0; recover C to 0:012345 1:012345"),

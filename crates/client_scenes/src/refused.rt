@@ -1,5 +1,5 @@
-//! What a client refuses of the frames that come, the first refusal of each. That nothing changes by it each scene tests by
-//! itself: what every slot tells, what was sent and signed, and, by the next signature, the pen.
+//! What a client refuses of the frames that come, the first refusal of each. That nothing changes by it each scene
+//! tests by itself: what every slot tells, what was sent and signed, and, by the next signature, the pen.
 
 use crate::stages::{Scene, plays};
 use std::test::Fail;
@@ -105,7 +105,8 @@ const OTHER_KINDS: Scene = Scene {
     ..ONE
 };
 
-/// Of two shards A is in shard 0 alone, B in both, and both are logged in shard 0; C, which is in both, is logged in shard 1.
+/// Of two shards A is in shard 0 alone, B in both, and both are logged in shard 0; C, which is in both, is logged in
+/// shard 1.
 const NOTHING_ASKED: Scene = Scene {
     cast: &["A 10 1 +b", "B 12 1 +a +b", "C 13 1 a=- b=-", "D 9 2 +b"],
     steps: &[
@@ -173,8 +174,8 @@ fn what_nobody_asked_for_is_not_mine(rt: HostRuntime) -> Result<(), Fail> {
     plays(&rt, rt.alloc(), 1, UNASKED)
 }
 
-/// F, L and S can't be read at time 40 by client 1: the first writes another key, the second comes later, as S does, of the same
-/// time by client 2. Z begins at time 0, N writes nothing.
+/// F, L and S can't be read at time 40 by client 1: the first writes another key, the second comes later, as S does, of
+/// the same time by client 2. Z begins at time 0, N writes nothing.
 const REPLIES: Scene = Scene {
     cast: &[
         "E 20 2 +a",
@@ -325,8 +326,8 @@ const UNPROVEN: Scene = Scene {
             "refused BadSignature",
         ),
         ("vote 0:x0 B abort by N/E fast 0:0", "refused BadSignature"),
-        // A vote's proof: a transaction of no good form, and then in their order the refusals of the certificate, of which
-        // that there is no conflict comes right before the signatures.
+        // A vote's proof: a transaction of no good form, and then in their order the refusals of the certificate, of
+        // which that there is no conflict comes right before the signatures.
         (
             "vote 0:0 B abort by Z fast 0:012345",
             "refused BadCertificate(NoConflict)",

@@ -3,7 +3,8 @@
 use crate::stages::{Scene, plays};
 use std::test::Fail;
 
-/// Client 1 in a cluster of one shard with f = 1: a commit is logged by four votes of each shard, an abort by two of one.
+/// Client 1 in a cluster of one shard with f = 1: a commit is logged by four votes of each shard, an abort by two of
+/// one.
 const ONE: Scene = Scene {
     f: 1,
     shards: 1,

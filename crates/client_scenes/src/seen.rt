@@ -1,7 +1,7 @@
 //! What a caller sees of a client: what its slots tell, and what it sent and signed.
 
 use crate::asking::slot_in;
-use crate::casts::{Role, name_with, word_at};
+use crate::casts::{Role, name_with, token_at};
 use crate::phrases::plain_signature;
 use crate::stages::Stage;
 use crate::telling::{leaf_of, name_of, push_bytes, tell_held};
@@ -106,8 +106,8 @@ impl Stage<'_> {
     /// The answer to a question; none where the phrase asks none.
     pub(crate) fn tell_question(&self, text: &mut String, phrase: &str) -> Result<bool, Fail> {
         let slot = slot_in(phrase);
-        match word_at(phrase, 0).as_bytes() {
-            b"value" => self.tell_value(text, slot, word_at(phrase, 2).as_bytes())?,
+        match token_at(phrase, 0).as_bytes() {
+            b"value" => self.tell_value(text, slot, token_at(phrase, 2).as_bytes())?,
             b"formed" => self.tell_formed(text, slot)?,
             b"held" => write!(text, "{}", self.guest.held(slot)?)?,
             b"outcome" => self.tell_outcome(text, slot)?,
@@ -181,7 +181,8 @@ impl Stage<'_> {
         Ok(text)
     }
 
-    /// All that a caller sees: the same, what all slots tell of the key that a call is about, and how much was sent and signed.
+    /// All that a caller sees: the same, what all slots tell of the key that a call is about, and how much was sent and
+    /// signed.
     pub(crate) fn all_told(&self, key: &[u8]) -> Result<String, Fail> {
         let mut text = String::new(self.alloc);
         self.mark_all(&mut text, key)?;

@@ -100,8 +100,8 @@ fn phrases_spell_frames(rt: HostRuntime) -> Result<(), Fail> {
     are_spelled(&rt, rt.alloc(), &cast, SPELLED)
 }
 
-/// Client 2 in a cluster of one shard with f = 1, or 0, that goes through these steps, and the frame that it sends last. The
-/// transactions that it recovers were signed with plain keys.
+/// Client 2 in a cluster of one shard with f = 1, or 0, that goes through these steps, and the frame that it sends
+/// last. The transactions that it recovers were signed with plain keys.
 const ONE: Scene = Scene {
     f: 1,
     shards: 1,

@@ -1,10 +1,10 @@
 //! Scenes: what one client is asked and what comes to it, and what it answers and sends.
 //!
-//! Calls are `begin 10`, `read 0 a`, `write 0 a x1`, `delete 0 a`, `prepare 0`, `settle 0`, `recover D`, `invoke 0`, each on a slot or
-//! of a transaction; `a*65` spells 65 letters a. `value 0 a`, `formed 0`, `held 0` and `outcome 0` ask what a slot tells, `signed`
-//! which transactions the client signed. `reads 0 32` reads the keys r0 to r31, `writes 0 32` writes w0 to w31. `drop` before
-//! what is asked has it planned and given up. All else are frames. The answer to a call or to frames is what is sent, and `same`
-//! where nothing is sent and no slot tells anything new.
+//! Calls are `begin 10`, `read 0 a`, `write 0 a x1`, `delete 0 a`, `prepare 0`, `settle 0`, `recover D`, `invoke 0`,
+//! each on a slot or of a transaction; `a*65` spells 65 letters a. `value 0 a`, `formed 0`, `held 0` and `outcome 0`
+//! ask what a slot tells, `signed` which transactions the client signed. `reads 0 32` reads the keys r0 to r31, `writes
+//! 0 32` writes w0 to w31. `drop` before what is asked has it planned and given up. All else are frames. The answer to
+//! a call or to frames is what is sent, and `same` where nothing is sent and no slot tells anything new.
 
 ghost use Rattle.std.specs.Prelude.{◌≡◌};
 ghost use Rattle.lms_sign.specs.declared.sets.LmsSet.TheVariants as LmsSet;
@@ -24,8 +24,8 @@ use std::mem::replace;
 use std::process::Abort;
 use std::test::Fail;
 
-/// A scene: the cluster's f, shards and reads, the first leaf of the client's key that is left, the transactions, and what is
-/// asked and comes, each with what is answered. The replicas sign with plain keys.
+/// A scene: the cluster's f, shards and reads, the first leaf of the client's key that is left, the transactions, and
+/// what is asked and comes, each with what is answered. The replicas sign with plain keys.
 #[derive(Clone, Copy)]
 pub(crate) struct Scene {
     pub(crate) f: u8,
@@ -183,8 +183,8 @@ fn end_all(
     Ok(())
 }
 
-/// Plays scenes of the client with this number, who goes through each as its row says, and whether the last frame has these
-/// bytes.
+/// Plays scenes of the client with this number, who goes through each as its row says, and whether the last frame has
+/// these bytes.
 pub(crate) fn ends_in(
     rt: &impl Abort,
     alloc: Global,

@@ -1,8 +1,9 @@
 //! What a client sent, as a text that is spelled as phrases are.
 //!
-//! `st1 D #3 to 0:012345 1:012345` is a first stage that leaf 3 of the client's key signed, in a frame to each of twelve replicas.
-//! `st2 D commit 0:0123` has the votes of four replicas. `invoke D 0 1c0/2 4a1/1` says of shard 0 that replica 1 logged commit in
-//! view 0, with view 2 current, and replica 4 abort in view 1.
+//! `st1 D #3 to 0:012345 1:012345` is a first stage that leaf 3 of the client's key signed, in a frame to each of
+//! twelve replicas.
+//! `st2 D commit 0:0123` has the votes of four replicas. `invoke D 0 1c0/2 4a1/1` says of shard 0 that replica 1 logged
+//! commit in view 0, with view 2 current, and replica 4 abort in view 1.
 
 ghost use Rattle.frame_views.specs.Fitting.{IsSpoken};
 ghost use Rattle.frame_views.specs.Shown.{message_of};

@@ -1,14 +1,15 @@
-//! Certificates that prove nothing, of transactions in two shards, as they come in votes, writebacks and read replies; and votes
-//! and log replies whose signatures aren't accepted, which fill no tally.
+//! Certificates that prove nothing, of transactions in two shards, as they come in votes, writebacks and read replies;
+//! and votes and log replies whose signatures aren't accepted, which fill no tally.
 
 use crate::stages::{Scene, plays};
 use std::test::Fail;
 
-/// Client 1 in a cluster of two shards with f = 1: a, c and e are in shard 1, b and d in shard 0. B and C wrote a and b.
+/// Client 1 in a cluster of two shards with f = 1: a, c and e are in shard 1, b and d in shard 0. B and C wrote a and
+/// b.
 ///
-/// D read both as genesis has them, and so conflicts with B and C; it is logged in shard 1. E read b alone so, and J a alone. None
-/// of F, H and I conflicts with B: F only writes, H read what B wrote, and I comes before B. G read a version above its own, Z
-/// begins at time 0, N neither reads nor writes.
+/// D read both as genesis has them, and so conflicts with B and C; it is logged in shard 1. E read b alone so, and J a
+/// alone. None of F, H and I conflicts with B: F only writes, H read what B wrote, and I comes before B. G read a
+/// version above its own, Z begins at time 0, N neither reads nor writes.
 const TWO: Scene = Scene {
     f: 1,
     shards: 2,
@@ -30,7 +31,8 @@ const TWO: Scene = Scene {
     steps: &[],
 };
 
-/// A vote whose proof has a signature that isn't accepted, in its first tally or in its second, or too few votes in one.
+/// A vote whose proof has a signature that isn't accepted, in its first tally or in its second, or too few votes in
+/// one.
 const SPOILED_PROOFS: Scene = Scene {
     steps: &[
         ("begin 20", "slot 0"),
@@ -125,8 +127,8 @@ const SPOILED_PROOFS: Scene = Scene {
     ..TWO
 };
 
-/// A vote whose proof is of a transaction without a good form, or of one that doesn't conflict, with a certificate that is good
-/// otherwise and with one that isn't.
+/// A vote whose proof is of a transaction without a good form, or of one that doesn't conflict, with a certificate that
+/// is good otherwise and with one that isn't.
 const PROOFS_OF_OTHERS: Scene = Scene {
     steps: &[
         ("begin 20", "slot 0"),
@@ -308,8 +310,8 @@ fn what_is_badly_signed_fills_no_tally(rt: HostRuntime) -> Result<(), Fail> {
     plays(&rt, rt.alloc(), 1, VOTES)
 }
 
-/// E and L wrote a, in shard 1, and b, in shard 0; E is logged in shard 0, L in shard 1. G wrote a and read a version above its
-/// own, Z begins at time 0, N neither reads nor writes.
+/// E and L wrote a, in shard 1, and b, in shard 0; E is logged in shard 0, L in shard 1. G wrote a and read a version
+/// above its own, Z begins at time 0, N neither reads nor writes.
 const CARRIED: Scene = Scene {
     cast: &[
         "E 20 2 +a +b",
@@ -384,7 +386,8 @@ const CARRIED: Scene = Scene {
             "reply 1:0 a 40 1 committed E fast 0:012345 1:012345 prepared G",
             "refused BadVersion",
         ),
-        // None was the replica's first reply. Nothing is tested against other transactions: E and L may both be committed.
+        // None was the replica's first reply. Nothing is tested against other transactions: E and L may both be
+        // committed.
         ("value 0 a", "pending"),
         (
             "reply 1:0 a 40 1 committed E fast 0:012345 1:012345",

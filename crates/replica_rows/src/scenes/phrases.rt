@@ -7,10 +7,10 @@
 //! and `.. conflict 0:3 E fast 0:012345`, with the vote of replica 3 of shard 0 and the fast commit of E.
 //! `c3 invoke D 0:1 1:2a` carries a log reply of replica 0 to commit with view 1 current, and one of replica 1 to abort
 //! with view 2 current. `r2 elect D abort 1` is replica 2's word for view 1, and `r5 decide D commit 1 0c 1c 3a`
-//! replica 5's proposal in view 1 with the words of three replicas. A word `x` behind the rest spoils the frame's own
-//! signature, an x inside of a word that which the word names; `@1` says shard 1 in the place of the replica's own.
+//! replica 5's proposal in view 1 with the words of three replicas. A token `x` behind the rest spoils the frame's own
+//! signature, an x inside of a token that which the token names; `@1` says shard 1 in the place of the replica's own.
 
-use crate::scenes::casts::{Role, byte_of, initial, number_of, put_text, role_named, word_at};
+use crate::scenes::casts::{Role, byte_of, initial, number_of, put_text, role_named, token_at};
 use basil_types::bytes::id_of;
 use basil_types::party::{Decision, Party};
 use basil_types::words::Words;
@@ -19,8 +19,8 @@ use keyring::signer::Signer;
 use std::alloc::AllocError;
 use std::test::Fail;
 
-/// More words than a phrase has.
-const WORDS: usize = 20;
+/// More tokens than a phrase has.
+const TOKENS: usize = 20;
 
 /// A phrase, the transactions that it may name, and the replica's shard.
 #[derive(Clone, Copy)]
@@ -31,38 +31,38 @@ pub(crate) struct Line<'a> {
 }
 
 impl<'a> Line<'a> {
-    fn word(&self, place: usize) -> &'a str {
-        word_at(self.phrase, place)
+    fn token(&self, place: usize) -> &'a str {
+        token_at(self.phrase, place)
     }
 
-    /// The transaction that the word at a place names.
+    /// The transaction that the token at a place names.
     fn role(&self, place: usize) -> Result<&'a Role, Fail> {
-        role_named(self.cast, self.word(place))
+        role_named(self.cast, self.token(place))
     }
 
     fn decision(&self, place: usize) -> Decision {
-        decision_in(self.word(place))
+        decision_in(self.token(place))
     }
 
     /// Who sends it.
     pub(crate) fn sender(&self) -> Party {
-        let word = self.word(0);
-        if initial(word) == b'c' {
+        let token = self.token(0);
+        if initial(token) == b'c' {
             Party::Client {
-                number: byte_of(word),
+                number: byte_of(token),
             }
         } else {
             Party::Replica {
                 shard: self.shard,
-                index: byte_of(word),
+                index: byte_of(token),
             }
         }
     }
 
     /// Whether the frame's own signature is spoiled.
     fn is_spoiled(&self) -> bool {
-        for word in self.phrase.split(' ') {
-            if word == "x" {
+        for token in self.phrase.split(' ') {
+            if token == "x" {
                 return true;
             }
         }
@@ -71,18 +71,18 @@ impl<'a> Line<'a> {
 
     /// The shard that the frame names.
     fn named_shard(&self) -> u8 {
-        for word in self.phrase.split(' ') {
-            if initial(word) == b'@' {
-                return byte_of(word);
+        for token in self.phrase.split(' ') {
+            if initial(token) == b'@' {
+                return byte_of(token);
             }
         }
         self.shard
     }
 }
 
-/// Abort where the word has an a, and else commit.
-fn decision_in(word: &str) -> Decision {
-    if word.contains('a') {
+/// Abort where the token has an a, and else commit.
+fn decision_in(token: &str) -> Decision {
+    if token.contains('a') {
         Decision::Abort
     } else {
         Decision::Commit
@@ -96,9 +96,9 @@ fn number_for(decision: Decision) -> u8 {
     }
 }
 
-/// What stands before and behind the colon of a word.
-fn halves(word: &str) -> (&str, &str) {
-    word.split_once(':').unwrap_or((word, ""))
+/// What stands before and behind the colon of a token.
+fn halves(token: &str) -> (&str, &str) {
+    token.split_once(':').unwrap_or((token, ""))
 }
 
 /// A plain signature of words, behind its length.
@@ -142,14 +142,14 @@ fn count_digits(text: &str) -> u8 {
     count
 }
 
-/// The shard of a word like `0:0123`, and votes of these replicas behind their number. An x spoils that of the next.
+/// The shard of a token like `0:0123`, and votes of these replicas behind their number. An x spoils that of the next.
 fn put_votes(
     out: &mut Vec<u8>,
     id: &[u8; 32],
     decision: Decision,
-    word: &str,
+    token: &str,
 ) -> Result<(), AllocError> {
-    let (shard, replicas) = halves(word);
+    let (shard, replicas) = halves(token);
     let shard = byte_of(shard);
     out.extend_from_slice(&[shard, count_digits(replicas)])?;
     let mut spoiled = false;
@@ -167,18 +167,18 @@ fn put_votes(
     Ok(())
 }
 
-/// How many words from a place on have a colon.
+/// How many tokens from a place on have a colon.
 fn count_pairs(line: &Line<'_>, from: usize) -> u8 {
     let mut count = 0u8;
-    for place in from..WORDS {
-        if line.word(place).contains(':') {
+    for place in from..TOKENS {
+        if line.token(place).contains(':') {
             count = count.saturating_add(1);
         }
     }
     count
 }
 
-/// The tallies of the words from a place on.
+/// The tallies of the tokens from a place on.
 fn put_tallies(
     out: &mut Vec<u8>,
     line: &Line<'_>,
@@ -187,10 +187,10 @@ fn put_tallies(
     from: usize,
 ) -> Result<(), AllocError> {
     out.push(count_pairs(line, from))?;
-    for place in from..WORDS {
-        let word = line.word(place);
-        if word.contains(':') {
-            put_votes(out, id, decision, word)?;
+    for place in from..TOKENS {
+        let token = line.token(place);
+        if token.contains(':') {
+            put_votes(out, id, decision, token)?;
         }
     }
     Ok(())
@@ -198,9 +198,9 @@ fn put_tallies(
 
 fn put_read(out: &mut Vec<u8>, line: &Line<'_>) -> Result<(), AllocError> {
     out.push(1)?;
-    put_text(out, line.word(2))?;
-    out.extend_from_slice(&number_of(line.word(3)).to_be_bytes())?;
-    out.push(byte_of(line.word(4)))?;
+    put_text(out, line.token(2))?;
+    out.extend_from_slice(&number_of(line.token(3)).to_be_bytes())?;
+    out.push(byte_of(line.token(4)))?;
     Ok(())
 }
 
@@ -211,7 +211,7 @@ fn put_second(out: &mut Vec<u8>, line: &Line<'_>, role: &Role) -> Result<(), All
     put_tallies(out, line, &id_of(&role.bytes), decision, 4)
 }
 
-/// A fast commit with the tallies of the words from a place on.
+/// A fast commit with the tallies of the tokens from a place on.
 fn put_fast(
     out: &mut Vec<u8>,
     line: &Line<'_>,
@@ -223,15 +223,15 @@ fn put_fast(
     put_tallies(out, line, id, Decision::Commit, from)
 }
 
-/// The replicas of a word, each with its log reply, in the view in which it was decided.
+/// The replicas of a token, each with its log reply, in the view in which it was decided.
 fn put_logs(
     out: &mut Vec<u8>,
     id: &[u8; 32],
     decision: Decision,
     view: u64,
-    word: &str,
+    token: &str,
 ) -> Result<(), AllocError> {
-    let (shard, replicas) = halves(word);
+    let (shard, replicas) = halves(token);
     let shard = byte_of(shard);
     out.push(count_digits(replicas))?;
     for byte in replicas.as_bytes() {
@@ -246,19 +246,19 @@ fn put_logs(
 
 fn put_logged(out: &mut Vec<u8>, line: &Line<'_>, id: &[u8; 32]) -> Result<(), AllocError> {
     let decision = line.decision(4);
-    let view = number_of(line.word(5));
-    let word = line.word(6);
+    let view = number_of(line.token(5));
+    let token = line.token(6);
     out.push(2)?;
     out.extend_from_slice(id)?;
-    out.extend_from_slice(&[byte_of(halves(word).0), number_for(decision)])?;
+    out.extend_from_slice(&[byte_of(halves(token).0), number_for(decision)])?;
     out.extend_from_slice(&view.to_be_bytes())?;
-    put_logs(out, id, decision, view, word)
+    put_logs(out, id, decision, view, token)
 }
 
 fn put_fast_abort(out: &mut Vec<u8>, line: &Line<'_>, id: &[u8; 32]) -> Result<(), AllocError> {
     out.push(3)?;
     out.extend_from_slice(id)?;
-    put_votes(out, id, Decision::Abort, line.word(4))
+    put_votes(out, id, Decision::Abort, line.token(4))
 }
 
 fn put_conflict(
@@ -267,7 +267,7 @@ fn put_conflict(
     id: &[u8; 32],
     rival: &Role,
 ) -> Result<(), AllocError> {
-    let (shard, index) = halves(line.word(4));
+    let (shard, index) = halves(line.token(4));
     let shard = byte_of(shard);
     let index = byte_of(index);
     out.push(4)?;
@@ -280,7 +280,7 @@ fn put_conflict(
 }
 
 fn put_certificate(out: &mut Vec<u8>, line: &Line<'_>, id: &[u8; 32]) -> Result<(), Fail> {
-    match line.word(3).as_bytes() {
+    match line.token(3).as_bytes() {
         b"fast" => Ok(put_fast(out, line, id, 4)?),
         b"logged" => Ok(put_logged(out, line, id)?),
         b"abort" => Ok(put_fast_abort(out, line, id)?),
@@ -299,9 +299,9 @@ fn put_writeback(out: &mut Vec<u8>, line: &Line<'_>, role: &Role) -> Result<(), 
     put_certificate(out, line, &id_of(&role.bytes))
 }
 
-/// The log reply that a word like `0:1a` tells, which was decided in view 0.
-fn put_report(out: &mut Vec<u8>, id: &[u8; 32], shard: u8, word: &str) -> Result<(), AllocError> {
-    let (replica, view) = halves(word);
+/// The log reply that a token like `0:1a` tells, which was decided in view 0.
+fn put_report(out: &mut Vec<u8>, id: &[u8; 32], shard: u8, token: &str) -> Result<(), AllocError> {
+    let (replica, view) = halves(token);
     let index = byte_of(replica);
     let current = number_of(view);
     let decision = decision_in(view);
@@ -320,10 +320,10 @@ fn put_report(out: &mut Vec<u8>, id: &[u8; 32], shard: u8, word: &str) -> Result
 fn put_reports(out: &mut Vec<u8>, line: &Line<'_>, id: &[u8; 32]) -> Result<(), AllocError> {
     let shard = line.named_shard();
     out.extend_from_slice(&[shard, count_pairs(line, 3)])?;
-    for place in 3..WORDS {
-        let word = line.word(place);
-        if word.contains(':') {
-            put_report(out, id, shard, word)?;
+    for place in 3..TOKENS {
+        let token = line.token(place);
+        if token.contains(':') {
+            put_report(out, id, shard, token)?;
         }
     }
     Ok(())
@@ -339,16 +339,16 @@ fn put_invoke(out: &mut Vec<u8>, line: &Line<'_>, id: &[u8; 32]) -> Result<(), A
 fn put_view(out: &mut Vec<u8>, line: &Line<'_>, role: &Role, kind: u8) -> Result<(), AllocError> {
     out.push(kind)?;
     out.extend_from_slice(&role.bytes)?;
-    out.extend_from_slice(&[line.named_shard(), byte_of(line.word(0))])?;
+    out.extend_from_slice(&[line.named_shard(), byte_of(line.token(0))])?;
     out.push(number_for(line.decision(3)))?;
-    out.extend_from_slice(&number_of(line.word(4)).to_be_bytes())
+    out.extend_from_slice(&number_of(line.token(4)).to_be_bytes())
 }
 
 fn put_elect(out: &mut Vec<u8>, line: &Line<'_>, role: &Role) -> Result<(), AllocError> {
     put_view(out, line, role, 10)?;
     let id = id_of(&role.bytes);
-    let (shard, index) = (line.named_shard(), byte_of(line.word(0)));
-    let words = Words::election(shard, index, &id, line.decision(3), number_of(line.word(4)));
+    let (shard, index) = (line.named_shard(), byte_of(line.token(0)));
+    let words = Words::election(shard, index, &id, line.decision(3), number_of(line.token(4)));
     put_signature(
         out,
         Party::Replica { shard, index },
@@ -357,30 +357,30 @@ fn put_elect(out: &mut Vec<u8>, line: &Line<'_>, role: &Role) -> Result<(), Allo
     )
 }
 
-/// The election word that a word like `3a` tells.
+/// The election word that a token like `3a` tells.
 fn put_word(
     out: &mut Vec<u8>,
     id: &[u8; 32],
     shard: u8,
     view: u64,
-    word: &str,
+    token: &str,
 ) -> Result<(), AllocError> {
-    let index = byte_of(word);
-    let decision = decision_in(word);
+    let index = byte_of(token);
+    let decision = decision_in(token);
     out.extend_from_slice(&[index, number_for(decision)])?;
     let words = Words::election(shard, index, id, decision, view);
     put_signature(
         out,
         Party::Replica { shard, index },
         &words,
-        word.contains('x'),
+        token.contains('x'),
     )
 }
 
 fn count_words(line: &Line<'_>) -> u8 {
     let mut count = 0u8;
-    for place in 5..WORDS {
-        if initial(line.word(place)).is_ascii_digit() {
+    for place in 5..TOKENS {
+        if initial(line.token(place)).is_ascii_digit() {
             count = count.saturating_add(1);
         }
     }
@@ -389,10 +389,10 @@ fn count_words(line: &Line<'_>) -> u8 {
 
 fn put_words(out: &mut Vec<u8>, line: &Line<'_>, id: &[u8; 32]) -> Result<(), AllocError> {
     out.push(count_words(line))?;
-    for place in 5..WORDS {
-        let word = line.word(place);
-        if initial(word).is_ascii_digit() {
-            put_word(out, id, line.named_shard(), number_of(line.word(4)), word)?;
+    for place in 5..TOKENS {
+        let token = line.token(place);
+        if initial(token).is_ascii_digit() {
+            put_word(out, id, line.named_shard(), number_of(line.token(4)), token)?;
         }
     }
     Ok(())
@@ -402,8 +402,8 @@ fn put_decide(out: &mut Vec<u8>, line: &Line<'_>, role: &Role) -> Result<(), All
     put_view(out, line, role, 11)?;
     let id = id_of(&role.bytes);
     put_words(out, line, &id)?;
-    let (shard, index) = (line.named_shard(), byte_of(line.word(0)));
-    let words = Words::proposal(shard, index, &id, line.decision(3), number_of(line.word(4)));
+    let (shard, index) = (line.named_shard(), byte_of(line.token(0)));
+    let words = Words::proposal(shard, index, &id, line.decision(3), number_of(line.token(4)));
     put_signature(
         out,
         Party::Replica { shard, index },
@@ -414,44 +414,44 @@ fn put_decide(out: &mut Vec<u8>, line: &Line<'_>, role: &Role) -> Result<(), All
 
 /// `r1 vote A commit`: a vote of replica 1 that nobody signed.
 fn put_vote(out: &mut Vec<u8>, line: &Line<'_>, id: &[u8; 32]) -> Result<(), AllocError> {
-    out.extend_from_slice(&[4, line.shard, byte_of(line.word(0))])?;
+    out.extend_from_slice(&[4, line.shard, byte_of(line.token(0))])?;
     out.extend_from_slice(id)?;
     out.extend_from_slice(&[number_for(line.decision(3)), 0, 0, 1, 7])
 }
 
 /// `r1 log A commit 0 0`: a log reply of replica 1 that nobody signed.
 fn put_log(out: &mut Vec<u8>, line: &Line<'_>, id: &[u8; 32]) -> Result<(), AllocError> {
-    out.extend_from_slice(&[6, line.shard, byte_of(line.word(0))])?;
+    out.extend_from_slice(&[6, line.shard, byte_of(line.token(0))])?;
     out.extend_from_slice(id)?;
     out.push(number_for(line.decision(3)))?;
-    out.extend_from_slice(&number_of(line.word(4)).to_be_bytes())?;
-    out.extend_from_slice(&number_of(line.word(5)).to_be_bytes())?;
+    out.extend_from_slice(&number_of(line.token(4)).to_be_bytes())?;
+    out.extend_from_slice(&number_of(line.token(5)).to_be_bytes())?;
     out.extend_from_slice(&[0, 1, 7])
 }
 
 /// `r1 reply a 40 3`: a read reply of replica 1 with nothing found, that nobody signed.
 fn put_reply(out: &mut Vec<u8>, line: &Line<'_>) -> Result<(), AllocError> {
-    out.extend_from_slice(&[2, line.shard, byte_of(line.word(0))])?;
-    put_text(out, line.word(2))?;
-    out.extend_from_slice(&number_of(line.word(3)).to_be_bytes())?;
-    out.extend_from_slice(&[byte_of(line.word(4)), 0, 0, 0, 1, 7])
+    out.extend_from_slice(&[2, line.shard, byte_of(line.token(0))])?;
+    put_text(out, line.token(2))?;
+    out.extend_from_slice(&number_of(line.token(3)).to_be_bytes())?;
+    out.extend_from_slice(&[byte_of(line.token(4)), 0, 0, 0, 1, 7])
 }
 
 /// `c1 bytes 12 0`: these bytes.
 fn put_bytes(out: &mut Vec<u8>, line: &Line<'_>) -> Result<(), AllocError> {
-    for place in 2..WORDS {
-        let word = line.word(place);
-        if !word.is_empty() {
-            out.push(byte_of(word))?;
+    for place in 2..TOKENS {
+        let token = line.token(place);
+        if !token.is_empty() {
+            out.push(byte_of(token))?;
         }
     }
     Ok(())
 }
 
-/// The frame of a phrase whose third word names a transaction.
+/// The frame of a phrase whose third token names a transaction.
 fn put_frame_of(out: &mut Vec<u8>, line: &Line<'_>, role: &Role) -> Result<(), Fail> {
     let id = id_of(&role.bytes);
-    match line.word(1).as_bytes() {
+    match line.token(1).as_bytes() {
         b"st1" => Ok(put_first(out, line, role, 3)?),
         b"recover" => Ok(put_first(out, line, role, 8)?),
         b"st2" => Ok(put_second(out, line, role)?),
@@ -467,7 +467,7 @@ fn put_frame_of(out: &mut Vec<u8>, line: &Line<'_>, role: &Role) -> Result<(), F
 
 /// The frame of a phrase.
 pub(crate) fn put_frame(out: &mut Vec<u8>, line: &Line<'_>) -> Result<(), Fail> {
-    match line.word(1).as_bytes() {
+    match line.token(1).as_bytes() {
         b"read" => Ok(put_read(out, line)?),
         b"reply" => Ok(put_reply(out, line)?),
         b"bytes" => Ok(put_bytes(out, line)?),

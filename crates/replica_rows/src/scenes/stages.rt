@@ -1,6 +1,6 @@
 //! Scenes: what comes to one replica, and what it answers.
 
-use crate::scenes::casts::{Role, cast_of, find, word_at};
+use crate::scenes::casts::{Role, cast_of, find, token_at};
 use crate::scenes::phrases::{Line, put_frame};
 use crate::scenes::telling::{Reader, leaf_of, name_of, tell};
 use basil_types::bytes::id_of;
@@ -139,7 +139,7 @@ impl Stage {
 
     /// What is logged of the transaction that a phrase names.
     fn cell(&self, phrase: &str) -> Option<LogCell> {
-        let role = find(&self.cast, word_at(phrase, 2))?;
+        let role = find(&self.cast, token_at(phrase, 2))?;
         self.replica.cell(&id_of(&role.bytes))
     }
 
@@ -280,7 +280,7 @@ impl Stage {
         way: Way,
         phrase: &str,
     ) -> Result<(), Fail> {
-        match word_at(phrase, 1).as_bytes() {
+        match token_at(phrase, 1).as_bytes() {
             b"cell" => Ok(self.tell_cell(text, phrase)?),
             b"table" => Ok(write!(text, "{}", self.replica.table().len())?),
             _ => self.hand_phrase(alloc, text, way, phrase),
