@@ -69,8 +69,8 @@ fn is_chosen(cluster: &Cluster, row: &Row) -> bool {
 #[test]
 fn the_greatest_that_counts_is_chosen(rt: HostRuntime) -> Result<(), Fail> {
     let cluster = Cluster::new(1, 1, 2, 100)?;
-    for row in CHOSEN {
-        assert!(rt; is_chosen(&cluster, row));
+    for (place, row) in CHOSEN.iter().enumerate() {
+        assert!(rt; is_chosen(&cluster, row), "row {place}");
     }
     assert!(rt; choose(&cluster, &[]).version == NONE);
     Ok(())

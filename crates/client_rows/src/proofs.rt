@@ -92,8 +92,8 @@ fn are_few(alloc: Global) -> Result<bool, Fail> {
 
 #[test]
 fn a_proof_shows_a_committed_rival(rt: HostRuntime) -> Result<(), Fail> {
-    for row in ROWS {
-        assert!(rt; is_row_answered(rt.alloc(), row)?);
+    for (place, row) in ROWS.iter().enumerate() {
+        assert!(rt; is_row_answered(rt.alloc(), row)?, "row {place}");
     }
     assert!(rt; are_few(rt.alloc())?);
     Ok(())

@@ -64,8 +64,8 @@ fn is_told(alloc: Global, row: &Told) -> Result<bool, Fail> {
 
 #[test]
 fn certificates_of_another_program_stand(rt: HostRuntime) -> Result<(), Fail> {
-    for row in TOLD {
-        assert!(rt; is_told(rt.alloc(), row)?);
+    for (place, row) in TOLD.iter().enumerate() {
+        assert!(rt; is_told(rt.alloc(), row)?, "row {place}");
     }
     Ok(())
 }
@@ -106,8 +106,8 @@ fn is_commit_judged(alloc: Global, row: &Commit) -> Result<bool, Fail> {
 
 #[test]
 fn each_involved_shard_votes(rt: HostRuntime) -> Result<(), Fail> {
-    for row in COMMITS {
-        assert!(rt; is_commit_judged(rt.alloc(), row)?);
+    for (place, row) in COMMITS.iter().enumerate() {
+        assert!(rt; is_commit_judged(rt.alloc(), row)?, "row {place}");
     }
     Ok(())
 }
@@ -135,7 +135,7 @@ fn is_abort_judged(alloc: Global, count: u8, abort: Answer) -> Result<bool, Fail
 #[test]
 fn votes_to_abort_are_counted(rt: HostRuntime) -> Result<(), Fail> {
     for &(count, abort) in ABORTS {
-        assert!(rt; is_abort_judged(rt.alloc(), count, abort)?);
+        assert!(rt; is_abort_judged(rt.alloc(), count, abort)?, "{count} votes");
     }
     Ok(())
 }
@@ -189,8 +189,8 @@ fn is_spoiled(alloc: Global, row: &Spoiled) -> Result<bool, Fail> {
 
 #[test]
 fn places_count_through_the_pair_inside(rt: HostRuntime) -> Result<(), Fail> {
-    for row in SPOILED {
-        assert!(rt; is_spoiled(rt.alloc(), row)?);
+    for (place, row) in SPOILED.iter().enumerate() {
+        assert!(rt; is_spoiled(rt.alloc(), row)?, "row {place}");
     }
     Ok(())
 }
@@ -227,7 +227,7 @@ fn is_last_asked(alloc: Global, bits: u8, commit: Answer) -> Result<bool, Fail> 
 #[test]
 fn of_168_signatures_each_is_asked(rt: HostRuntime) -> Result<(), Fail> {
     for &(bits, commit) in LAST {
-        assert!(rt; is_last_asked(rt.alloc(), bits, commit)?);
+        assert!(rt; is_last_asked(rt.alloc(), bits, commit)?, "{bits} bits");
     }
     Ok(())
 }

@@ -71,8 +71,8 @@ fn is_answered(alloc: Global, row: &Row) -> Result<bool, Fail> {
 
 /// Each row's answer is given.
 fn are_answered(rt: &impl Abort, alloc: Global, rows: &[Row]) -> Result<(), Fail> {
-    for row in rows {
-        assert!(rt; is_answered(alloc, row)?);
+    for (place, row) in rows.iter().enumerate() {
+        assert!(rt; is_answered(alloc, row)?, "row {place}");
     }
     Ok(())
 }
@@ -166,8 +166,8 @@ const NO_VOTE: Row = (UNPROVEN, ONE_SHARD, READ, FEW);
 
 #[test]
 fn signatures_and_certificates_are_tested(rt: HostRuntime) -> Result<(), Fail> {
-    for row in SPOILED {
-        assert!(rt; is_spoiled(rt.alloc(), row)?);
+    for (place, row) in SPOILED.iter().enumerate() {
+        assert!(rt; is_spoiled(rt.alloc(), row)?, "row {place}");
     }
     assert!(rt; is_answered(rt.alloc(), &NO_VOTE)?);
     Ok(())

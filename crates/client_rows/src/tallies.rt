@@ -56,8 +56,8 @@ fn is_weighed(alloc: Global, row: &Row) -> Result<bool, Fail> {
 
 #[test]
 fn tallies_of_another_program_are_weighed(rt: HostRuntime) -> Result<(), Fail> {
-    for row in WEIGHED {
-        assert!(rt; is_weighed(rt.alloc(), row)?);
+    for (place, row) in WEIGHED.iter().enumerate() {
+        assert!(rt; is_weighed(rt.alloc(), row)?, "row {place}");
     }
     Ok(())
 }
