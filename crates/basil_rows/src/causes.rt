@@ -46,125 +46,336 @@ const OUTSIDE: &[&str] = &[
 
 /// Reason 4: a name that isn't begun, is begun twice, or isn't formed where it must be.
 const UNNAMED: &[&str] = &[
-    "a name is begun twice: begin t1 1 10; begin t1 2 20",
+    "a name is begun twice: \
+        begin t1 1 10; \
+        begin t1 2 20",
     "a read in nothing begun: read t1 a",
     "a write in nothing begun: write t1 a x",
     "a deletion in nothing begun: delete t1 a",
     "a claim in nothing begun: claim t1 a -",
     "nothing begun is formed: prepare t1",
     "nothing begun is settled: settle t1 1",
-    "nothing formed is settled: begin t1 1 10; settle t1 1",
-    "nothing formed is taken up: begin t1 1 10; recover t1 1",
-    "nothing formed has an election: begin t1 1 10; invoke t1 1",
-    "a vote on nothing formed: faulty replica 0 0; begin t1 1 10; vote 0 0 t1 commit 1",
-    "a second stage of nothing formed: faulty client 1; begin t1 1 10; second t1 commit 0",
-    "a log reply on nothing formed: faulty replica 0 0; begin t1 1 10; logged 0 0 t1 commit 0 0 1",
-    "an election word on nothing formed: faulty replica 0 0; begin t1 1 10; elect 0 0 t1 commit 1",
-    "a decide on nothing formed: faulty replica 0 0; begin t1 1 10; decide 0 0 t1 commit 1 0",
-    "a claim's writer isn't begun: faulty client 1; begin t1 1 10; claim t1 a t2",
-    "a claim's writer isn't formed: faulty client 1; begin t1 1 10; claim t1 a t1",
-    "this is tested before reason 6, as the client is faulty too: faulty client 1; begin t1 2 10; settle t1 1",
+    "nothing formed is settled: \
+        begin t1 1 10; \
+        settle t1 1",
+    "nothing formed is taken up: \
+        begin t1 1 10; \
+        recover t1 1",
+    "nothing formed has an election: \
+        begin t1 1 10; \
+        invoke t1 1",
+    "a vote on nothing formed: \
+        faulty replica 0 0; \
+        begin t1 1 10; \
+        vote 0 0 t1 commit 1",
+    "a second stage of nothing formed: \
+        faulty client 1; \
+        begin t1 1 10; \
+        second t1 commit 0",
+    "a log reply on nothing formed: \
+        faulty replica 0 0; \
+        begin t1 1 10; \
+        logged 0 0 t1 commit 0 0 1",
+    "an election word on nothing formed: \
+        faulty replica 0 0; \
+        begin t1 1 10; \
+        elect 0 0 t1 commit 1",
+    "a decide on nothing formed: \
+        faulty replica 0 0; \
+        begin t1 1 10; \
+        decide 0 0 t1 commit 1 0",
+    "a claim's writer isn't begun: \
+        faulty client 1; \
+        begin t1 1 10; \
+        claim t1 a t2",
+    "a claim's writer isn't formed: \
+        faulty client 1; \
+        begin t1 1 10; \
+        claim t1 a t1",
+    "this is tested before reason 6, as the client is faulty too: \
+        faulty client 1; \
+        begin t1 2 10; \
+        settle t1 1",
 ];
 
 /// Reason 5: a faulty party that is named too late, twice, or as one too many.
 const LATE: &[&str] = &[
-    "a client is named twice: faulty client 1; faulty client 1",
-    "a replica is named twice: faulty replica 0 1; faulty replica 0 1",
-    "a shard has a second one: faulty replica 0 1; faulty replica 0 2",
-    "the other shard has one too: faulty replica 0 1; faulty replica 1 1; faulty replica 1 2",
-    "a party behind a transaction: begin t1 1 10; faulty client 1",
-    "a party behind a round: round; faulty client 1",
-    "skipped lines part nothing: faulty replica 0 1; # more; ; faulty replica 0 1",
+    "a client is named twice: \
+        faulty client 1; \
+        faulty client 1",
+    "a replica is named twice: \
+        faulty replica 0 1; \
+        faulty replica 0 1",
+    "a shard has a second one: \
+        faulty replica 0 1; \
+        faulty replica 0 2",
+    "the other shard has one too: \
+        faulty replica 0 1; \
+        faulty replica 1 1; \
+        faulty replica 1 2",
+    "a party behind a transaction: \
+        begin t1 1 10; \
+        faulty client 1",
+    "a party behind a round: \
+        round; \
+        faulty client 1",
+    "skipped lines part nothing: \
+        faulty replica 0 1; \
+        # more; \
+        ; \
+        faulty replica 0 1",
 ];
 
 /// Reason 6: a line for a faulty party names a correct one, or the other way round.
 const OTHERS: &[&str] = &[
-    "a faulty client reads: faulty client 1; begin t1 1 10; read t1 a",
-    "a correct client claims: begin t1 1 10; claim t1 a -",
-    "a faulty client settles: faulty client 2; begin t1 1 10; write t1 a x; prepare t1; settle t1 2",
-    "a faulty client recovers: faulty client 2; begin t1 1 10; write t1 a x; prepare t1; recover t1 2",
-    "a faulty client invokes: faulty client 2; begin t1 1 10; write t1 a x; prepare t1; invoke t1 2",
-    "a correct replica's vote: begin t1 1 10; write t1 a x; prepare t1; vote 0 0 t1 commit 1",
-    "a correct client's second stage: begin t1 1 10; write t1 a x; prepare t1; second t1 commit 0",
-    "a correct replica's log reply: begin t1 1 10; write t1 a x; prepare t1; logged 0 0 t1 commit 0 0 1",
-    "a correct replica's election word: begin t1 1 10; write t1 a x; prepare t1; elect 0 0 t1 commit 1",
-    "a correct replica's decide: begin t1 1 10; write t1 a x; prepare t1; decide 0 0 t1 commit 1 0",
-    "a faulty replica's journal: faulty replica 0 5; raw client 1 client 2 03; stop 0 5 1 1 01",
+    "a faulty client reads: \
+        faulty client 1; \
+        begin t1 1 10; \
+        read t1 a",
+    "a correct client claims: \
+        begin t1 1 10; \
+        claim t1 a -",
+    "a faulty client settles: \
+        faulty client 2; \
+        begin t1 1 10; \
+        write t1 a x; \
+        prepare t1; \
+        settle t1 2",
+    "a faulty client recovers: \
+        faulty client 2; \
+        begin t1 1 10; \
+        write t1 a x; \
+        prepare t1; \
+        recover t1 2",
+    "a faulty client invokes: \
+        faulty client 2; \
+        begin t1 1 10; \
+        write t1 a x; \
+        prepare t1; \
+        invoke t1 2",
+    "a correct replica's vote: \
+        begin t1 1 10; \
+        write t1 a x; \
+        prepare t1; \
+        vote 0 0 t1 commit 1",
+    "a correct client's second stage: \
+        begin t1 1 10; \
+        write t1 a x; \
+        prepare t1; \
+        second t1 commit 0",
+    "a correct replica's log reply: \
+        begin t1 1 10; \
+        write t1 a x; \
+        prepare t1; \
+        logged 0 0 t1 commit 0 0 1",
+    "a correct replica's election word: \
+        begin t1 1 10; \
+        write t1 a x; \
+        prepare t1; \
+        elect 0 0 t1 commit 1",
+    "a correct replica's decide: \
+        begin t1 1 10; \
+        write t1 a x; \
+        prepare t1; \
+        decide 0 0 t1 commit 1 0",
+    "a faulty replica's journal: \
+        faulty replica 0 5; \
+        raw client 1 client 2 03; \
+        stop 0 5 1 1 01",
 ];
 
 /// Reason 7: a message that isn't there.
 const MISSING: &[&str] = &[
     "the first of none is delivered: deliver 1",
-    "the second of one is delivered: raw client 1 client 2 03; deliver 2",
-    "the number 0 is delivered: raw client 1 client 2 03; deliver 0",
+    "the second of one is delivered: \
+        raw client 1 client 2 03; \
+        deliver 2",
+    "the number 0 is delivered: \
+        raw client 1 client 2 03; \
+        deliver 0",
     "the first of none is lost: lose 1",
     "the number 0 is lost: lose 0",
     "the first of none is diverted: divert 1 client 1",
-    "the number 0 is diverted: raw client 1 client 2 03; divert 0 client 1",
+    "the number 0 is diverted: \
+        raw client 1 client 2 03; \
+        divert 0 client 1",
     "this is tested before reason 11: stop 0 0 1 1 01",
 ];
 
 /// Reason 9: a call that the client refuses.
 const CALLS: &[&str] = &[
-    "a client's time stays: begin t1 1 10; begin t2 1 10",
-    "a client's time falls: begin t1 1 10; begin t2 1 9",
-    "nothing is read and nothing is written: begin t1 1 10; prepare t1",
-    "a read waits for its choice: begin t1 1 10; read t1 a; prepare t1",
-    "a formed transaction reads: begin t1 1 10; write t1 a x; prepare t1; read t1 b",
-    "a formed transaction writes: begin t1 1 10; write t1 a x; prepare t1; write t1 b y",
-    "a formed transaction deletes: begin t1 1 10; write t1 a x; prepare t1; delete t1 a",
-    "a formed transaction is formed again: begin t1 1 10; write t1 a x; prepare t1; prepare t1",
-    "a client settles what it doesn't hold: begin t1 1 10; write t1 a x; prepare t1; settle t1 2",
-    "a client invokes for what it doesn't hold: begin t1 1 10; write t1 a x; prepare t1; invoke t1 2",
-    "a client invokes before any log reply: begin t1 1 10; write t1 a x; prepare t1; invoke t1 1",
-    "so does one that took the transaction up: begin t1 1 10; write t1 a x; prepare t1; recover t1 2; invoke t1 2",
+    "a client's time stays: \
+        begin t1 1 10; \
+        begin t2 1 10",
+    "a client's time falls: \
+        begin t1 1 10; \
+        begin t2 1 9",
+    "nothing is read and nothing is written: \
+        begin t1 1 10; \
+        prepare t1",
+    "a read waits for its choice: \
+        begin t1 1 10; \
+        read t1 a; \
+        prepare t1",
+    "a formed transaction reads: \
+        begin t1 1 10; \
+        write t1 a x; \
+        prepare t1; \
+        read t1 b",
+    "a formed transaction writes: \
+        begin t1 1 10; \
+        write t1 a x; \
+        prepare t1; \
+        write t1 b y",
+    "a formed transaction deletes: \
+        begin t1 1 10; \
+        write t1 a x; \
+        prepare t1; \
+        delete t1 a",
+    "a formed transaction is formed again: \
+        begin t1 1 10; \
+        write t1 a x; \
+        prepare t1; \
+        prepare t1",
+    "a client settles what it doesn't hold: \
+        begin t1 1 10; \
+        write t1 a x; \
+        prepare t1; \
+        settle t1 2",
+    "a client invokes for what it doesn't hold: \
+        begin t1 1 10; \
+        write t1 a x; \
+        prepare t1; \
+        invoke t1 2",
+    "a client invokes before any log reply: \
+        begin t1 1 10; \
+        write t1 a x; \
+        prepare t1; \
+        invoke t1 1",
+    "so does one that took the transaction up: \
+        begin t1 1 10; \
+        write t1 a x; \
+        prepare t1; \
+        recover t1 2; \
+        invoke t1 2",
 ];
 
 /// Reason 9: what a faulty client's transaction refuses, and a transaction of a faulty client that no good form has.
 const FAULTY_CALLS: &[&str] = &[
-    "an empty one is formed: faulty client 1; begin t1 1 10; prepare t1",
-    "a formed one is formed again: faulty client 1; begin t1 1 10; write t1 a x; prepare t1; prepare t1",
-    "a formed one writes: faulty client 1; begin t1 1 10; write t1 a x; prepare t1; write t1 b y",
-    "a formed one deletes: faulty client 1; begin t1 1 10; write t1 a x; prepare t1; delete t1 b",
-    "a formed one claims: faulty client 1; begin t1 1 10; write t1 a x; prepare t1; claim t1 b -",
-    "one of time 0 is taken up: faulty client 1; begin t1 1 0; write t1 a x; prepare t1; recover t1 2",
+    "an empty one is formed: \
+        faulty client 1; \
+        begin t1 1 10; \
+        prepare t1",
+    "a formed one is formed again: \
+        faulty client 1; \
+        begin t1 1 10; \
+        write t1 a x; \
+        prepare t1; \
+        prepare t1",
+    "a formed one writes: \
+        faulty client 1; \
+        begin t1 1 10; \
+        write t1 a x; \
+        prepare t1; \
+        write t1 b y",
+    "a formed one deletes: \
+        faulty client 1; \
+        begin t1 1 10; \
+        write t1 a x; \
+        prepare t1; \
+        delete t1 b",
+    "a formed one claims: \
+        faulty client 1; \
+        begin t1 1 10; \
+        write t1 a x; \
+        prepare t1; \
+        claim t1 b -",
+    "one of time 0 is taken up: \
+        faulty client 1; \
+        begin t1 1 0; \
+        write t1 a x; \
+        prepare t1; \
+        recover t1 2",
     "one that reads above itself is taken up: \
-        faulty client 1; begin t2 1 20; write t2 a x; prepare t2; \
-        begin t1 1 10; claim t1 a t2; prepare t1; recover t1 2",
+        faulty client 1; \
+        begin t2 1 20; \
+        write t2 a x; \
+        prepare t2; \
+        begin t1 1 10; \
+        claim t1 a t2; \
+        prepare t1; \
+        recover t1 2",
 ];
 
 /// Reason 9: a 33rd key of one transaction. A faulty client may list it, and may not form the transaction.
 const KEYS: &[&str] = &[
-    "a client reads a 33rd key: begin t1 1 10; 33 * read t1 k#",
-    "a client writes a 33rd key: begin t1 1 10; 33 * write t1 k# v",
-    "a client deletes a 33rd key: begin t1 1 10; 32 * write t1 k# v; delete t1 z",
-    "a faulty client has written a 33rd key: faulty client 1; begin t1 1 10; 33 * write t1 k# v; prepare t1",
-    "a faulty client has claimed a 33rd read: faulty client 1; begin t1 1 10; 33 * claim t1 k# -; prepare t1",
+    "a client reads a 33rd key: \
+        begin t1 1 10; \
+        33 * read t1 k#",
+    "a client writes a 33rd key: \
+        begin t1 1 10; \
+        33 * write t1 k# v",
+    "a client deletes a 33rd key: \
+        begin t1 1 10; \
+        32 * write t1 k# v; \
+        delete t1 z",
+    "a faulty client has written a 33rd key: \
+        faulty client 1; \
+        begin t1 1 10; \
+        33 * write t1 k# v; \
+        prepare t1",
+    "a faulty client has claimed a 33rd read: \
+        faulty client 1; \
+        begin t1 1 10; \
+        33 * claim t1 k# -; \
+        prepare t1",
 ];
 
 /// Reason 9: a client's 33rd signature.
 const CLIENT_LEAVES: &[&str] = &[
     "a client forms a 33rd transaction: 33 * begin t# 1 1#, write t# a x, prepare t#",
-    "a faulty client forms one: faulty client 1; 33 * begin t# 1 1#, write t# a x, prepare t#",
+    "a faulty client forms one: \
+        faulty client 1; \
+        33 * begin t# 1 1#, write t# a x, prepare t#",
 ];
 
 /// Reason 9: a faulty replica's 33rd signature, of each kind that it may give.
 const REPLICA_LEAVES: &[&str] = &[
     "a vote: \
-        faulty replica 0 0; begin t1 1 10; write t1 a x; prepare t1; 33 * vote 0 0 t1 commit 1",
+        faulty replica 0 0; \
+        begin t1 1 10; \
+        write t1 a x; \
+        prepare t1; \
+        33 * vote 0 0 t1 commit 1",
     "a log reply: \
-        faulty replica 0 0; begin t1 1 10; write t1 a x; prepare t1; 33 * logged 0 0 t1 commit 0 0 1",
+        faulty replica 0 0; \
+        begin t1 1 10; \
+        write t1 a x; \
+        prepare t1; \
+        33 * logged 0 0 t1 commit 0 0 1",
     "an election word: \
-        faulty replica 0 0; begin t1 1 10; write t1 a x; prepare t1; 33 * elect 0 0 t1 commit 1",
+        faulty replica 0 0; \
+        begin t1 1 10; \
+        write t1 a x; \
+        prepare t1; \
+        33 * elect 0 0 t1 commit 1",
     "a decide behind 32 votes: \
-        faulty replica 0 0; begin t1 1 10; write t1 a x; prepare t1; \
-        32 * vote 0 0 t1 commit 1; decide 0 0 t1 commit 1 0",
+        faulty replica 0 0; \
+        begin t1 1 10; \
+        write t1 a x; \
+        prepare t1; \
+        32 * vote 0 0 t1 commit 1; \
+        decide 0 0 t1 commit 1 0",
 ];
 
 /// Reason 11: a disk is stopped where no replica has a journal.
 const STOPS: &[&str] = &[
-    "in its first write: raw client 1 client 2 03; stop 0 0 1 1 01",
-    "in its second write: raw client 1 client 2 03; stop 0 0 1 2 4d",
+    "in its first write: \
+        raw client 1 client 2 03; \
+        stop 0 0 1 1 01",
+    "in its second write: \
+        raw client 1 client 2 03; \
+        stop 0 0 1 2 4d",
 ];
 
 /// What the line alone shows comes first: reason 2.

@@ -23,8 +23,8 @@ const T5: Version = Version {
     id: [1; 32],
 };
 
-/// The versions that two replies carry, the committed ones and the prepared ones, the version that is chosen with f =
-/// 1, and whether it is a dependency.
+/// The versions that two replies carry, the committed ones and the prepared ones, the version that is chosen with
+/// f = 1, and whether it is a dependency.
 type Row = ([Version; 2], [Version; 2], Version, bool);
 
 const CHOSEN: &[Row] = &[

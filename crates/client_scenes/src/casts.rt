@@ -82,8 +82,7 @@ pub(crate) fn name_with(cast: &[Role], id: &[u8; 32]) -> &'static str {
 }
 
 /// What a token like `a?B` tells of a read: the key, how, and whose version. `a=B` is a read of the version of B, or
-/// for
-/// `-` of genesis; `a?B` is the same as a dependency.
+/// for `-` of genesis; `a?B` is the same as a dependency.
 #[derive(Clone, Copy)]
 struct Reading<'a> {
     key: &'a str,

@@ -51,38 +51,47 @@ fn an_envelope_comes_with_its_last_byte(rt: HostRuntime) -> Result<(), Fail> {
 
 /// What is fed at once, how many whole envelopes it has, and why it ends.
 const ENDS: &[(&[u8], usize, Option<EndCause>)] = &[
-    // an envelope, and a frame of a byte too many
+    // A whole envelope, and a second one whose length is a byte above the greatest.
     (
         &[1, 0, 1, 0, 0, 0, 1, 3, 1, 0, 1, 0, 0x10, 0, 1],
         1,
         Some(EndCause::TooLong(1_048_577)),
     ),
-    // the longest frame
+    // The greatest length, 1,048,576.
     (&[1, 0, 1, 0, 0x10, 0, 0], 0, None),
+    // The greatest number of four bytes as a length.
     (
         &[1, 0, 1, 0xff, 0xff, 0xff, 0xff],
         0,
         Some(EndCause::TooLong(4_294_967_295)),
     ),
+    // The length 0.
     (&[1, 0, 1, 0, 0, 0, 0], 0, Some(EndCause::Empty)),
+    // A length isn't tested before its fourth byte.
     (&[1, 0, 1, 0, 0, 0], 0, None),
-    // parties that nobody has
+    // The first byte of a party is 0 or 1, and here 2.
     (&[2, 0, 1], 0, Some(EndCause::Party)),
+    // A party isn't tested before its third byte.
     (&[2, 0], 0, None),
+    // The second byte of a client is 0, and here 1.
     (&[1, 1, 1], 0, Some(EndCause::Party)),
+    // A client is 1 to 16: 0 and 17 are none.
     (&[1, 0, 0], 0, Some(EndCause::Party)),
     (&[1, 0, 16], 0, None),
     (&[1, 0, 17], 0, Some(EndCause::Party)),
+    // The last replica of the last shard.
     (&[0, 1, 5], 0, None),
+    // There is no shard 2, and no replica 6.
     (&[0, 2, 5], 0, Some(EndCause::Party)),
     (&[0, 1, 6], 0, Some(EndCause::Party)),
-    // what follows the end is dropped
+    // A whole envelope is dropped behind the end, which is a party that nobody has, or the length 0.
     (&[2, 0, 1, 1, 0, 1, 0, 0, 0, 1, 3], 0, Some(EndCause::Party)),
     (
         &[1, 0, 1, 0, 0, 0, 0, 1, 0, 1, 0, 0, 0, 1, 3],
         0,
         Some(EndCause::Empty),
     ),
+    // No byte at all.
     (&[], 0, None),
 ];
 

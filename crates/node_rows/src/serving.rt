@@ -39,33 +39,43 @@ type Row = (
 
 /// The calls are: listen; of the first connection accept, read, a write for each envelope and the last read; and so on.
 const ROWS: &[Row] = &[
+    // Two connections: a first stage is answered by a vote, and each byte that is no frame by the count 0.
     (&[FIRST, BAD], &[], Ok(3), &[VOTE, NONE, NONE]),
+    // A read is answered by its reply.
     (&[READ], &[], Ok(1), &[REPLY]),
+    // No connection is accepted.
     (&[], &[], Ok(0), &[]),
+    // Of three connections the second alone has bytes.
     (&["", BAD, ""], &[], Ok(1), &[NONE]),
-    // what stands before the end is answered
+    // A party that nobody has ends the first connection before its frame, and the second is served.
     (&[NOBODY, BAD], &[], Ok(1), &[NONE]),
+    // Client 1 with the frame `03`, a party that nobody has, and client 1 with `03` again: the first alone is answered.
     (
         &["01000100000001030200010100010000000103"],
         &[],
         Ok(1),
         &[NONE],
     ),
-    // an envelope that isn't whole
+    // Client 1 and a length of 1 without the frame: nothing of it is handled, and the next connection is served.
     (&["01000100000001", BAD], &[], Ok(1), &[NONE]),
-    // it fails to listen, and to accept the first and the second connection
+    // It fails to listen.
     (&[FIRST, BAD], &[1], Err(ServeFault::LinkFault), &[]),
+    // It fails to accept the first connection.
     (&[FIRST, BAD], &[2], Err(ServeFault::LinkFault), &[]),
+    // It fails to accept the second connection: what the first was answered is written.
     (
         &[FIRST, BAD],
         &[7],
         Err(ServeFault::LinkFault),
         &[VOTE, NONE],
     ),
-    // a read or a write fails: the next connection is accepted
+    // The first read fails, and the next connection is served.
     (&[FIRST, BAD], &[3], Ok(1), &[NONE]),
+    // The first write fails: its frame was handled, the one behind it isn't, and the next connection is served.
     (&[FIRST, BAD], &[4], Ok(2), &[NONE]),
+    // The second write fails: both frames were handled, one answer is written, and the next connection is served.
     (&[FIRST, BAD], &[5], Ok(3), &[VOTE, NONE]),
+    // The read behind both envelopes fails: both were answered, and the next connection is served.
     (&[FIRST, BAD], &[6], Ok(3), &[VOTE, NONE, NONE]),
 ];
 

@@ -1,3 +1,5 @@
+//! The store of versions: what it tells of a key's writers and readers, also once some of them are taken out.
+
 use crate::making::transaction;
 use basil_types::memory::NoMemory;
 use basil_types::transaction::Transaction;

@@ -1,3 +1,5 @@
+//! The table of transactions: their places, who waits for a vote, and which votes an outcome releases.
+
 use crate::making::{Read, arrive, ask, end, released, transaction, vote};
 use basil_types::bytes::id_of;
 use basil_types::party::{Decision, Party};

@@ -1,3 +1,5 @@
+//! The verdict of a replica on a transaction, by what it knows of others.
+
 use crate::making::{is_open, is_unvoted, transaction};
 use basil_types::bytes::id_of;
 use basil_types::cluster::Cluster;

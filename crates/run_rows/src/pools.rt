@@ -47,13 +47,19 @@ fn fate_of(pool: &Pool, number: u64) -> Option<Fate> {
     }
 }
 
-// The lengths of frames that are sent one after the other to a pool of three messages and ten bytes, and whether each enters.
+// Frames that are sent one after another to a pool of three messages and ten bytes, and whether each enters.
 const SENT: &[(&[u8], bool)] = &[
+    // Four of the ten bytes are taken.
     (b"four", true),
+    // Seven bytes more would be eleven.
     (b"sevenby", false),
+    // Six bytes more are ten, which the pool may hold.
     (b"sixbyt", true),
+    // A byte more would be the eleventh.
     (b"x", false),
+    // A frame of no bytes still has room, as the third message.
     (b"", true),
+    // A fourth message has no room, whatever its length.
     (b"", false),
 ];
 
@@ -98,16 +104,25 @@ fn a_message_is_told_as_it_was_sent(rt: HostRuntime) -> Result<(), Fail> {
 
 // Of five messages these were delivered and these lost; from a number on, the first that a round delivers.
 const ROUNDS: &[(&[u64], &[u64], u64, Option<u64>)] = &[
+    // All five wait: from 0 and 1 on it is the first, and from 5 on the last.
     (&[], &[], 0, Some(1)),
     (&[], &[], 1, Some(1)),
     (&[], &[], 5, Some(5)),
+    // There is no message 6.
     (&[], &[], 6, None),
+    // The first two were delivered.
     (&[1, 2], &[], 1, Some(3)),
+    // The first was lost, and the second delivered.
     (&[2], &[1], 1, Some(3)),
+    // From 2 on the fifth alone waits; the first waits too, and stands before that number.
     (&[2, 4], &[3], 2, Some(5)),
+    // Three were delivered, not in their order, and one was lost.
     (&[4, 2, 1], &[3], 1, Some(5)),
+    // The message of that number was delivered, so it is the one behind it.
     (&[3], &[], 3, Some(4)),
+    // The last was lost, and those that wait stand before it.
     (&[3], &[5], 5, None),
+    // None waits any more.
     (&[1, 2, 3, 4], &[5], 1, None),
 ];
 

@@ -12,13 +12,19 @@ fn refusal(f: u8, shards: u8, reads: u8) -> Option<ClusterFault> {
 
 /// Faulty replicas, shards and replies of a read, and what is refused.
 const REFUSALS: &[(u8, u8, u8, Option<ClusterFault>)] = &[
+    // The smallest cluster, and the largest.
     (0, 1, 1, None),
     (6, 8, 25, None),
+    // f is above 6, and is named first, though shards and reads are out of range too.
     (7, 0, 0, Some(ClusterFault::FOutOfRange)),
+    // There is no shard, which is named before reads, out of range too.
     (1, 0, 0, Some(ClusterFault::ShardsOutOfRange)),
+    // shards is above 8.
     (1, 9, 2, Some(ClusterFault::ShardsOutOfRange)),
+    // With f = 1 reads is 2 to 5.
     (1, 1, 1, Some(ClusterFault::ReadsOutOfRange)),
     (1, 1, 6, Some(ClusterFault::ReadsOutOfRange)),
+    // With f = 0 reads is 1.
     (0, 1, 0, Some(ClusterFault::ReadsOutOfRange)),
 ];
 
@@ -34,8 +40,11 @@ fn the_first_field_out_of_range_is_named(rt: HostRuntime) {
 
 /// Faulty replicas and replies of a read; then 5f+1, 5f+1, 3f+1, f+1, 3f+1, 4f+1 and 2f+1.
 const SIZES: &[(u8, u8, [u8; 7])] = &[
+    // One replica decides alone.
     (0, 1, [1, 1, 1, 1, 1, 1, 1]),
+    // Six replicas, one of them faulty.
     (1, 5, [6, 6, 4, 2, 4, 5, 3]),
+    // The most replicas that a shard has.
     (6, 25, [31, 31, 19, 7, 19, 25, 13]),
 ];
 

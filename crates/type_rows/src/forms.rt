@@ -1,4 +1,5 @@
-//! What a transaction is about: its form, its version, the shards of its keys, where it is logged, what it conflicts with.
+//! What a transaction is about: its form, its version, the shards of its keys, where it is logged, what it conflicts
+//! with.
 
 use basil_types::cluster::Cluster;
 use basil_types::transaction::TransactionView;
@@ -104,12 +105,15 @@ fn log_shard_at(time: u64, cluster: &Cluster) -> Result<u8, Fail> {
 
 /// Shards, times and log shards: of 3 shards 1 and 2 are involved, and of 1 shard the only one.
 const LOG_SHARDS: &[(u8, u64, u8)] = &[
+    // The log shard is the lower of the two at an even time, and the higher at an odd one.
     (3, 1, 2),
     (3, 2, 1),
     (3, 10, 1),
     (3, 11, 2),
+    // So it is at the greatest times.
     (3, u64::MAX - 1, 1),
     (3, u64::MAX, 2),
+    // Of one shard it is that one at every time.
     (1, u64::MAX, 0),
 ];
 
@@ -127,15 +131,19 @@ fn log_shards_go_round_the_involved_ones(rt: HostRuntime) -> Result<(), Fail> {
 
 /// Faulty replicas, times, views and leaders.
 const LEADERS: &[(u8, u64, u64, u8)] = &[
+    // The only replica leads every view.
     (0, 10, 5, 0),
     (0, u64::MAX, u64::MAX, 0),
+    // The leader is the sum of time and view modulo the number of replicas, six.
     (1, 0, 0, 0),
     (1, 13, 1, 2),
     (1, 10, 5, 3),
+    // The sum doesn't overflow: 2^64 - 1 is 3 modulo 6.
     (1, u64::MAX, 0, 3),
     (1, 0, u64::MAX, 3),
     (1, u64::MAX, 1, 4),
     (1, u64::MAX, u64::MAX, 0),
+    // The same of 31 replicas: 2^64 - 1 is 15 modulo 31.
     (6, 10, 5, 15),
     (6, u64::MAX, 1, 16),
     (6, u64::MAX, u64::MAX, 30),
@@ -171,15 +179,21 @@ fn writer_at(time: u64, client: u8, key: u8) -> [u8; 18] {
     bytes
 }
 
-/// Times, clients and keys of writers, and whether they conflict with the reader: the writer of the version that was read,
-/// one before it, those between, and those behind the reader.
+/// Times, clients and keys of writers, and whether they conflict with the reader, which is of time 30 and client 2 and
+/// has read a of time 10 and client 1.
 const WRITERS: &[(u64, u8, u8, bool)] = &[
+    // The writer whose version was read.
     (10, 1, b'a', false),
+    // One before that: its time is lower, though its client is higher.
     (9, 16, b'a', false),
+    // Between the version that was read and the reader: by a higher client at its time, and later.
     (10, 2, b'a', true),
     (20, 1, b'a', true),
+    // Between them, of another key.
     (20, 1, b'b', false),
+    // Between them, by a lower client at the reader's time.
     (30, 1, b'a', true),
+    // Behind the reader, by a higher client at its time, or later.
     (30, 3, b'a', false),
     (31, 1, b'a', false),
 ];

@@ -238,17 +238,24 @@ fn each_reason_is_told(rt: HostRuntime) -> Result<(), Fail> {
 const MANY: &[(&str, &str, &str)] = &[
     (
         "a 33rd written key",
-        "tx t1 10 1; 33 * write t1 k# v",
+        "\
+        tx t1 10 1; \
+        33 * write t1 k# v",
         "line 1 reason 9",
     ),
     (
         "a 33rd read",
-        "tx t1 10 1; 33 * read t1 k# -",
+        "\
+        tx t1 10 1; \
+        33 * read t1 k# -",
         "line 1 reason 9",
     ),
     (
         "32 written keys, one of them twice",
-        "tx t1 10 1; 32 * write t1 k# v; write t1 k31 v",
+        "\
+        tx t1 10 1; \
+        32 * write t1 k# v; \
+        write t1 k31 v",
         "serial",
     ),
 ];
