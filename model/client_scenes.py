@@ -704,15 +704,14 @@ def told_row(table, shards, names):
     }[table]
 
 
-def version_of(value):
-    return Version(value["time"], value["client"], bytes(value["id"]))
+VERSIONS = {0: GENESIS, 3: Version(3, 1, bytes([7] * 32)), 5: Version(5, 2, bytes([1] * 32))}
 
 
 def told_choice(committed, prepared):
     """The version that is chosen of two replies, as the table has it, and whether it's a dependency."""
-    replies = [tuple(map(version_of, reply)) for reply in zip(committed, prepared)]
+    replies = [tuple(map(VERSIONS.get, reply)) for reply in zip(committed, prepared)]
     version, dependency = choose(Cluster(f=1, shards=1, reads=2), replies)
-    return [next(value for value in committed + prepared if version_of(value) == version), str(dependency).lower()]
+    return [next(time for time in committed + prepared if VERSIONS[time] == version), str(dependency).lower()]
 
 
 # ---- all that is played

@@ -5,45 +5,44 @@ use basil_types::version::Version;
 use client_reads::{Choice, ReplyVersions, choose};
 use std::test::Fail;
 
-const NONE: Version = Version {
-    time: 0,
-    client: 0,
-    id: [0; 32],
-};
+/// The version of a time: client 1's of 3, client 2's of 5, and otherwise genesis.
+fn version_at(time: u64) -> Version {
+    match time {
+        3 => Version {
+            time,
+            client: 1,
+            id: [7; 32],
+        },
+        5 => Version {
+            time,
+            client: 2,
+            id: [1; 32],
+        },
+        _ => Version::genesis(),
+    }
+}
 
-const T3: Version = Version {
-    time: 3,
-    client: 1,
-    id: [7; 32],
-};
-
-const T5: Version = Version {
-    time: 5,
-    client: 2,
-    id: [1; 32],
-};
-
-/// The versions that two replies carry, the committed ones and the prepared ones, the version that is chosen with
-/// f = 1, and whether it is a dependency.
-type Row = ([Version; 2], [Version; 2], Version, bool);
+/// The times of the versions that two replies carry, of the committed ones and of the prepared ones; that of the version
+/// that is chosen with f = 1, and whether it is a dependency. Genesis has the time 0.
+type Row = ([u64; 2], [u64; 2], u64, bool);
 
 const CHOSEN: &[Row] = &[
     // Both prepared it: a dependency.
-    ([NONE, NONE], [T5, T5], T5, true),
+    ([0, 0], [5, 5], 5, true),
     // One prepared the greater, which doesn't count; the other one's committed version does.
-    ([NONE, T3], [T5, NONE], T3, false),
+    ([0, 3], [5, 0], 3, false),
     // Neither has any: none.
-    ([NONE, NONE], [NONE, NONE], NONE, false),
+    ([0, 0], [0, 0], 0, false),
     // Both prepared what one has committed: no dependency.
-    ([NONE, T5], [T5, T5], T5, false),
+    ([0, 5], [5, 5], 5, false),
     // One prepared it, which doesn't count: none.
-    ([NONE, NONE], [T5, NONE], NONE, false),
+    ([0, 0], [5, 0], 0, false),
     // Both prepared a greater one than one has committed: a dependency.
-    ([T3, NONE], [T5, T5], T5, true),
+    ([3, 0], [5, 5], 5, true),
     // One has committed a greater one than both prepared: no dependency.
-    ([T5, NONE], [T3, T3], T5, false),
+    ([5, 0], [3, 3], 5, false),
     // Each prepared another, and neither counts: none.
-    ([NONE, NONE], [T5, T3], NONE, false),
+    ([0, 0], [5, 3], 0, false),
 ];
 
 /// Whether the version of a row is chosen.
@@ -51,17 +50,17 @@ fn is_chosen(cluster: &Cluster, row: &Row) -> bool {
     let &(committed, prepared, version, dependency) = row;
     let replies = [
         ReplyVersions {
-            committed: committed[0],
-            prepared: prepared[0],
+            committed: version_at(committed[0]),
+            prepared: version_at(prepared[0]),
         },
         ReplyVersions {
-            committed: committed[1],
-            prepared: prepared[1],
+            committed: version_at(committed[1]),
+            prepared: version_at(prepared[1]),
         },
     ];
     choose(cluster, &replies)
         == Choice {
-            version,
+            version: version_at(version),
             dependency,
         }
 }
@@ -72,6 +71,6 @@ fn the_greatest_that_counts_is_chosen(rt: HostRuntime) -> Result<(), Fail> {
     for (place, row) in CHOSEN.iter().enumerate() {
         assert!(rt; is_chosen(&cluster, row), "row {place}");
     }
-    assert!(rt; choose(&cluster, &[]).version == NONE);
+    assert!(rt; choose(&cluster, &[]).version == Version::genesis());
     Ok(())
 }
