@@ -12,7 +12,7 @@
 //! 0301` are these bytes, and `zeros 9` are nine zeros.
 
 use crate::casts::{
-    Role, behind_token, byte_of, number_of, put_text, role_named, version_named, token_at,
+    Role, behind_token, byte_of, number_of, put_text, role_named, token_at, version_named,
 };
 use basil_types::bytes::id_of;
 use basil_types::party::{Decision, Party};
@@ -310,7 +310,10 @@ fn put_vote(
 fn put_log(out: &mut Vec<u8>, cast: &[Role], phrase: &str, sender: &Sender) -> Result<(), Fail> {
     let id = id_of(&role_named(cast, token_at(phrase, 2))?.bytes);
     let decision = decision_in(token_at(phrase, 3));
-    let (decided, current) = (number_of(token_at(phrase, 4)), number_of(token_at(phrase, 5)));
+    let (decided, current) = (
+        number_of(token_at(phrase, 4)),
+        number_of(token_at(phrase, 5)),
+    );
     out.extend_from_slice(&[6, sender.shard, sender.index])?;
     out.extend_from_slice(&id)?;
     out.push(number_for(decision))?;

@@ -348,7 +348,13 @@ fn put_elect(out: &mut Vec<u8>, line: &Line<'_>, role: &Role) -> Result<(), Allo
     put_view(out, line, role, 10)?;
     let id = id_of(&role.bytes);
     let (shard, index) = (line.named_shard(), byte_of(line.token(0)));
-    let words = Words::election(shard, index, &id, line.decision(3), number_of(line.token(4)));
+    let words = Words::election(
+        shard,
+        index,
+        &id,
+        line.decision(3),
+        number_of(line.token(4)),
+    );
     put_signature(
         out,
         Party::Replica { shard, index },
@@ -403,7 +409,13 @@ fn put_decide(out: &mut Vec<u8>, line: &Line<'_>, role: &Role) -> Result<(), All
     let id = id_of(&role.bytes);
     put_words(out, line, &id)?;
     let (shard, index) = (line.named_shard(), byte_of(line.token(0)));
-    let words = Words::proposal(shard, index, &id, line.decision(3), number_of(line.token(4)));
+    let words = Words::proposal(
+        shard,
+        index,
+        &id,
+        line.decision(3),
+        number_of(line.token(4)),
+    );
     put_signature(
         out,
         Party::Replica { shard, index },
