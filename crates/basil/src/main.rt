@@ -16,15 +16,22 @@ use sockets::SocketLinks;
 use std::process::ExitCode;
 use std::{env, io};
 
-/// The arguments behind the program's own name. None of them is handed on where one isn't UTF-8.
+/// The arguments behind the program's own name. None of them is handed on where one isn't UTF-8. None at all where memory
+/// is wanting.
 fn arguments_of(rt: &HostRuntime) -> Option<Vec<String>> {
     let mut arguments = Vec::new(rt.alloc());
-    let Ok(args) = env::args(rt) else {
-        return Some(arguments);
-    };
-    for (place, argument) in args.enumerate() {
-        if place > 0 && arguments.push(argument).is_err() {
-            return None;
+    match env::args(rt) {
+        Ok(args) => {
+            for (place, argument) in args.enumerate() {
+                if place > 0 && arguments.push(argument).is_err() {
+                    return None;
+                }
+            }
+        }
+        Err(error) => {
+            if error.kind() == io::ErrorKind::OutOfMemory {
+                return None;
+            }
         }
     }
     Some(arguments)
