@@ -1,0 +1,4 @@
+mod Standing
+mod Following
+mod Releasing
+mod Answering
