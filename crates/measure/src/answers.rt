@@ -22,6 +22,17 @@ pub enum Answering {
     Logs,
 }
 
+/// What a client does behind a flood of log replies of one replica about one transaction, each of a view of its own.
+#[derive(Clone, Copy, PartialEq, Eq)]
+pub enum Later {
+    /// It takes one log reply more.
+    Log,
+    /// It takes a vote of that replica, of which the first counts.
+    Vote,
+    /// It calls for an election, with the latest log replies.
+    Invoke,
+}
+
 /// A client over plain keys.
 type PlainClient = Client<PlainKeys, PlainPen>;
 
@@ -34,13 +45,23 @@ fn client(alloc: Global, cluster: Cluster) -> PlainClient {
     Client::new(alloc, cluster, CLIENT, PlainKeys::new(&cluster), pen)
 }
 
-/// Forms a transaction that writes one key, and gives its id.
-fn form(client: &mut PlainClient, out: &mut Outbox) -> Option<[u8; 32]> {
+/// A transaction that the client formed.
+#[derive(Clone, Copy)]
+struct Formed {
+    slot: u32,
+    id: [u8; 32],
+}
+
+/// Forms a transaction that writes one key.
+fn form(client: &mut PlainClient, out: &mut Outbox) -> Option<Formed> {
     let slot = client.begin(1).ok()?;
     client.write(slot, b"k", b"v").ok()?;
     client.prepare(slot, out).ok()?;
     match client.formed(slot) {
-        Some((transaction, _)) => Some(id_of(transaction.view().bytes())),
+        Some((transaction, _)) => {
+            let id = id_of(transaction.view().bytes());
+            Some(Formed { slot, id })
+        }
         None => None,
     }
 }
@@ -129,7 +150,10 @@ fn answer_one(
     let mut client = client(alloc, cluster);
     let mut out = outbox(alloc);
     match form(&mut client, &mut out) {
-        Some(id) => answer_all(alloc, &mut client, cluster.n(), answering, handing, &id),
+        Some(formed) => {
+            let id = formed.id;
+            answer_all(alloc, &mut client, cluster.n(), answering, handing, &id)
+        }
         None => Ok(0),
     }
 }
@@ -170,21 +194,68 @@ fn flood_by(
     Ok(sum)
 }
 
-/// Hands a client so many log replies of one replica about one transaction, and then so many more.
-pub fn flood(alloc: Global, handing: Handing, known: u32, count: u32) -> Result<u64, NoMemory> {
+/// Calls for an election, and gives 1 where it may.
+fn invoke(client: &mut PlainClient, slot: u32, out: &mut Outbox) -> u64 {
+    if slot >= client.slots() {
+        return 0;
+    }
+    match client.invoke(slot, out) {
+        Ok(()) => 1,
+        Err(_) => 0,
+    }
+}
+
+/// Calls for an election so many times.
+fn invoke_often(alloc: Global, client: &mut PlainClient, slot: u32, count: u32) -> u64 {
+    let mut sum = 0u64;
+    for _ in 0..count {
+        let mut out = outbox(alloc);
+        sum = sum.saturating_add(invoke(client, slot, &mut out));
+    }
+    sum
+}
+
+/// Hands the client the vote of one replica so many times.
+fn vote_often(
+    alloc: Global,
+    client: &mut PlainClient,
+    handing: Handing,
+    id: &[u8; 32],
+    count: u32,
+) -> Result<u64, NoMemory> {
+    let mut out = outbox(alloc);
+    let mut sum = 0u64;
+    for _ in 0..count {
+        let frame = vote(alloc, 0, id)?;
+        sum = sum.saturating_add(hand(client, handing, &frame, &mut out));
+    }
+    Ok(sum)
+}
+
+/// Hands a client so many log replies of one replica about one transaction, and then has it do something so many times.
+pub fn flood(
+    alloc: Global,
+    later: Later,
+    handing: Handing,
+    known: u32,
+    count: u32,
+) -> Result<u64, NoMemory> {
     let Ok(cluster) = Cluster::new(1, 1, 3, 100) else {
         return Ok(0);
     };
     let mut client = client(alloc, cluster);
     let mut out = outbox(alloc);
-    match form(&mut client, &mut out) {
-        Some(id) => flood_by(
-            alloc,
-            &mut client,
-            handing,
-            &id,
-            0..known.saturating_add(count),
-        ),
-        None => Ok(0),
+    let Some(formed) = form(&mut client, &mut out) else {
+        return Ok(0);
+    };
+    let id = formed.id;
+    let _ = flood_by(alloc, &mut client, handing, &id, 0..known)?;
+    match later {
+        Later::Log => {
+            let last = known.saturating_add(count);
+            flood_by(alloc, &mut client, handing, &id, known..last)
+        }
+        Later::Vote => vote_often(alloc, &mut client, handing, &id, count),
+        Later::Invoke => Ok(invoke_often(alloc, &mut client, formed.slot, count)),
     }
 }

@@ -143,12 +143,13 @@ fn fill<V: Verifier, S: Signer, C: Signer>(
     Ok(())
 }
 
-/// The number of the transaction that a frame is about, the first ones of which are known.
+/// The number of the transaction that a frame is about, the first ones of which are known. Reads go through all known
+/// ones, not in their order.
 fn number_of(stepping: Stepping, known: u32, place: u32) -> u32 {
     match stepping {
         Stepping::FirstStage => known.saturating_add(place),
         Stepping::Writeback => place,
-        Stepping::Read => place % 1000,
+        Stepping::Read => place.wrapping_mul(7919) % known.max(1),
     }
 }
 

@@ -1,6 +1,6 @@
 //! The works, by name.
 
-use crate::answers::{Answering, answer_often, flood};
+use crate::answers::{Answering, Later, answer_often, flood};
 use crate::decisions::{Proving, make_rings, prove};
 use crate::frames::{Place, Reading, Size, read_often};
 use crate::lines::{long_line, short_lines};
@@ -39,8 +39,9 @@ pub enum Work {
     LmsStep(LmsSet, Handing),
     /// Hands so many clients of plain keys, in a cluster of this f, the answers of every replica about a transaction.
     Answer(Answering, Handing, u8),
-    /// Hands a client of plain keys so many log replies of one replica about one transaction, and then so many more.
-    Flood(Handing, u32),
+    /// Hands a client of plain keys so many log replies of one replica about one transaction, and then has it do
+    /// something so many times.
+    Flood(Later, Handing, u32),
 }
 
 /// The works, and their names.
@@ -224,9 +225,32 @@ const WORKS: &[(&str, Work)] = &[
         "logs-f6-made",
         Work::Answer(Answering::Logs, Handing::Made, 6),
     ),
-    ("flood-0", Work::Flood(Handing::Handed, 0)),
-    ("flood-100000", Work::Flood(Handing::Handed, 100000)),
-    ("flood-made", Work::Flood(Handing::Made, 0)),
+    ("flood-0", Work::Flood(Later::Log, Handing::Handed, 0)),
+    (
+        "flood-100000",
+        Work::Flood(Later::Log, Handing::Handed, 100000),
+    ),
+    ("flood-made", Work::Flood(Later::Log, Handing::Made, 0)),
+    (
+        "vote-behind-1",
+        Work::Flood(Later::Vote, Handing::Handed, 1),
+    ),
+    (
+        "vote-behind-100000",
+        Work::Flood(Later::Vote, Handing::Handed, 100000),
+    ),
+    (
+        "vote-behind-made",
+        Work::Flood(Later::Vote, Handing::Made, 0),
+    ),
+    (
+        "invoke-behind-1",
+        Work::Flood(Later::Invoke, Handing::Handed, 1),
+    ),
+    (
+        "invoke-behind-100000",
+        Work::Flood(Later::Invoke, Handing::Handed, 100000),
+    ),
 ];
 
 impl Work {
@@ -256,6 +280,6 @@ pub fn checksum(alloc: Global, work: Work, count: u32) -> Result<u64, NoMemory> 
         Work::Release(handing, waiters, known) => releases(alloc, handing, waiters, known, count),
         Work::LmsStep(set, handing) => lms_steps(alloc, set, handing, count),
         Work::Answer(answering, handing, f) => answer_often(alloc, f, answering, handing, count),
-        Work::Flood(handing, known) => flood(alloc, handing, known, count),
+        Work::Flood(later, handing, known) => flood(alloc, later, handing, known, count),
     }
 }
