@@ -40,14 +40,24 @@ fn form_of(bytes: &[u8]) -> Result<Result<(), FormFault>, Fail> {
     Ok(check_form(TransactionView::read(bytes, 0)?))
 }
 
+/// Transactions, and what their form lacks.
+const FORMS: &[(&[u8], Result<(), FormFault>)] = &[
+    // One write is enough.
+    (&WRITES, Ok(())),
+    // The first read is of time 11, and the transaction of time 10.
+    (&READS, Err(FormFault::ReadNotBelow(0))),
+    // No transaction is of time 0.
+    (&TIMELESS, Err(FormFault::ZeroTime)),
+    // Neither a read nor a write.
+    (&EMPTY, Err(FormFault::Empty)),
+];
+
 #[test]
 fn forms_are_told_apart(rt: HostRuntime) -> Result<(), Fail> {
-    assert!(rt; form_of(&WRITES)? == Ok(()));
-    assert!(rt; form_of(&READS)? == Err(FormFault::ReadNotBelow(0)));
-    assert!(rt; form_of(&TIMELESS)? == Err(FormFault::ZeroTime));
-    assert!(rt; form_of(&EMPTY)? == Err(FormFault::Empty));
-    assert!(rt; has_good_form(TransactionView::read(&WRITES, 0)?));
-    assert!(rt; !has_good_form(TransactionView::read(&READS, 0)?));
+    for &(bytes, form) in FORMS {
+        assert!(rt; form_of(bytes)? == form);
+        assert!(rt; has_good_form(TransactionView::read(bytes, 0)?) == form.is_ok());
+    }
     Ok(())
 }
 
@@ -222,15 +232,23 @@ fn conflicts_are_strictly_between(rt: HostRuntime) -> Result<(), Fail> {
     Ok(())
 }
 
+/// Transactions, whether each conflicts with the reader, and whether it writes a.
+const BESIDE_THE_READER: &[(&[u8], bool, bool)] = &[
+    // The reader itself, which writes nothing.
+    (&READER, false, false),
+    // A deletion of a between the version that was read and the reader.
+    (&DELETES, true, true),
+];
+
 #[test]
 fn deletions_conflict_as_writes_do(rt: HostRuntime) -> Result<(), Fail> {
     let reader = TransactionView::read(&READER, 0)?;
-    let deleter = TransactionView::read(&DELETES, 0)?;
-    assert!(rt; !conflict(reader, reader));
-    assert!(rt; conflict(deleter, reader));
-    assert!(rt; conflict(reader, deleter));
-    assert!(rt; writes_key(deleter, b"a"));
-    assert!(rt; !writes_key(deleter, b"b"));
-    assert!(rt; !writes_key(reader, b"a"));
+    for &(bytes, conflicts, writes) in BESIDE_THE_READER {
+        let other = TransactionView::read(bytes, 0)?;
+        assert!(rt; conflict(other, reader) == conflicts);
+        assert!(rt; conflict(reader, other) == conflicts);
+        assert!(rt; writes_key(other, b"a") == writes);
+        assert!(rt; !writes_key(other, b"b"));
+    }
     Ok(())
 }

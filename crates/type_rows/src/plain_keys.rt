@@ -26,23 +26,52 @@ const SIGNATURE: [u8; 32] = [
     0x07, 0x66, 0x8b, 0xbf, 0x47, 0xff, 0x18, 0x91, 0x4a, 0x3d, 0x14, 0xe3, 0x63, 0xf7, 0xa6, 0x0e,
 ];
 
+const REPLICA: Party = Party::Replica { shard: 0, index: 0 };
+
+const CLIENT: Party = Party::Client { number: 1 };
+
+/// Parties and their seeds.
+const SEEDS: &[(Party, [u8; 32])] = &[(REPLICA, SEED), (CLIENT, CLIENT_SEED)];
+
 #[test]
-fn a_plain_signature_is_accepted(rt: HostRuntime) -> Result<(), Fail> {
+fn a_seed_is_a_digest_of_its_party(rt: HostRuntime) -> Result<(), Fail> {
+    for &(party, seed) in SEEDS {
+        assert!(rt; seed_of(party) == seed);
+    }
+    Ok(())
+}
+
+/// Parties, messages, and whether the replica's signature of the byte 07 is accepted of them.
+const ASKED: &[(Party, &[u8], bool)] = &[
+    // The signer and its message.
+    (REPLICA, &[7], true),
+    // Another message.
+    (REPLICA, &[8], false),
+    // Another party.
+    (CLIENT, &[7], false),
+];
+
+#[test]
+fn a_signature_is_of_one_party_and_message(rt: HostRuntime) -> Result<(), Fail> {
     let cluster = Cluster::new(0, 1, 1, 100)?;
     let keys = PlainKeys::new(&cluster);
-    let party = Party::Replica { shard: 0, index: 0 };
-    assert!(rt; seed_of(party) == SEED);
-    assert!(rt; seed_of(Party::Client { number: 1 }) == CLIENT_SEED);
-    let mut pen = PlainPen::new(party);
-    assert!(rt; pen.party() == party);
-    assert!(rt; pen.size() == 32);
+    for &(party, message, accepted) in ASKED {
+        assert!(rt; keys.accepts(party, message, &SIGNATURE) == accepted);
+    }
+    Ok(())
+}
+
+/// A pen gives the signature of its party, which is accepted, and has one fewer left.
+#[test]
+fn a_plain_pen_signs(rt: HostRuntime) -> Result<(), Fail> {
+    let cluster = Cluster::new(0, 1, 1, 100)?;
+    let keys = PlainKeys::new(&cluster);
+    let mut pen = PlainPen::new(REPLICA);
     let mut out = [0u8; 32];
+    assert!(rt; pen.party() == REPLICA);
+    assert!(rt; pen.size() == out.len());
     assert!(rt; sign_and_ask(&keys, &mut pen, &[7], &mut out).is_ok());
     assert!(rt; out == SIGNATURE);
     assert!(rt; pen.left() == u64::MAX - 1);
-    assert!(rt; keys.accepts(party, &[7], &SIGNATURE));
-    assert!(rt; !keys.accepts(party, &[8], &SIGNATURE));
-    let other = Party::Client { number: 1 };
-    assert!(rt; !keys.accepts(other, &[7], &SIGNATURE));
     Ok(())
 }
