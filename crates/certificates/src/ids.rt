@@ -6,13 +6,12 @@ ghost use Rattle.certificates.specs.Pairs.{pair_of};
 
 use crate::pair::Pair;
 use crate::refusal::CertRefusal;
-use basil_types::bytes::id_of;
 
 /// Refuses a certificate of another id than the transaction's.
 pub(crate) fn own_id(pair: &Pair<'_>) -> Result<(), CertRefusal>
     ensures { Refuses result (wrong_id (pair_of pair.now)) }
 {
-    let id = id_of(pair.transaction.bytes());
+    let id = pair.transaction.id();
     if pair.id.as_slice() == id.as_slice() {
         Ok(())
     } else {

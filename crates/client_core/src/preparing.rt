@@ -31,7 +31,6 @@ use crate::fault::CallFault;
 use crate::held::{Held, Slot};
 use crate::seat::Seat;
 use crate::work::{ClientPlan, Work};
-use basil_types::bytes::id_of;
 use basil_types::cluster::Cluster;
 use basil_types::memory::NoMemory;
 use basil_types::transaction::Transaction;
@@ -155,7 +154,7 @@ fn pending_for(seat: &Seat, t: &Transaction, size: usize) -> Result<Pending, NoM
         (parties_in seat.now.cluster t.now)) }
 {
     let frames = first_frames(seat, t, size)?;
-    let id = id_of(t.view().bytes());
+    let id = t.view().id();
     let pending = Pending::new(seat.alloc, Words::transaction(&id), frames, size)?;
     Ok(pending)
 }

@@ -16,7 +16,6 @@ use crate::reply_plans::plan_reply;
 use crate::seat::Seat;
 use crate::taking::plan_named;
 use crate::work::ClientPlan;
-use basil_types::bytes::id_of;
 use certificates::FrameFault;
 use frame_views::frames::{MessageView, check};
 use keyring::verifier::Verifier;
@@ -42,7 +41,7 @@ fn plan_message<V: Verifier>(
         MessageView::Vote(vote) => plan_named(held, seat, keys, &vote.id, m),
         MessageView::LogReply(reply) => plan_named(held, seat, keys, &reply.id, m),
         MessageView::Writeback(writeback) => {
-            let named = id_of(writeback.transaction.bytes());
+            let named = writeback.transaction.id();
             plan_named(held, seat, keys, &named, m)
         }
         MessageView::Read(_)

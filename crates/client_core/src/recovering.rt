@@ -23,7 +23,7 @@ use crate::held::{Formed, Held, MOST_SLOTS, Slot};
 use crate::reading::plan_nothing;
 use crate::seat::Seat;
 use crate::work::{ClientPlan, Work};
-use basil_types::bytes::{Bytes, id_of};
+use basil_types::bytes::Bytes;
 use basil_types::cluster::Cluster;
 use basil_types::memory::NoMemory;
 use basil_types::outbox::Outbox;
@@ -163,7 +163,7 @@ pub(crate) fn plan_recover(
         Ok(()) => {}
         Err(fault) => return Err(CallFault::BadTransaction(fault)),
     }
-    let id = id_of(t.view().bytes());
+    let id = t.view().id();
     match held.slot_of_id(&id) {
         Some(place) => match plan_held(held, seat, place) {
             Ok(plan) => Ok(plan),

@@ -1,6 +1,7 @@
 pub mod Walks
 pub mod VoteLaws
 pub mod CountLaws
+pub mod VoterLaws
 pub mod ReplyLaws
 pub mod TakeLaws
 pub mod MarkLaws

@@ -1,31 +1,31 @@
-//! A count of each shard.
+//! Counts, each at a place of its own.
 
 ghost use Rattle.std.specs.Prelude.{◌≡◌, ℕ, ◌+◌, ◌-◌, ◌<◌, ◌^◌, ◌==◌, if◌then◌else◌};
 ghost use Rattle.client_recover.specs.Counts.{count_at};
 
-/// The count of a shard; none where it has no place.
-pub(crate) fn count_of(counts: &[u32; 8], shard: u8) -> u32
-    ensures { result ≡ count_at counts.now shard }
+/// The count at a place; none behind the last.
+pub(crate) fn count_of<const N: usize>(counts: &[u32; N], place: usize) -> u32
+    ensures { result ≡ count_at counts.now place }
 {
-    if shard < 8 { counts[shard as usize] } else { 0 }
+    if place < N { counts[place] } else { 0 }
 }
 
-/// Counts one more of a shard.
-pub(crate) fn raise(counts: &mut [u32; 8], raised: u8)
-    requires place { raised < 8 }
+/// Counts one more at a place.
+pub(crate) fn raise<const N: usize>(counts: &mut [u32; N], raised: usize)
+    requires place { raised < N }
     requires few { count_at counts.old raised + 1 < 2 ^ 32 }
-    ensures { (shard : ℕ) →
-        count_at counts.new shard ≡ count_at counts.old shard + (if raised == shard then 1 else 0) }
+    ensures { (place : ℕ) →
+        count_at counts.new place ≡ count_at counts.old place + (if raised == place then 1 else 0) }
 {
-    counts[raised as usize] += 1;
+    counts[raised] += 1;
 }
 
-/// Counts one less of a shard.
-pub(crate) fn lower(counts: &mut [u32; 8], lowered: u8)
-    ensures { (shard : ℕ) →
-        count_at counts.new shard ≡ count_at counts.old shard - (if lowered == shard then 1 else 0) }
+/// Counts one less at a place.
+pub(crate) fn lower<const N: usize>(counts: &mut [u32; N], lowered: usize)
+    ensures { (place : ℕ) →
+        count_at counts.new place ≡ count_at counts.old place - (if lowered == place then 1 else 0) }
 {
-    if lowered < 8 {
-        counts[lowered as usize] = counts[lowered as usize].saturating_sub(1);
+    if lowered < N {
+        counts[lowered] = counts[lowered].saturating_sub(1);
     }
 }

@@ -15,8 +15,8 @@ use crate::fast::{conflict, fast};
 use crate::involved::Involved;
 use crate::logs::{LastLog, Logs};
 use crate::second::{ToLog, decision_by, logged};
-use crate::votes::{CountedVote, Votes, has_voted};
-use basil_types::bytes::{Bytes, id_of};
+use crate::votes::{CountedVote, Votes};
+use basil_types::bytes::Bytes;
 use basil_types::cluster::Cluster;
 use basil_types::memory::NoMemory;
 use basil_types::party::Decision;
@@ -514,7 +514,8 @@ impl Pursuit {
             self.last = Last::Same;
             return Ok(());
         }
-        if has_voted(self.votes.as_slice(), vote.shard, vote.replica) {
+        let _ = self.cluster.n();
+        if self.votes.has_voted(vote.shard, vote.replica) {
             self.last = Last::Same;
             return Ok(());
         }
@@ -693,7 +694,7 @@ impl Pursuit {
     fn is_of(&self, t: TransactionView<'_>) -> bool
         ensures { result ≡ bytes_eq (transactions.id (transaction_of t.entry)) (transactions.id self.now.transaction) }
     {
-        id_of(t.bytes()).as_slice() == self.id.as_slice()
+        t.id().as_slice() == self.id.as_slice()
     }
 
     /// Takes a valid certificate.
@@ -738,7 +739,7 @@ fn id_fits(id: &[u8; 32])
 fn own_id(t: &Transaction) -> [u8; 32]
     ensures { result ≡ transactions.id t.now }
 {
-    id_of(t.view().bytes())
+    t.id()
 }
 
 /// The shards of a transaction's keys.

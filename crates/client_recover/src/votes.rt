@@ -2,6 +2,7 @@
 
 ghost use Rattle.std.specs.Prelude.{◌≡◌, find, ◌&&◌, ◌==◌};
 ghost use Rattle.std.specs.Option.{option_copied};
+ghost use Rattle.client_recover.specs.Counts as counts;
 ghost use Rattle.client_recover.specs.Kept as kept;
 ghost use Rattle.client_recover.specs.Kept.{is_so};
 
@@ -22,13 +23,11 @@ pub struct CountedVote {
     pub signature: Bytes,
 }
 
-/// Whether a vote of a replica of a shard is among these.
-pub(crate) fn has_voted(votes: &[CountedVote], shard: u8, replica: u8) -> bool
-    ensures { result ≡ kept.has_voted shard replica votes.now }
+/// The place of a replica of a shard among the counts.
+fn place_of(shard: u8, replica: u8) -> usize
+    ensures { result ≡ counts.place_of shard replica }
 {
-    votes
-        .iter()
-        .any(|vote| shard == vote.shard && replica == vote.replica)
+    usize::from(shard) * 32 + usize::from(replica)
 }
 
 /// The first of these votes that is of this replica of this shard, for this decision.
@@ -46,17 +45,18 @@ pub(crate) fn vote_by(
     })
 }
 
-/// The votes that count, and of each shard how many of them are for either decision.
+/// The votes that count, and how many of them are of each shard for either decision, and of each replica.
 #[derive(Drop)]
 pub struct Votes {
     list: Vec<CountedVote>,
     commits: [u32; 8],
     aborts: [u32; 8],
+    voters: [u32; 256],
 }
 
 impl Model for Votes {
     ghost use Rattle.std.specs.Prelude.{List};
-    ghost use Rattle.client_recover.specs.Counts.{CountsOf};
+    ghost use Rattle.client_recover.specs.Counts.{CountsOf, VotersOf};
     ghost use Rattle.basil_types.specs.declared.party.Decision.TheVariants.{Commit, Abort};
     ghost use Rattle.client_recover.specs.declared.votes.CountedVote.{CountedVote};
 
@@ -64,7 +64,8 @@ impl Model for Votes {
 
     ghost view = { λ v. v.list.items };
 
-    ghost invariant = { λ v. CountsOf Commit v.list.items v.commits × CountsOf Abort v.list.items v.aborts };
+    ghost invariant = { λ v. CountsOf Commit v.list.items v.commits × CountsOf Abort v.list.items v.aborts
+        × VotersOf v.list.items v.voters };
 }
 
 impl Votes {
@@ -81,6 +82,7 @@ impl Votes {
             list: Vec::new(alloc),
             commits: [0; 8],
             aborts: [0; 8],
+            voters: [0; 256],
         }
     }
 
@@ -98,16 +100,27 @@ impl Votes {
         self.list.len()
     }
 
+    /// Whether a vote of a replica of a shard is among them.
+    pub(crate) fn has_voted(&self, shard: u8, replica: u8) -> bool
+        requires { replica < 32 }
+        ensures { result ≡ kept.has_voted shard replica self.now }
+    {
+        count_of(&self.voters, place_of(shard, replica)) != 0
+    }
+
     /// Counts a vote, the last of them.
     pub(crate) fn push(&mut self, vote: CountedVote) -> Result<(), NoMemory>
         requires place { vote.shard < 8 }
+        requires replica { vote.replica < 32 }
         requires few { length self.old + 1 < 2 ^ 32 }
         ensures pushed { OnOk result (self.new ≡ self.old ++ vote ∷ []) }
         ensures as_before { OnErr result (self.new ≡ self.old) }
     {
-        let shard = vote.shard;
+        let shard = usize::from(vote.shard);
+        let place = place_of(vote.shard, vote.replica);
         let decision = vote.decision;
         self.list.push(vote)?;
+        raise(&mut self.voters, place);
         match decision {
             Decision::Commit => raise(&mut self.commits, shard),
             Decision::Abort => raise(&mut self.aborts, shard),
@@ -120,10 +133,14 @@ impl Votes {
         ensures { self.new ≡ take (length self.old - 1) self.old }
     {
         match self.list.pop() {
-            Some(vote) => match vote.decision {
-                Decision::Commit => lower(&mut self.commits, vote.shard),
-                Decision::Abort => lower(&mut self.aborts, vote.shard),
-            },
+            Some(vote) => {
+                let shard = usize::from(vote.shard);
+                lower(&mut self.voters, place_of(vote.shard, vote.replica));
+                match vote.decision {
+                    Decision::Commit => lower(&mut self.commits, shard),
+                    Decision::Abort => lower(&mut self.aborts, shard),
+                }
+            }
             None => {}
         }
     }
@@ -133,8 +150,8 @@ impl Votes {
         ensures { result ≡ length (votes_so self.now decision shard) }
     {
         match decision {
-            Decision::Commit => count_of(&self.commits, shard),
-            Decision::Abort => count_of(&self.aborts, shard),
+            Decision::Commit => count_of(&self.commits, usize::from(shard)),
+            Decision::Abort => count_of(&self.aborts, usize::from(shard)),
         }
     }
 

@@ -1,21 +1,16 @@
 -- Clients are asked.
-use Rattle.std.proofs.Common.{◌≡◌, ◌∙◌, ◌<◌, ◌≤◌, ℕ, zero, suc, ◌+◌, ◌-◌, Bool, true, false, cond, List, [], ◌∷◌, length, map, refl, sym}
+use Rattle.std.proofs.Common.{◌≡◌, ◌∙◌, ◌<◌, ◌≤◌, ℕ, suc, ◌+◌, ◌-◌, true, false, cond, List, length, refl, sym}
 use Rattle.std.proofs.Common.{ap, subst, arith}
 use Rattle.std.proofs.lemmas.Bool.{le-leb}
 use Rattle.std.proofs.lemmas.Option.{same_Some}
-use Rattle.std.specs.Prelude.{Option, Some, None, Result, Ok, Err, nat_le, slice_get, slice_set}
+use Rattle.std.specs.Prelude.{Some, None, Result, Ok, Err, slice_get, slice_set}
 use Rattle.basil_types.specs.declared.memory.NoMemory.{NoMemory}
-use Rattle.basil_types.specs.declared.party.Party.{Party}
-use Rattle.basil_types.specs.declared.party.Party.TheVariants.{Replica, Client}
+use Rattle.basil_types.specs.declared.party.Party.TheVariants.{Client}
 use Rattle.certificates.specs.declared.fault.FrameFault.{FrameFault}
 use Rattle.client_core.specs.Answers.{on_frame}
-use Rattle.client_core.specs.Asks.{answer_to, by_call, by_frame}
-use Rattle.client_core.specs.Clients.{ClientDone, ClientSelf, ClientValue}
-use Rattle.client_core.specs.declared.ask.Ask.{Ask}
-use Rattle.client_core.specs.declared.ask.Ask.TheVariants as asks
+use Rattle.client_core.specs.Asks.{by_frame}
+use Rattle.client_core.specs.Clients.{ClientDone, ClientValue}
 use Rattle.client_core.specs.declared.ask.AskFault.{AskFault}
-use Rattle.client_core.specs.declared.ask.AskFault.TheVariants.{Call, Frame}
-use Rattle.client_core.specs.declared.fault.CallFault.{CallFault}
 use Rattle.keyring.specs.declared.verifier.Verifier as verifiers
 use Rattle.keyring.specs.declared.signer.Signer as signers
 use Rattle.message_pool.specs.declared.pool.Room.{Room}
@@ -25,9 +20,8 @@ use Rattle.cluster_nodes.specs.declared.calling.StandingClient.{StandingClient}
 use Rattle.cluster_nodes.specs.declared.handled.Handled.{Handled}
 use Rattle.cluster_nodes.specs.declared.handled.Handled.TheVariants as did
 use Rattle.cluster_nodes.specs.Asking as asking
-use Rattle.cluster_nodes.specs.Handling.{HasRoom, IsWithin, fits}
+use Rattle.cluster_nodes.specs.Handling.{IsWithin, fits}
 use Rattle.cluster_nodes.specs.Standings.{HoldsAs}
-use Rattle.cluster_run.specs.declared.fault.WorldFault.{WorldFault}
 use Rattle.cluster_run.specs.Parts.{client_did, client_handles, client_self}
 use Rattle.cluster_run.specs.States.{Setup, State, client_at}
 use Rattle.cluster_world.specs.Asking.{Asked, Does, HasEntry, with_client}
@@ -35,7 +29,7 @@ use Rattle.cluster_world.specs.declared.engine.Engine.{Engine}
 use Rattle.cluster_world.specs.declared.fault.StepFault.{StepFault}
 use Rattle.cluster_world.specs.declared.taking.Took.{Took}
 use Rattle.cluster_world.specs.Pairs.{Pairs}
-use Rattle.cluster_world.specs.Sending.{HasRoomFor, room_of}
+use Rattle.cluster_world.specs.Sending.{room_of}
 use Rattle.cluster_world.specs.Shows.{IsCaller, Stands}
 use Rattle.cluster_world.specs.Taking.{Handles, Sends, Takes, took_of}
 use Rattle.cluster_world.proofs.SendingLaws.{Leaves, within_limits}
@@ -140,6 +134,8 @@ module _ {V S : Type 0} (v : verifiers.Ghosts V) (g : signers.Ghosts S) (s : Set
         mail = d.sent;
         after = record st { clients = slice_set st.clients (client - 1) d.client };
         same = refl;
+        watched = refl;
+        certified = refl;
         is = λ number. handled_by number (Ok d) e;
       }
 

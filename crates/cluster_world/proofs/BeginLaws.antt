@@ -191,7 +191,7 @@ module _ {V S : Type 0} (v : verifiers.Ghosts V) (g : signers.Ghosts S) (s : Set
 
     pub client_shows : (c : ClientValue) → HoldsAs s (suc place) node c → Shows s new (with_client place c st)
     client_shows c one =
-        record { stands = stands_client v g s old new st node place own set h.stands c one; posts = same_posts }
+        record { stands = stands_client v g s old new st node place own set h.stands c one; posts = same_posts; seen = h.seen }
 
     pub calls_by : {A : Type 0} (c : ClientValue) (answer : Result ClientDone CallFault) (r : Result A CallFault) →
         slice_get st.clients place ≡ Some c → Called s (suc place) c answer r node → CallsAt s st place answer new r
@@ -201,6 +201,7 @@ module _ {V S : Type 0} (v : verifiers.Ghosts V) (g : signers.Ghosts S) (s : Set
       record {
         stands = stands_kept v g s old new st node place own set h.stands c at a.1;
         posts = same_posts;
+        seen = h.seen;
       },
     )
 
@@ -236,6 +237,7 @@ module _ {V S : Type 0} (v : verifiers.Ghosts V) (g : signers.Ghosts S) (s : Set
       record {
         stands = stands_begun old new st begun own is h.stands;
         posts = ap (λ (x : Engine V S v g). x.pool.posts) own ∙ h.posts;
+        seen = h.seen;
       }
 
   -- a begun transaction is another

@@ -1,17 +1,16 @@
 -- What a call of a client comes to.
-use Rattle.std.proofs.Common.{◌≡◌, ◌∙◌, ◌<◌, ℕ, zero, suc, ◌+◌, ◌-◌, arith, Bool, true, false, cond, List, [], ◌∷◌, length, map, refl, sym}
+use Rattle.std.proofs.Common.{◌≡◌, ◌∙◌, ◌<◌, ℕ, suc, ◌-◌, arith, false, List, length, map, sym}
 use Rattle.std.proofs.Common.{ap, subst}
-use Rattle.std.proofs.lemmas.Option.{same_Some}
-use Rattle.std.specs.Prelude.{Option, Some, None, Result, Ok, Err, slice_get, slice_set}
+use Rattle.std.specs.Prelude.{Some, Result, Ok, Err, slice_get, slice_set}
 use Rattle.basil_types.specs.declared.outbox.Outbox.{Outbox}
 use Rattle.basil_types.specs.declared.party.Party.{Party}
-use Rattle.basil_types.specs.declared.party.Party.TheVariants.{Replica, Client}
+use Rattle.basil_types.specs.declared.party.Party.TheVariants.{Client}
 use Rattle.basil_types.specs.Words.{SignedWords}
 use Rattle.client_core.specs.Asks.{answer_to, by_call}
 use Rattle.client_core.specs.declared.ask.Ask.{Ask}
 use Rattle.client_core.specs.Clients.{ClientDone, ClientValue}
 use Rattle.client_core.specs.declared.ask.AskFault.{AskFault}
-use Rattle.client_core.specs.declared.ask.AskFault.TheVariants.{Call, Frame}
+use Rattle.client_core.specs.declared.ask.AskFault.TheVariants.{Call}
 use Rattle.client_core.specs.declared.fault.CallFault.{CallFault}
 use Rattle.keyring.specs.declared.verifier.Verifier as verifiers
 use Rattle.keyring.specs.declared.signer.Signer as signers
@@ -20,19 +19,18 @@ use Rattle.node_steps.specs.Envelopes.{EnvelopeValue}
 use Rattle.cluster_nodes.specs.declared.handled.Handled.{Handled}
 use Rattle.cluster_nodes.specs.declared.handled.Handled.TheVariants as did
 use Rattle.cluster_nodes.specs.Handling.{Holds, fits}
-use Rattle.cluster_run.specs.declared.fault.WorldFault.{WorldFault}
 use Rattle.cluster_run.specs.declared.fault.WorldFault.TheVariants as worlds
 use Rattle.cluster_run.specs.Events.{at_client, by_client, called}
-use Rattle.cluster_run.specs.Parts.{client_self, has_room, mail_of, noted, send}
+use Rattle.cluster_run.specs.Parts.{client_self, mail_of, noted, send}
 use Rattle.cluster_run.specs.States.{Setup, State, client_at}
 use Rattle.premise_watch.specs.declared.broken.WatchFault.{WatchFault}
 use Rattle.cluster_world.specs.Asking.{Does, with_client}
-use Rattle.cluster_world.specs.Breaking.{step_fault}
 use Rattle.cluster_world.specs.Comes.{Comes}
 use Rattle.cluster_world.specs.declared.engine.Engine.{Engine}
 use Rattle.cluster_world.specs.declared.fault.StepFault.{StepFault}
 use Rattle.cluster_world.specs.declared.fault.StepFault.TheVariants as faults
 use Rattle.cluster_world.specs.Sending.{Goes, IsWithin, full_of, room_of}
+use Rattle.sight_laws.specs.Seen.{PoolIsSeen}
 use Rattle.cluster_world.specs.Shows.{IsCaller, Shows, Stands, limits_of}
 use Rattle.cluster_world.proofs.PairLaws.{here, pairs_length}
 use Rattle.cluster_world.proofs.SendingLaws.{SameSize, fits_room, full_by, same_size}
@@ -68,33 +66,33 @@ module _ {V S : Type 0} (v : verifiers.Ghosts V) (g : signers.Ghosts S) (s : Set
 
   -- a refused call
   pub call_refused : (core : Engine V S v g) (fault : AskFault) (f : CallFault) → fault ≡ Call f →
-      Does s st place core.pool (by_call answer) core (did.Refused fault) → core.pool.posts ≡ st.pool →
+      Does s st place core.pool (by_call answer) core (did.Refused fault) → core.pool.posts ≡ st.pool → PoolIsSeen s st →
       Comes s st (called s number answer st) core (Err (faults.World (worlds.Call f)))
-  call_refused core fault f is a posts = (
+  call_refused core fault f is a posts seen = (
     ap (λ r. called s number r st) (call_err answer f (a.0 ∙ ap Err is)),
-    record { stands = a.1; posts = posts },
+    record { stands = a.1; posts = posts; seen = seen },
   )
 
-  pub call_full : (core : Engine V S v g) → IsWithin core.pool → core.pool.posts ≡ st.pool →
+  pub call_full : (core : Engine V S v g) → IsWithin core.pool → core.pool.posts ≡ st.pool → PoolIsSeen s st →
       Does s st place core.pool (by_call answer) core did.Full →
       Comes s st (called s number answer st) core (Err (full_of core.pool))
-  call_full core in_limits posts a = (
+  call_full core in_limits posts seen a = (
     ap (λ r. called s number r st) (call_ok answer a.0 a.1)
         ∙ send_full s core.pool (next a.0) (Client number) a.0.signed a.0.sent in_limits (same_size core.pool.posts st.pool posts)
         a.3.limits a.2,
-    record { stands = a.3; posts = posts },
+    record { stands = a.3; posts = posts; seen = seen },
   )
 
   -- what the call sends
-  pub call_goes : (old new : Engine V S v g) (out : Outbox) (r : Result (Unit {0}) WatchFault) → old.pool.posts ≡ st.pool →
+  pub call_goes : (old new : Engine V S v g) (out : Outbox) (r : Result (Unit {0}) WatchFault) → old.pool.posts ≡ st.pool → PoolIsSeen s st →
       Does s st place old.pool (by_call answer) old (did.Sent out) →
       ((now : State) (said : List SignedWords) (mail : List EnvelopeValue) → Shows s old now → Holds out mail said →
       Goes s (send s (Client number) said mail now) new r) → Goes s (called s number answer st) new r
-  call_goes old new out r posts a go =
+  call_goes old new out r posts seen a go =
       let d = a.0 in
       subst (λ x. Goes s x new r)
       (ap (λ st. send s (Client number) d.signed d.sent st) (next_same d) ∙ sym (ap (λ x. called s number x st) (call_ok answer d a.1)))
-      (go (with_client place d.client st) d.signed d.sent (record { stands = a.4; posts = posts }) a.3)
+      (go (with_client place d.client st) d.signed d.sent (record { stands = a.4; posts = posts; seen = seen }) a.3)
 
 -- a call of a client of the cluster
 pub call_comes : {V S : Type 0} (v : verifiers.Ghosts V) (g : signers.Ghosts S) (s : Setup) (st : State) (number place : ℕ) →
@@ -104,7 +102,7 @@ pub call_comes : {V S : Type 0} (v : verifiers.Ghosts V) (g : signers.Ghosts S) 
     ((c : ClientValue) → answer_to (client_self s number) c ask ≡ by_call (call c)) → mid.pool ≡ old.pool →
     ((c : ClientValue) → Stands s old st → slice_get st.clients place ≡ Some c →
     Does s st place old.pool (answer_to (client_self s (suc place)) c ask) mid handled) →
-    ((answer : Result ClientDone CallFault) → suc place ≡ number → mid.pool.posts ≡ st.pool →
+    ((answer : Result ClientDone CallFault) → suc place ≡ number → mid.pool.posts ≡ st.pool → PoolIsSeen s st →
     Does s st place mid.pool (by_call answer) mid handled → Comes s st (called s number answer st) new r) →
     Comes s st (by_client s number call st) new r
 call_comes v g s st number place e old mid new ask call handled r h within somebody is same asked answered =
@@ -114,6 +112,6 @@ call_comes v g s st number place e old mid new ask call handled r h within someb
     let meant : answer_to (client_self s (suc place)) c.0 ask ≡ by_call (call c.0) =
     ap (λ n. answer_to (client_self s n) c.0 ask) e ∙ is c.0 in
     subst (λ x. Comes s st x new r) (sym (ap (λ o. at_client s number call o st) (somebody ∙ c.1)))
-    (answered (call c.0) e (ap (λ (q : PoolValue). q.posts) same ∙ h.posts)
+    (answered (call c.0) e (ap (λ (q : PoolValue). q.posts) same ∙ h.posts) h.seen
     (subst (λ a. Does s st place mid.pool a mid handled) meant
     (subst (λ (q : PoolValue). Does s st place q (answer_to (client_self s (suc place)) c.0 ask) mid handled) (sym same) does)))

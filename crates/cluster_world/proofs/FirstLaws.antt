@@ -1,5 +1,5 @@
 -- Faulty clients form, sign and send their transactions.
-use Rattle.std.proofs.Common.{◌≡◌, ◌∙◌, ◌<◌, ℕ, Bool, true, false, cond, List, [], ◌∷◌, ◌++◌, length, map, refl, sym, ap, subst}
+use Rattle.std.proofs.Common.{◌≡◌, ◌∙◌, ℕ, Bool, true, false, cond, List, [], length, map, refl, sym, ap, subst}
 use Rattle.std.specs.Result.{IsErrAnd}
 use Rattle.std.specs.Option.{option_map_or}
 use Rattle.std.specs.Prelude.{Option, Some, None, Result, Ok, Err, nat_le, ◌&&◌, option_map, slice_get}
@@ -17,7 +17,6 @@ use Rattle.cluster_run.specs.Events.{Prepare, happens, prepare_fault, prepares_a
 use Rattle.cluster_run.specs.Faulty.{after_lie, faulty_signature, has_left}
 use Rattle.cluster_run.specs.Parts.{enter, enter_all, mail_of, send}
 use Rattle.cluster_run.specs.States.{BegunValue, FormedValue, Setup, State}
-use Rattle.faulty_parties.specs.declared.pens.Pens.{Pens}
 use Rattle.faulty_parties.specs.Pens.{LiesAs}
 use Rattle.faulty_parties.specs.Unsaid.{Unsaid, unsaid_first}
 use Rattle.keyring.specs.declared.verifier.Verifier as verifiers
@@ -35,8 +34,7 @@ use Rattle.run_begun.specs.Adding.{FormingIsRefused, forming_fault}
 use Rattle.cluster_world.specs.Comes.{Comes}
 use Rattle.cluster_world.specs.declared.engine.Engine.{Engine}
 use Rattle.cluster_world.specs.declared.fault.StepFault.{StepFault}
-use Rattle.cluster_world.specs.declared.fault.StepFault.TheVariants as faults
-use Rattle.cluster_world.specs.Lying.{CantForm, built_of, exhausted}
+use Rattle.cluster_world.specs.Lying.{built_of, exhausted}
 use Rattle.cluster_world.specs.Sending.{Goes, HasRoomFor, full_of, mails}
 use Rattle.cluster_world.specs.Shows.{Shows, Stands}
 use Rattle.cluster_world.proofs.LyingLaws.{room_tells, signed_shows}
@@ -113,7 +111,7 @@ module _ {V S : Type 0} (v : verifiers.Ghosts V) (g : signers.Ghosts S) (s : Set
         ∙ ap (λ l. enter s (mails client l) next) (sym (same ∙ ap (λ x. map framed (u.sent (faulty_signature s st x u.words))) own))
         ∙ enters_by s next (mails client messages) (room_by s next old.pool client messages h.posts h.stands.limits room)))
         (subst (λ x. Goes s (enter_all s (mails x messages) next) new r) own
-        (go next (record { stands = stands; posts = ap (λ (c : PoolValue). c.posts) pool ∙ shows.posts })))
+        (go next (record { stands = stands; posts = ap (λ (c : PoolValue). c.posts) pool ∙ shows.posts; seen = shows.seen })))
 
   -- ---- whether it is formed
 

@@ -1,10 +1,10 @@
 -- A frame is seen, and its receiver takes it.
-use Rattle.std.proofs.Common.{◌≡◌, ◌∙◌, ◌<◌, ◌≤◌, ℕ, zero, suc, ◌+◌, ◌-◌, Bool, true, false, cond, List, [], ◌∷◌, length, map, refl, sym}
-use Rattle.std.proofs.Common.{ap, subst, arith}
+use Rattle.std.proofs.Common.{◌≡◌, ◌∙◌, ◌≤◌, ℕ, zero, suc, ◌+◌, ◌-◌, Bool, true, false, cond, List, [], ◌∷◌, length, refl, sym}
+use Rattle.std.proofs.Common.{ap, subst}
 use Rattle.std.proofs.lemmas.Bool.{le-leb, lt-ltb}
 use Rattle.std.proofs.lemmas.Option.{same_Some}
 use Rattle.std.specs.Result.{IsErrAnd}
-use Rattle.std.specs.Prelude.{◌&&◌, ◌||◌, not, Option, Some, None, Result, Ok, Err, is_some, option_map, slice_get, slice_set, sum}
+use Rattle.std.specs.Prelude.{◌&&◌, ◌||◌, not, Option, Some, None, Result, Ok, Err, is_some, option_map, slice_get, slice_set}
 use Rattle.std.specs.Option.{option_map_or}
 use Rattle.basil_types.specs.declared.party.Party.{Party}
 use Rattle.basil_types.specs.Steps.{◌>>=◌}
@@ -17,7 +17,7 @@ use Rattle.basil_types.specs.declared.outbox.Outbox.{Outbox}
 use Rattle.basil_types.specs.Texts.{IsBytes}
 use Rattle.basil_types.specs.Words.{SignedWords}
 use Rattle.node_steps.specs.Envelopes.{EnvelopeValue}
-use Rattle.cluster_nodes.specs.Handling.{Holds, fits}
+use Rattle.cluster_nodes.specs.Handling.{Holds}
 use Rattle.cluster_run.specs.declared.fault.WorldFault.{WorldFault}
 use Rattle.cluster_run.specs.declared.fault.WorldFault.TheVariants as worlds
 use Rattle.cluster_run.specs.Parts.{are_bytes, handle, handle_by, hand, see, send}
@@ -25,7 +25,7 @@ use Rattle.cluster_run.specs.States.{Delivered, Setup, State, is_faulty}
 use Rattle.node_steps.specs.Pendings.{bytes_sent}
 use Rattle.premise_watch.specs.declared.broken.WatchFault.{WatchFault}
 use Rattle.premise_watch.specs.declared.broken.WatchFault.TheVariants as watches
-use Rattle.run_sight.specs.Sights.{SightValue, Sees, Ends, sight_of, taken_back}
+use Rattle.run_sight.specs.Sights.{Sees, Ends, sight_of, taken_back}
 use Rattle.cluster_world.specs.Breaking.{step_fault}
 use Rattle.cluster_run.specs.Events as events
 use Rattle.cluster_run.specs.Events.{happens, lost, marked}
@@ -36,10 +36,13 @@ use Rattle.cluster_world.specs.declared.fault.StepFault.TheVariants as faults
 use Rattle.cluster_world.specs.declared.taking.Took.{Took}
 use Rattle.cluster_world.specs.declared.taking.Took.TheVariants as tooks
 use Rattle.cluster_world.specs.Handing.{Hands, handling}
-use Rattle.cluster_world.specs.Sending.{Goes, HasRoomFor, full_of, room_of}
+use Rattle.cluster_world.specs.Sending.{Goes, has_frame_at}
 use Rattle.cluster_world.specs.Shows.{Shows, Stands}
+use Rattle.sight_laws.specs.Seen.{IsSeenFrame, PoolIsSeen}
+use Rattle.sight_laws.proofs.Growing.{see_grows, still}
+use Rattle.sight_laws.proofs.Happening.{marked_grows, pool_seen}
 use Rattle.cluster_world.specs.Taking.{Handles, IsTaken, Sends, Takes}
-use Rattle.cluster_world.proofs.SendingLaws.{SameSize, same_size, sum_cons, see_back, see_only, stands_pool, stands_pooled, with_seen}
+use Rattle.cluster_world.proofs.SendingLaws.{SameSize, same_size, seen_own, sum_cons, see_back, see_only, stands_pool, stands_pooled}
 use Rattle.cluster_world.proofs.CallLaws.{send_full}
 
 -- the fault that is told
@@ -152,6 +155,8 @@ module _ {V S : Type 0} (v : verifiers.Ghosts V) (g : signers.Ghosts S) (s : Set
         mail = a.mail;
         after = a.after;
         same = a.same;
+        watched = a.watched;
+        certified = a.certified;
         is = λ number. e number ∙ a.is number;
       }
 
@@ -173,13 +178,13 @@ not_seen_err v g s st pool from to frame core (Err x) w h e = not_seen v g s st 
 
 module _ {V S : Type 0} (v : verifiers.Ghosts V) (g : signers.Ghosts S) (s : Setup) (st : State) (pool : PoolValue) (handles : Handles)
     (message : ℕ) where
-  pub reacts_nothing : (core : Engine V S v g) → core.pool.posts ≡ st.pool → Takes s st pool handles core (Ok tooks.Nothing) →
+  pub reacts_nothing : (core : Engine V S v g) → core.pool.posts ≡ st.pool → PoolIsSeen s st → Takes s st pool handles core (Ok tooks.Nothing) →
       (after : State) × (handles message st ≡ Ok after) × Shows s core after
-  reacts_nothing core posts t = (st, t.0 message, record { stands = t.1; posts = posts })
+  reacts_nothing core posts seen t = (st, t.0 message, record { stands = t.1; posts = posts; seen = seen })
 
   pub reacts_refused : (old new : Engine V S v g) → new ≡ record old { refused = Some message } → old.pool.posts ≡ st.pool →
-      Takes s st pool handles old (Ok tooks.Refused) → (after : State) × (handles message st ≡ Ok after) × Shows s new after
-  reacts_refused old new own posts t =
+      PoolIsSeen s st → Takes s st pool handles old (Ok tooks.Refused) → (after : State) × (handles message st ≡ Ok after) × Shows s new after
+  reacts_refused old new own posts seen t =
       let h = t.1 in (
         record st { refused = Some message },
         t.0 message,
@@ -197,17 +202,19 @@ module _ {V S : Type 0} (v : verifiers.Ghosts V) (g : signers.Ghosts S) (s : Set
                 refused = refl;
               };
               posts = posts;
+              seen = seen;
             }),
       )
 
   pub reacts_sent : (old new : Engine V S v g) (party : Party) (out : Outbox) (r : Result (Unit {0}) WatchFault) →
-      old.pool.posts ≡ st.pool → Takes s st pool handles old (Ok (tooks.Sent party out)) →
+      old.pool.posts ≡ st.pool → PoolIsSeen s st → Takes s st pool handles old (Ok (tooks.Sent party out)) →
       ((now : State) (said : List SignedWords) (mail : List EnvelopeValue) → Shows s old now → Holds out mail said →
       Goes s (send s party said mail now) new r) → Goes s (handles message st) new r
-  reacts_sent old new party out r posts t go =
+  reacts_sent old new party out r posts seen t go =
       let a = t.0 in
+      let still_seen = pool_seen s st a.after (still s st a.after a.watched a.certified a.same) seen in
       subst (λ x. Goes s x new r) (sym (a.is message ∙ ap (λ p. send s p a.said a.mail a.after) (sym t.1)))
-      (go a.after a.said a.mail (record { stands = t.4; posts = posts ∙ sym a.same }) t.3)
+      (go a.after a.said a.mail (record { stands = t.4; posts = posts ∙ sym a.same; seen = still_seen }) t.3)
 
 -- ---- a message is delivered
 
@@ -284,6 +291,7 @@ module _ {V S : Type 0} (v : verifiers.Ghosts V) (g : signers.Ghosts S) (s : Set
           record {
             stands = stands_pool v g s new (record st { pool = now.pool }) st.pool (subst (Stands s new) same k);
             posts = ap (λ (q : PoolValue). q.posts) pool ∙ h.posts;
+            seen = h.seen;
           }
 
       sends : (seen : State) → see s frame now ≡ Ok seen → (a : Sends s (handling s from to frame) seen) →
@@ -321,31 +329,43 @@ takes_pooled v g s st pool handles old new own same (tooks.Sent party out) t =
 module _ {V S : Type 0} (v : verifiers.Ghosts V) (g : signers.Ghosts S) (s : Setup) (old mid : Engine V S v g) where
   module _ (st : State) (message : ℕ) (from to : Party) (frame : List ℕ) (o : Option (Party × Party)) (some : o ≡ Some (from, to))
       (parties : o ≡ option_map {U = Party × Party} (λ (p : Posted). (p.from, p.to)) (posted_at old.pool.posts message)) (one : 1 ≤ message)
-      (h : Shows s old st) (pool : mid.pool ≡ old.pool) where
+      (h : Shows s old st) (pool : mid.pool ≡ old.pool) (was_seen : Bool)
+      (own_is : was_seen ≡ has_frame_at old.pool.posts message frame) where
     it : IsPosted old.pool.posts message from to
     it = is_posted old.pool.posts message from to o some parties
 
     abbrev now : State
     now = marked_now v g s old st message from frame h to it
 
+    -- what the bytes of the message itself show was seen
+    was : was_seen ≡ true → IsSeenFrame s now.watch now.certified frame
+    was e = seen_own s st old.pool.posts message frame h.posts h.seen (sym own_is ∙ e)
+
+    now_seen : PoolIsSeen s now
+    now_seen =
+        pool_seen s st now
+        (marked_grows s message Delivered it.post st (ap (λ q. posted_at q message) (sym h.posts) ∙ it.is)) h.seen
+
     pub deliver_fails : (r : Result (Unit {0}) StepFault) (fault : StepFault) → IsErrAnd r (λ x. x ≡ fault) →
-        ((st : State) → Stands s old st → Hands s st old.pool from to frame mid (Err fault)) →
+        ((st : State) → (was_seen ≡ true → IsSeenFrame s st.watch st.certified frame) → Stands s old st →
+        Hands s st old.pool from to frame mid (Err fault)) →
         Comes s st (happens s (events.Deliver message frame) st) mid r
     deliver_fails r fault e hands =
         hand_fails v g s from to frame message st now old mid (happens s (events.Deliver message frame) st)
         (delivers v g s old st message from frame h to it) (same_marked v g s old st message from frame h to it one) refl pool h r fault e
-        (hands now (stands_pool v g s old st now.pool h.stands))
+        (hands now was (stands_pool v g s old st now.pool h.stands))
 
     pub deliver_comes : (marks new : Engine V S v g) → marks ≡ record mid { pool = marks.pool } →
         ((p : Posted) → posted_at mid.pool.posts message ≡ Some p →
         marks.pool.posts ≡ slice_set mid.pool.posts (message - 1) (record p { fate = Delivered })) →
         marks.pool.limits ≡ mid.pool.limits → (took : Took) (r : Result (Unit {0}) StepFault) →
-        ((st : State) → Stands s old st → Hands s st old.pool from to frame mid (Ok took)) →
-        ((now before : State) (pool : PoolValue) (handles : Handles) → marks.pool.posts ≡ now.pool →
+        ((st : State) → (was_seen ≡ true → IsSeenFrame s st.watch st.certified frame) → Stands s old st →
+        Hands s st old.pool from to frame mid (Ok took)) →
+        ((now before : State) (pool : PoolValue) (handles : Handles) → marks.pool.posts ≡ now.pool → PoolIsSeen s now →
         Takes s now pool handles marks (Ok took) → Comes s before (handles message now) new r) →
         Comes s st (happens s (events.Deliver message frame) st) new r
     deliver_comes marks new own set limits took r hands reacts =
-        let k = hands now (stands_pool v g s old st now.pool h.stands) in
+        let k = hands now was (stands_pool v g s old st now.pool h.stands) in
         let there : posted_at mid.pool.posts message ≡ Some it.post = ap (λ (q : PoolValue). posted_at q.posts message) pool ∙ it.is in
         let posts : marks.pool.posts ≡ k.0.pool =
         set it.post there
@@ -354,7 +374,7 @@ module _ {V S : Type 0} (v : verifiers.Ghosts V) (g : signers.Ghosts S) (s : Set
         ∙ sym (ap (λ (x : State). x.pool) (see_only s frame now k.0 k.1)) in
         subst (λ x. Comes s st x new r)
         (sym (delivers v g s old st message from frame h to it ∙ ap (λ x. x >>= handle s message from to frame) k.1))
-        (reacts k.0 st old.pool (handling s from to frame) posts
+        (reacts k.0 st old.pool (handling s from to frame) posts (pool_seen s now k.0 (see_grows s frame now k.0 k.1) now_seen)
         (takes_pooled v g s k.0 old.pool (handling s from to frame) mid marks own limits took k.2))
 
 -- the pool has room for what is sent, once the message is delivered
@@ -384,22 +404,25 @@ module _ {V S : Type 0} (v : verifiers.Ghosts V) (g : signers.Ghosts S) (s : Set
   way = diverts v g s old st message from frame h to other (is_posted old.pool.posts message from other o some parties)
 
   pub divert_fails : (r : Result (Unit {0}) StepFault) (fault : StepFault) → IsErrAnd r (λ x. x ≡ fault) →
-      ((st : State) → Stands s old st → Hands s st old.pool from to frame mid (Err fault)) →
+      ((st : State) → (false ≡ true → IsSeenFrame s st.watch st.certified frame) → Stands s old st →
+      Hands s st old.pool from to frame mid (Err fault)) →
       Comes s st (happens s (events.Divert message to frame) st) mid r
   divert_fails r fault e hands =
       hand_fails v g s from to frame message st st old mid (happens s (events.Divert message to frame) st) way
-      (same_size old.pool.posts st.pool h.posts) refl pool h r fault e (hands st h.stands)
+      (same_size old.pool.posts st.pool h.posts) refl pool h r fault e (hands st (λ e. absurd cc) h.stands)
 
   pub divert_comes : (new : Engine V S v g) (took : Took) (r : Result (Unit {0}) StepFault) →
-      ((st : State) → Stands s old st → Hands s st old.pool from to frame mid (Ok took)) →
-      ((now before : State) (pool : PoolValue) (handles : Handles) → mid.pool.posts ≡ now.pool →
+      ((st : State) → (false ≡ true → IsSeenFrame s st.watch st.certified frame) → Stands s old st →
+      Hands s st old.pool from to frame mid (Ok took)) →
+      ((now before : State) (pool : PoolValue) (handles : Handles) → mid.pool.posts ≡ now.pool → PoolIsSeen s now →
       Takes s now pool handles mid (Ok took) → Comes s before (handles message now) new r) →
       Comes s st (happens s (events.Divert message to frame) st) new r
   divert_comes new took r hands reacts =
-      let k = hands st h.stands in
+      let k = hands st (λ e. absurd cc) h.stands in
       subst (λ x. Comes s st x new r) (sym (way ∙ ap (λ x. x >>= handle s message from to frame) k.1))
       (reacts k.0 st old.pool (handling s from to frame)
-      (ap (λ (q : PoolValue). q.posts) pool ∙ h.posts ∙ sym (ap (λ (x : State). x.pool) (see_only s frame st k.0 k.1))) k.2)
+      (ap (λ (q : PoolValue). q.posts) pool ∙ h.posts ∙ sym (ap (λ (x : State). x.pool) (see_only s frame st k.0 k.1)))
+      (pool_seen s st k.0 (see_grows s frame st k.0 k.1) h.seen) k.2)
 
 -- ---- a loss
 
@@ -424,5 +447,6 @@ loses v g s old new st message o parties some own limits set h =
       record {
         stands = stands_pooled v g s old new after own limits (stands_pool v g s old st after.pool h.stands);
         posts = set p.0 p.1 ∙ ap (λ q. slice_set q (message - 1) (record p.0 { fate = lost p.0.fate })) h.posts;
+        seen = pool_seen s st after (marked_grows s message (lost p.0.fate) p.0 st (ap (λ q. posted_at q message) (sym h.posts) ∙ p.1)) h.seen;
       },
     )

@@ -1,15 +1,14 @@
 -- Faulty parties sign and send.
-use Rattle.std.proofs.Common.{◌≡◌, ◌∙◌, ◌<◌, ◌≤◌, ℕ, ◌+◌, ◌-◌, Bool, true, false, cond, List, [], ◌∷◌, ◌++◌, length, map, refl, sym, ap}
+use Rattle.std.proofs.Common.{◌≡◌, ◌∙◌, ◌≤◌, ℕ, true, false, cond, List, [], ◌∷◌, length, map, sym, ap}
 use Rattle.std.proofs.Common.{subst, arith}
 use Rattle.std.specs.Result.{IsErrAnd}
 use Rattle.std.specs.Option.{option_map_or}
-use Rattle.std.specs.Prelude.{Option, Some, None, Result, Ok, Err, nat_le, nat_lt, ◌&&◌, slice_get}
+use Rattle.std.specs.Prelude.{Some, Result, Ok, Err, nat_le, nat_lt, ◌&&◌}
 use Rattle.std.proofs.lemmas.Bool.{and_parts, leb-true}
 use Rattle.basil_types.specs.declared.outbox.Envelope.{Envelope}
 use Rattle.basil_types.specs.declared.party.Decision.{Decision}
 use Rattle.basil_types.specs.declared.party.Party.{Party}
 use Rattle.basil_types.specs.declared.party.Party.TheVariants.{Client}
-use Rattle.basil_types.specs.Words.{SignedWords}
 use Rattle.cluster_nodes.specs.Handling.{fits}
 use Rattle.cluster_run.specs.declared.fault.WorldFault.{WorldFault}
 use Rattle.cluster_run.specs.declared.fault.WorldFault.TheVariants as worlds
@@ -18,7 +17,6 @@ use Rattle.cluster_run.specs.Faulty.{LieValue, after_lie, faulty_second, faulty_
 use Rattle.cluster_run.specs.Parts.{enter, enter_all, mail_of}
 use Rattle.cluster_run.specs.States.{BegunValue, FormedValue, Setup, State, is_faulty}
 use Rattle.faulty_parties.specs.declared.lie.Lie.{Lie}
-use Rattle.faulty_parties.specs.declared.pens.Pens.{Pens}
 use Rattle.faulty_parties.specs.Holding.{mailed}
 use Rattle.faulty_parties.specs.Lies.{Tells}
 use Rattle.faulty_parties.specs.Pens.{LiesAs}
@@ -32,15 +30,14 @@ use Rattle.node_steps.specs.Framed.{framed}
 use Rattle.node_steps.specs.Pendings.{bytes_sent}
 use Rattle.premise_watch.specs.declared.broken.WatchFault.{WatchFault}
 use Rattle.cluster_world.specs.Beginning.{formed_in}
-use Rattle.cluster_world.specs.Breaking.{step_fault}
 use Rattle.cluster_world.specs.Comes.{Comes}
 use Rattle.cluster_world.specs.declared.engine.Engine.{Engine}
 use Rattle.cluster_world.specs.declared.fault.StepFault.{StepFault}
-use Rattle.cluster_world.specs.Lying.{CanSay, exhausted, says, says_as}
+use Rattle.cluster_world.specs.Lying.{exhausted, says, says_as}
 use Rattle.cluster_world.specs.Sending.{Goes, HasRoomFor, full_of, mail_from, mails, room_of}
 use Rattle.cluster_world.specs.Shows.{Shows, Stands}
 use Rattle.cluster_world.proofs.AskingLaws.{room_left}
-use Rattle.cluster_world.proofs.SendingLaws.{Leaves, comes_err, enters_by, fits_room, full_by, goes_on, mails_same, room_by, same_size}
+use Rattle.cluster_world.proofs.SendingLaws.{Leaves, enters_by, fits_room, full_by, mails_same, room_by, same_size}
 use Rattle.cluster_world.proofs.SendingLaws.{within_limits}
 
 -- ---- room
@@ -111,6 +108,7 @@ module _ {V S : Type 0} (v : verifiers.Ghosts V) (g : signers.Ghosts S) (s : Set
               refused = h.stands.refused;
             });
         posts = ap (λ (c : Engine V S v g). c.pool.posts) is ∙ h.posts;
+        seen = h.seen;
       }
 
   -- it is sent

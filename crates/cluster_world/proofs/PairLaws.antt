@@ -1,8 +1,8 @@
 -- Two lists, item by item.
-use Rattle.std.proofs.Common.{◌≡◌, ◌∙◌, ◌<◌, ◌≤◌, ℕ, zero, suc, ◌+◌, Bool, true, false, cond, List, [], ◌∷◌, length, refl, sym, ap, subst}
+use Rattle.std.proofs.Common.{◌≡◌, ◌∙◌, ◌<◌, ◌≤◌, ℕ, zero, suc, ◌+◌, Bool, cond, List, [], ◌∷◌, length, refl, sym, ap, subst}
 use Rattle.std.proofs.Common.{arith}
 use Rattle.std.proofs.lemmas.Option.{same_Some}
-use Rattle.std.specs.Prelude.{Option, Some, None, find, option_map, position, slice_get, slice_index_or, slice_set}
+use Rattle.std.specs.Prelude.{Some, None, option_map, position, slice_get, slice_index_or, slice_set}
 use Rattle.basil_types.proofs.Walks.{position-cons}
 use Rattle.cluster_world.specs.Pairs.{Pairs}
 

@@ -5,8 +5,7 @@ use Rattle.std.specs.Option.{option_map_or}
 use Rattle.std.specs.Prelude.{Option, Some, None, Result, Ok, Err, option_and_then, option_map, slice_get, slice_set}
 use Rattle.basil_types.specs.declared.outbox.Outbox.{Outbox}
 use Rattle.basil_types.specs.declared.party.Party.TheVariants.{Client}
-use Rattle.basil_types.specs.Id.{id_of}
-use Rattle.basil_types.specs.Transaction.{TransactionValue, canonical, id}
+use Rattle.basil_types.specs.Transaction.{TransactionValue, id}
 use Rattle.basil_types.specs.Words.{SignedWords}
 use Rattle.certificates.specs.Deciding.{HasGoodForm}
 use Rattle.client_core.specs.Asks.{by_call, is_call}
@@ -46,6 +45,9 @@ use Rattle.cluster_world.specs.declared.engine.Engine.{Engine}
 use Rattle.cluster_world.specs.declared.fault.StepFault.{StepFault}
 use Rattle.cluster_world.specs.declared.fault.StepFault.TheVariants as faults
 use Rattle.cluster_world.specs.Sending.{HasRoomFor, full_of}
+use Rattle.sight_laws.specs.Seen.{PoolIsSeen}
+use Rattle.sight_laws.proofs.Growing.{still}
+use Rattle.sight_laws.proofs.Happening.{pool_seen}
 use Rattle.cluster_world.specs.Shows.{IsCaller, Shows, Stands}
 use Rattle.cluster_world.proofs.BeginLaws.{nobody_called, place_of, somebody_called, stands_begun}
 use Rattle.cluster_world.proofs.CallLaws.{send_full}
@@ -86,11 +88,10 @@ pub copied : (c : ClientValue) (slot : ℕ) (copy : FormedValue) (shown : Signed
 copied c slot copy shown is e = ap (λ (x : FormedValue). Some x) is ∙ formed_here c slot (Some shown) e
 
 -- the id that is told of it
-pub id_told : (f : FormedValue) (t : TransactionValue) (bytes named : List ℕ) (o : Option FormedValue) → named ≡ id_of bytes →
-    bytes ≡ canonical t → (u : TransactionValue) → t ≡ u → u ≡ f.transaction → Some f ≡ o →
-    Some named ≡ option_map (λ (f : FormedValue). id f.transaction) o
-id_told f t bytes named o is spelled u same own at =
-    ap (λ (n : List ℕ). Some n) (is ∙ ap id_of spelled ∙ ap (λ (x : TransactionValue). id_of (canonical x)) (same ∙ own))
+pub id_told : (f : FormedValue) (named : List ℕ) (o : Option FormedValue) (u : TransactionValue) → named ≡ id u →
+    u ≡ f.transaction → Some f ≡ o → Some named ≡ option_map (λ (f : FormedValue). id f.transaction) o
+id_told f named o u is own at =
+    ap (λ (n : List ℕ). Some n) (is ∙ ap (λ (x : TransactionValue). id x) own)
     ∙ ap (λ (x : Option FormedValue). option_map (λ (f : FormedValue). id f.transaction) x) at
 
 none_some : {A : Type 0} (x : A) → None ≡ Some x → ⊥
@@ -147,12 +148,12 @@ module _ (s : Setup) (st : State) (tx slot client place : ℕ) (b : BegunValue) 
 
     -- a refused call
     pub refused_comes : (fault : AskFault) (r : Result (Unit {0}) StepFault) → handled ≡ did.Refused fault →
-        (mid.pool.posts ≡ st.pool → Does s st place mid.pool (by_call answer) mid (did.Refused fault) →
+        (mid.pool.posts ≡ st.pool → PoolIsSeen s st → Does s st place mid.pool (by_call answer) mid (did.Refused fault) →
         Comes s st (called s client answer st) new r) → Comes s st (prepares_own s tx b slot st) new r
     refused_comes fault r is answered =
         let d = subst (λ x. Does s st place old.pool (by_call answer) mid x) is does in
         let f = call_err answer fault d.0 in
-        subst (λ x. Comes s st x new r) (ap (λ x. called s client x st) f.1 ∙ sym (prepares_by (Err f.0) f.1)) (answered posts_same d)
+        subst (λ x. Comes s st x new r) (ap (λ x. called s client x st) f.1 ∙ sym (prepares_by (Err f.0) f.1)) (answered posts_same h.seen d)
 
     -- there is no room for what is sent
     pub full_comes : (e : StepFault) → handled ≡ did.Full → HasEntry old.pool handled → e ≡ full_of mid.pool →
@@ -164,7 +165,7 @@ module _ (s : Setup) (st : State) (tx slot client place : ℕ) (b : BegunValue) 
           prepares_sent d.0 (call_ok answer d.0 d.1)
               ∙ send_full s old.pool (kept d.0) (Client client) d.0.signed d.0.sent room (same_size old.pool.posts st.pool h.posts)
               h.stands.limits d.2,
-          record { stands = d.3; posts = posts_same },
+          record { stands = d.3; posts = posts_same; seen = h.seen },
         )
 
     -- what is formed is kept, and what is sent enters the pool
@@ -177,7 +178,7 @@ module _ (s : Setup) (st : State) (tx slot client place : ℕ) (b : BegunValue) 
     sent_comes out r is begun there go =
         let d = subst (λ x. Does s st place old.pool (by_call answer) mid x) is does in
         subst (λ x. Comes s st x new r) (sym (prepares_sent d.0 (call_ok answer d.0 d.1)))
-        (go (with_client place d.0.client st) d.0.client d.0.signed d.0.sent (record { stands = d.4; posts = posts_same }) begun
+        (go (with_client place d.0.client st) d.0.client d.0.signed d.0.sent (record { stands = d.4; posts = posts_same; seen = h.seen }) begun
         (set_at st.clients place c d.0.client there) d.3)
 
     pub sent_room : (out : Outbox) → handled ≡ did.Sent out → HasEntry old.pool handled → HasRoomFor mid.pool out.messages.items
@@ -192,10 +193,15 @@ module _ {V S : Type 0} (v : verifiers.Ghosts V) (g : signers.Ghosts S) (s : Set
   kept_by core st tx b f e is h = subst (λ x. Stands s core (set_begun tx (record b { formed = x }) st)) is h
 
   -- the pool is as it was
-  pub kept_shows : (old new : Engine V S v g) (st after : State) → after.pool ≡ st.pool → new.pool ≡ old.pool → Shows s old st →
+  pub kept_shows : (old new : Engine V S v g) (st after : State) → after.pool ≡ st.pool → after.watch ≡ st.watch →
+      after.certified ≡ st.certified → new.pool ≡ old.pool → Shows s old st →
       Stands s new after → Shows s new after
-  kept_shows old new st after same pool h stands =
-      record { stands = stands; posts = ap (λ (q : PoolValue). q.posts) pool ∙ h.posts ∙ sym same }
+  kept_shows old new st after same watched certified pool h stands =
+      record {
+        stands = stands;
+        posts = ap (λ (q : PoolValue). q.posts) pool ∙ h.posts ∙ sym same;
+        seen = pool_seen s st after (still s st after watched certified same) h.seen;
+      }
 
   pub formed_set : (old new : Engine V S v g) (st : State) (tx : ℕ) (node after b : BegunValue) (f : Option FormedValue) →
       new ≡ record old { begun = new.begun } → new.begun.items ≡ slice_set old.begun.items tx after → Stands s old st →
@@ -341,15 +347,15 @@ module _ {V S : Type 0} (v : verifiers.Ghosts V) (g : signers.Ghosts S) (s : Set
     same_posts = ap (λ (q : PoolValue). q.posts) same ∙ h.posts
 
     pub recover_comes : (handled : Handled AskFault) (r : Result (Unit {0}) StepFault) → asked ≡ Some handled →
-        ((answer : Result ClientDone CallFault) → mid.pool.posts ≡ st.pool → Does s st place mid.pool (by_call answer) mid handled →
+        ((answer : Result ClientDone CallFault) → mid.pool.posts ≡ st.pool → PoolIsSeen s st → Does s st place mid.pool (by_call answer) mid handled →
         Comes s st (called s client answer st) new r) → Comes s st (at_formed tx (recovers_at s client) st) new r
     recover_comes handled r is answered =
         let d = subst (λ x. Recovers s st tx place c old.pool mid (Ok x)) is did_so in
         let answer = call_recover (client_self s (suc place)) c d.0.transaction d.0.signature in
         subst (λ x. Comes s st x new r) (sym (recovers_as s st tx client place c d.0 number_of d.1 there at))
-        (answered answer same_posts (subst (λ q. Does s st place q (by_call answer) mid handled) (sym same) d.2))
+        (answered answer same_posts h.seen (subst (λ q. Does s st place q (by_call answer) mid handled) (sym same) d.2))
 
     pub unformed_comes : asked ≡ None → Comes s st (at_formed tx (recovers_at s client) st) mid (Ok tt)
     unformed_comes is =
         let d = subst (λ x. Recovers s st tx place c old.pool mid (Ok x)) is did_so in
-        (st, not_formed st tx (recovers_at s client) d.0, record { stands = d.1; posts = same_posts })
+        (st, not_formed st tx (recovers_at s client) d.0, record { stands = d.1; posts = same_posts; seen = h.seen })

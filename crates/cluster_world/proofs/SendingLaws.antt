@@ -1,15 +1,19 @@
 -- Frames are seen, and enter the pool.
 use Rattle.std.proofs.Common.{◌≡◌, ◌∙◌, ◌<◌, ◌≤◌, ℕ, ◌+◌, ◌-◌, Bool, true, false, cond, List, [], ◌∷◌, ◌++◌, length, map, refl, sym, ap}
-use Rattle.std.proofs.Common.{subst, arith, inl, inr, ◌⊎◌, suc}
+use Rattle.std.proofs.Common.{subst, arith, inl, inr, ◌⊎◌, zero, suc}
 use Rattle.std.specs.Result.{IsErrAnd}
-use Rattle.std.specs.Prelude.{Option, Some, None, Result, Ok, Err, nat_le, sum, ◌&&◌, ⊤}
-use Rattle.std.proofs.lemmas.Bool.{leb-true, le-leb}
+use Rattle.std.specs.Prelude.{Contains, Option, Some, None, Result, Ok, Err, nat_le, slice_get, sum, ◌&&◌}
+use Rattle.std.specs.Option.{option_map_or}
+use Rattle.std.specs.Str.{bytes_eq}
+use Rattle.std.proofs.lemmas.Bool.{le-leb}
 use Rattle.std.proofs.lemmas.Bool.Decides.{leb_tells}
 use Rattle.std.proofs.lemmas.List.{length-append}
+use Rattle.std.proofs.lemmas.Option.{same_Some}
 use Rattle.std.proofs.lemmas.List.Sums.{sum-map, sum_by-cons}
+use Rattle.basil_types.proofs.KeyLaws.{bytes_tell}
+use Rattle.basil_types.proofs.MemberLaws.{in_head, in_tail}
 use Rattle.basil_types.specs.Steps.{◌>>=◌}
 use Rattle.basil_types.specs.declared.outbox.Envelope.{Envelope}
-use Rattle.basil_types.specs.declared.outbox.Outbox.{Outbox}
 use Rattle.basil_types.specs.declared.party.Party.{Party}
 use Rattle.basil_types.specs.Words.{SignedWords, words_of}
 use Rattle.frame_views.specs.declared.fault.BadFrame.{BadFrame}
@@ -18,7 +22,7 @@ use Rattle.keyring.specs.declared.verifier.Verifier as verifiers
 use Rattle.keyring.specs.declared.signer.Signer as signers
 use Rattle.message_pool.specs.declared.pool.Room.{Room}
 use Rattle.message_pool.specs.declared.posted.Posted.{Posted}
-use Rattle.message_pool.specs.Posts.{PoolValue, pool_bytes, sent}
+use Rattle.message_pool.specs.Posts.{PoolValue, pool_bytes}
 use Rattle.node_steps.specs.Envelopes.{EnvelopeValue}
 use Rattle.node_steps.specs.Framed.{framed}
 use Rattle.node_steps.specs.Pendings.{bytes_sent}
@@ -28,20 +32,22 @@ use Rattle.premise_watch.specs.declared.broken.WatchFault.TheVariants as watches
 use Rattle.basil_types.specs.Transaction.{TransactionValue}
 use Rattle.premise_watch.specs.Breaches.{WatchValue, after_marks, first_breach, seen_text}
 use Rattle.premise_watch.specs.Marks.{MarkValue, Signature, Text, marks}
-use Rattle.cluster_nodes.specs.Handling.{Holds, fits}
+use Rattle.cluster_nodes.specs.Handling.{fits}
 use Rattle.cluster_run.specs.declared.fault.WorldFault.{WorldFault}
 use Rattle.cluster_run.specs.declared.fault.WorldFault.TheVariants as worlds
 use Rattle.cluster_run.specs.Parts.{Mail, mail_bytes, has_room, posted, read_frame, see, see_message, enter, enter_all, mail_of, noted, saw}
 use Rattle.cluster_run.specs.Parts.{send, unless_broken}
 use Rattle.cluster_run.specs.States.{Setup, State}
-use Rattle.run_sight.specs.Sights.{BreaksByFrame, Ends, Notes, Sees, SeesFrame, SightValue, sight_of, taken_back}
-use Rattle.run_sight.specs.declared.sight.Sight.{Sight}
+use Rattle.run_sight.specs.Sights.{BreaksByFrame, Ends, Looks, Notes, Sees, SeesFrame, SightValue, sight_of, taken_back}
 use Rattle.cluster_world.specs.declared.engine.Engine.{Engine}
 use Rattle.cluster_world.specs.declared.fault.StepFault.{StepFault}
 use Rattle.cluster_world.specs.declared.fault.StepFault.TheVariants as faults
 use Rattle.cluster_world.specs.Breaking.{step_fault}
 use Rattle.cluster_world.specs.Comes.{Comes}
-use Rattle.cluster_world.specs.Sending.{Goes, HasRoomFor, IsWithin, full_of, mail_from, mails, room_of}
+use Rattle.cluster_world.specs.Sending.{Goes, HasRoomFor, IsWithin, full_of, has_frame_at, mail_from, mails, room_of}
+use Rattle.sight_laws.specs.Seen.{IsSeenFrame, PoolIsSeen}
+use Rattle.sight_laws.proofs.Growing.{enter_grows, grows_noted, see_grows}
+use Rattle.sight_laws.proofs.Happening.{pool_seen}
 use Rattle.cluster_world.specs.Shows.{Shows, Stands, limits_of}
 
 -- ---- results
@@ -314,6 +320,37 @@ room_by s st pool from messages posts limits has =
     (subst (λ (l : Room). pool_bytes st.pool + bytes_sent messages ≤ l.bytes) limits
     (subst (λ (q : List Posted). pool_bytes q + bytes_sent messages ≤ pool.limits.bytes) posts has.small))
 
+-- ---- a frame that was seen
+
+in_got : {X : Type 0} (xs : List X) (n : ℕ) (y : X) → slice_get xs n ≡ Some y → Contains xs y
+in_got [] n y h = absurd cc
+in_got (x ∷ xs) zero y h = subst (Contains (x ∷ xs)) (same_Some x y h) (in_head x xs)
+in_got (x ∷ xs) (suc n) y h = in_tail x xs y (in_got xs n y h)
+
+-- a message that has this frame is one of the pool
+own_frame : (posts : List Posted) (message : ℕ) (frame : List ℕ) →
+    has_frame_at posts message frame ≡ true →
+    (p : Posted) × Contains posts p × (p.frame ≡ frame)
+own_frame posts message frame h = by (nat_le 1 message) h
+  where
+    at : (o : Option Posted) → slice_get posts (message - 1) ≡ o → option_map_or (λ (p : Posted). bytes_eq p.frame frame) o false ≡ true →
+        (p : Posted) × Contains posts p × (p.frame ≡ frame)
+    at None e k = absurd cc
+    at (Some p) e k = (p, in_got posts (message - 1) p e, bytes_tell p.frame frame k)
+
+    by : (b : Bool) → option_map_or (λ (p : Posted). bytes_eq p.frame frame) (cond b (slice_get posts (message - 1)) None) false ≡ true →
+        (p : Posted) × Contains posts p × (p.frame ≡ frame)
+    by true k = at (slice_get posts (message - 1)) refl k
+    by false k = absurd cc
+
+-- so it was seen
+pub seen_own : (s : Setup) (st : State) (posts : List Posted) (message : ℕ) (frame : List ℕ) → posts ≡ st.pool → PoolIsSeen s st →
+    has_frame_at posts message frame ≡ true →
+    IsSeenFrame s st.watch st.certified frame
+seen_own s st posts message frame same seen h =
+    let p = own_frame posts message frame h in
+    subst (λ f. IsSeenFrame s st.watch st.certified f) p.2 (seen p.0 (subst (λ q. Contains q p.0) same p.1))
+
 -- ---- a frame is shown
 
 module _ {V S : Type 0} (v : verifiers.Ghosts V) (g : signers.Ghosts S) (s : Setup) (old new : Engine V S v g) (st : State) where
@@ -326,6 +363,7 @@ module _ {V S : Type 0} (v : verifiers.Ghosts V) (g : signers.Ghosts S) (s : Set
         record {
           stands = stands_seen v g s old new st k.0 (sight_of st) own (see_only s frame st k.0 k.1) h.stands k.2;
           posts = ap (λ (c : Engine V S v g). c.pool.posts) own ∙ h.posts ∙ sym (ap (λ (x : State). x.pool) (see_only s frame st k.0 k.1));
+          seen = pool_seen s st k.0 (see_grows s frame st k.0 k.1) h.seen;
         },
       )
 
@@ -341,12 +379,13 @@ module _ {V S : Type 0} (v : verifiers.Ghosts V) (g : signers.Ghosts S) (s : Set
       goes_err v g s (enter_all s (m ∷ []) st) new r w h
       (ends_one s m st w (breaks s (with_posted m st) k.stands.earlier k.stands.sight))
 
-  pub entered : (m : Mail) (mid : Engine V S v g) → mid ≡ record old { sight = mid.sight } → new ≡ record mid { pool = new.pool } →
-      new.pool.limits ≡ mid.pool.limits → new.pool.posts ≡ mid.pool.posts ++ posted m ∷ [] →
-      SeesFrame v old.sight mid.sight m.frame → Shows s old st → Goes s (enter_all s (m ∷ []) st) new (Ok tt)
-  entered m mid own_mid own limits grown sees h =
+  pub entered : (m : Mail) (mid : Engine V S v g) (message : ℕ) (was_seen : Bool) → mid ≡ record old { sight = mid.sight } →
+      new ≡ record mid { pool = new.pool } → new.pool.limits ≡ mid.pool.limits → new.pool.posts ≡ mid.pool.posts ++ posted m ∷ [] →
+      was_seen ≡ has_frame_at old.pool.posts message m.frame → Looks v old.sight mid.sight m.frame was_seen → Shows s old st →
+      Goes s (enter_all s (m ∷ []) st) new (Ok tt)
+  entered m mid message was_seen own_mid own limits grown own_is looks h =
       let now = with_posted m st in
-      let k = sees s now h.stands.earlier h.stands.sight in
+      let k = looks s now h.stands.earlier h.stands.sight (λ e. seen_own s st old.pool.posts message m.frame h.posts h.seen (sym own_is ∙ e)) in
       let only = see_only s m.frame now k.0 k.1 in (
         k.0,
         one_enters s m st (Ok k.0) k.1,
@@ -357,6 +396,7 @@ module _ {V S : Type 0} (v : verifiers.Ghosts V) (g : signers.Ghosts S) (s : Set
               ∙ ap (λ (c : Engine V S v g). c.pool.posts ++ posted m ∷ []) own_mid
               ∙ ap (λ q. q ++ posted m ∷ []) h.posts
               ∙ sym (ap (λ (x : State). x.pool) only);
+          seen = pool_seen s st k.0 (enter_grows s m st k.0 k.1) h.seen;
         },
       )
 
@@ -441,6 +481,7 @@ module _ {V S : Type 0} (v : verifiers.Ghosts V) (g : signers.Ghosts S) (s : Set
               refused = h.stands.refused;
             });
         posts = ap (λ (c : Engine V S v g). c.pool.posts) own ∙ h.posts;
+        seen = pool_seen s st (record st { watch = noted from said st.watch }) (grows_noted s st from said) h.seen;
       }
 
   pub sends_so : (from : Party) (said : List SignedWords) (mail : List EnvelopeValue) (messages : List Envelope)

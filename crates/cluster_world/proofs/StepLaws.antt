@@ -1,11 +1,10 @@
 -- What the preparation of a transaction comes to.
-use Rattle.std.proofs.Common.{◌≡◌, ◌∙◌, ℕ, List, refl, sym, ap, subst}
+use Rattle.std.proofs.Common.{◌≡◌, ◌∙◌, ℕ, refl, sym, ap, subst}
 use Rattle.std.specs.Option.{option_map_or}
-use Rattle.std.specs.Prelude.{Option, Some, None, Result, Ok, Err, option_and_then, option_map, slice_get}
+use Rattle.std.specs.Prelude.{Option, Some, None, Result, Ok, option_and_then, slice_get}
 use Rattle.keyring.specs.declared.verifier.Verifier as verifiers
 use Rattle.keyring.specs.declared.signer.Signer as signers
-use Rattle.cluster_run.specs.declared.fault.WorldFault.{WorldFault}
-use Rattle.cluster_run.specs.Events.{Prepare, at_tx, happens, prepare_fault, prepares_at, prepares_lie, prepares_own}
+use Rattle.cluster_run.specs.Events.{Prepare, happens, prepare_fault, prepares_at, prepares_lie, prepares_own}
 use Rattle.cluster_run.specs.States.{BegunValue, Setup, State}
 use Rattle.node_steps.specs.Refusing.{unless_refused}
 use Rattle.cluster_world.specs.Beginning.{own_slot}

@@ -1,13 +1,12 @@
 -- A replica is handed a frame.
-use Rattle.std.proofs.Common.{◌≡◌, ◌∙◌, ◌<◌, ℕ, zero, suc, ◌+◌, ◌==◌, Bool, true, false, cond, List, [], ◌∷◌, length, map, refl, sym, ap}
+use Rattle.std.proofs.Common.{◌≡◌, ◌∙◌, ◌<◌, ℕ, ◌+◌, ◌==◌, Bool, true, false, cond, List, [], ◌∷◌, length, refl, sym, ap}
 use Rattle.std.proofs.Common.{subst, add-one}
 use Rattle.std.proofs.lemmas.Bool.{eqb-true}
 use Rattle.std.proofs.lemmas.Option.{same_Some}
 use Rattle.std.specs.Prelude.{◌&&◌, Option, Some, None, Result, Ok, Err, find, option_map, position, slice_get, slice_index_or, slice_set}
 use Rattle.basil_types.proofs.Walks.{position-cons}
-use Rattle.basil_types.specs.declared.memory.NoMemory.{NoMemory}
 use Rattle.basil_types.specs.declared.party.Party.{Party}
-use Rattle.basil_types.specs.declared.party.Party.TheVariants.{Replica, Client}
+use Rattle.basil_types.specs.declared.party.Party.TheVariants.{Replica}
 use Rattle.keyring.specs.declared.verifier.Verifier as verifiers
 use Rattle.keyring.specs.declared.signer.Signer as signers
 use Rattle.replica_core.specs.declared.refusal.Refusal.{Refusal}
@@ -21,7 +20,6 @@ use Rattle.cluster_nodes.specs.Standings.{StandsAs, at_place}
 use Rattle.cluster_run.specs.Events.{ticks}
 use Rattle.cluster_run.specs.Parts.{replica_did, replica_handles, replica_self}
 use Rattle.cluster_run.specs.States.{Setup, Standing, State, is_at, put_standing, standing}
-use Rattle.message_pool.specs.Posts.{PoolValue}
 use Rattle.cluster_world.specs.declared.engine.Engine.{Engine}
 use Rattle.cluster_world.specs.Pairs.{Pairs}
 use Rattle.cluster_world.specs.Sending.{IsWithin, room_of}
@@ -218,6 +216,8 @@ module _ {V S : Type 0} (v : verifiers.Ghosts V) (g : signers.Ghosts S) (s : Set
             mail = d.sent;
             after = record st { replicas = put_standing (record there.x { book = d.book }) st.replicas };
             same = refl;
+            watched = refl;
+            certified = refl;
             is = λ number. handled_by number (Ok d) e;
           }
 
@@ -252,6 +252,7 @@ module _ {V S : Type 0} (v : verifiers.Ghosts V) (g : signers.Ghosts S) (s : Set
         stands = stands_put v g s old new st node place own set h.stands shard index there (record there.x { moment = moment }) refl refl
             (sets there.x one);
         posts = ap (λ (c : Engine V S v g). c.pool.posts) own ∙ h.posts;
+        seen = h.seen;
       })
 
   pub no_clock : position (at_place shard index) old.replicas.items ≡ None → Shows s old st →

@@ -1,7 +1,7 @@
 -- What a world tells of its run.
-use Rattle.std.proofs.Common.{◌≡◌, ◌∙◌, ◌<◌, ℕ, suc, List, length, refl, sym, ap, subst}
+use Rattle.std.proofs.Common.{◌≡◌, ◌∙◌, ◌<◌, ℕ, suc, List, length, sym, ap, subst}
 use Rattle.std.specs.Option.{option_map_or}
-use Rattle.std.specs.Prelude.{Option, Some, None, Result, Ok, Err, IfOk, slice_get, slice_index_or}
+use Rattle.std.specs.Prelude.{Some, None, Result, Ok, Err, IfOk, slice_get, slice_index_or}
 use Rattle.client_core.specs.Clients.{ClientValue}
 use Rattle.client_core.specs.Slots.{NotRead, ReadStateValue}
 use Rattle.keyring.specs.declared.verifier.Verifier as verifiers
@@ -11,7 +11,7 @@ use Rattle.cluster_nodes.specs.Standings.{HoldsAs}
 use Rattle.cluster_run.specs.States.{BegunValue, Setup, State, client_at}
 use Rattle.cluster_run.specs.Telling.{value_at, value_by, value_in_slot, value_of}
 use Rattle.cluster_world.specs.declared.engine.Engine.{Engine}
-use Rattle.cluster_world.specs.Shows.{IsCaller, Shows, Stands}
+use Rattle.cluster_world.specs.Shows.{IsCaller, Shows}
 use Rattle.cluster_world.proofs.AskingLaws.{caller_at}
 use Rattle.cluster_world.proofs.PairLaws.{got, here, pairs_length}
 

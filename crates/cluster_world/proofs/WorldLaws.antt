@@ -1,5 +1,5 @@
 -- The run that a world is.
-use Rattle.std.proofs.Common.{◌≡◌, ◌∙◌, true, false, List, [], ◌∷◌, ◌++◌, refl, ap}
+use Rattle.std.proofs.Common.{◌≡◌, ◌∙◌, false, List, [], ◌∷◌, ◌++◌, refl, ap}
 use Rattle.std.specs.Prelude.{Result, Ok, Err}
 use Rattle.basil_types.specs.Steps.{◌>>=◌}
 use Rattle.keyring.specs.declared.verifier.Verifier as verifiers

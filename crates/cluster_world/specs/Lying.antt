@@ -1,5 +1,5 @@
 -- What faulty parties sign and send in a world.
-use Rattle.std.specs.Prelude.{◌≡◌, ◌<◌, ◌≤◌, ℕ, true, false, List, length, map, None, Some, Result, Ok, Err, ⊤}
+use Rattle.std.specs.Prelude.{◌≡◌, ◌<◌, ◌≤◌, ℕ, true, false, length, map, None, Some, Result, Ok, Err, ⊤}
 use Rattle.basil_types.specs.Built.{built}
 use Rattle.basil_types.specs.declared.party.Party.{Party}
 use Rattle.basil_types.specs.Limits.{signature_limit}

@@ -1,11 +1,14 @@
 -- What enters the pool.
-use Rattle.std.specs.Prelude.{◌≡◌, ◌+◌, ◌-◌, ◌≤◌, List, length, map, Result, Ok, Err}
+use Rattle.std.specs.Prelude.{◌≡◌, ℕ, ◌+◌, ◌-◌, ◌≤◌, Bool, false, List, length, map, Result, Ok, Err}
+use Rattle.std.specs.Option.{option_map_or}
+use Rattle.std.specs.Str.{bytes_eq}
 use Rattle.basil_types.specs.declared.outbox.Envelope.{Envelope}
 use Rattle.basil_types.specs.declared.party.Party.{Party}
 use Rattle.keyring.specs.declared.verifier.Verifier as verifiers
 use Rattle.keyring.specs.declared.signer.Signer as signers
 use Rattle.message_pool.specs.declared.pool.Room.{Room}
-use Rattle.message_pool.specs.Posts.{PoolValue, pool_bytes}
+use Rattle.message_pool.specs.declared.posted.Posted.{Posted}
+use Rattle.message_pool.specs.Posts.{PoolValue, pool_bytes, posted_at}
 use Rattle.node_steps.specs.Pendings.{bytes_sent}
 use Rattle.premise_watch.specs.declared.broken.WatchFault.{WatchFault}
 use Rattle.cluster_run.specs.declared.fault.WorldFault.{WorldFault}
@@ -29,6 +32,10 @@ mails from messages = map (mail_from from) messages
 pub record HasRoomFor (pool : PoolValue) (messages : List Envelope) : Type 0 where
   pub few : length pool.posts + length messages ≤ pool.limits.messages
   pub small : pool_bytes pool.posts + bytes_sent messages ≤ pool.limits.bytes
+
+-- the message of this number has this frame
+abbrev pub has_frame_at : List Posted → (number : ℕ) → (frame : List ℕ) → Bool
+has_frame_at pool number frame = option_map_or (λ (p : Posted). bytes_eq p.frame frame) (posted_at pool number) false
 
 -- it holds no more than its limits
 pub record IsWithin (pool : PoolValue) : Type 0 where

@@ -17,6 +17,7 @@ use Rattle.premise_watch.specs.Parties.{is_among}
 use Rattle.quorum_laws.specs.Numbers.{replicas}
 use Rattle.run_sight.specs.Sights.{SightValue, Sees, sight_of}
 use Rattle.cluster_world.specs.declared.engine.Engine.{Engine}
+use Rattle.sight_laws.specs.Seen.{PoolIsSeen}
 use Rattle.cluster_world.specs.Pairs.{Pairs}
 
 -- a faulty party is one of the cluster
@@ -56,3 +57,5 @@ module _ {V S : Type 0} {v : verifiers.Ghosts V} {g : signers.Ghosts S} (s : Set
   pub record Shows (core : Engine V S v g) (st : State) : Type 0 where
     pub stands : Stands core st
     pub posts : core.pool.posts ≡ st.pool
+    -- each of them was seen
+    pub seen : PoolIsSeen s st

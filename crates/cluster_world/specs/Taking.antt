@@ -1,5 +1,5 @@
 -- What the receiver of a frame does.
-use Rattle.std.specs.Prelude.{◌≡◌, ℕ, Bool, true, false, List, Result, Ok, Err, ⊤}
+use Rattle.std.specs.Prelude.{◌≡◌, ℕ, true, false, List, Result, Ok, Err, ⊤}
 use Rattle.basil_types.specs.declared.party.Party.{Party}
 use Rattle.basil_types.specs.Words.{SignedWords}
 use Rattle.cluster_nodes.specs.declared.handled.Handled.{Handled}
@@ -42,6 +42,8 @@ pub record Sends (s : Setup) (handles : Handles) (st : State) : Type 0 where
   pub mail : List EnvelopeValue
   pub after : State
   pub same : after.pool ≡ st.pool
+  pub watched : after.watch ≡ st.watch
+  pub certified : after.certified ≡ st.certified
   pub is : (number : ℕ) → handles number st ≡ send s party said mail after
 
 module _ {V S : Type 0} {v : verifiers.Ghosts V} {g : signers.Ghosts S} (s : Setup) (st : State) (pool : PoolValue)

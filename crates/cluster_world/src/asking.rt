@@ -13,6 +13,7 @@ ghost use Rattle.cluster_world.specs.Asking.{Asked, Does, HasEntry, IsAnswer};
 ghost use Rattle.cluster_world.specs.Calls.{step_fault_of};
 ghost use Rattle.cluster_world.specs.Comes.{Comes};
 ghost use Rattle.cluster_world.specs.Shows.{Shows, Stands};
+ghost use Rattle.sight_laws.specs.Seen.{PoolIsSeen};
 
 use crate::engine::Engine;
 use crate::fault::StepFault;
@@ -85,7 +86,7 @@ impl<V: Verifier, S: Signer> Engine<V, S> {
     ) -> Result<(), StepFault>
         requires { IsAnswer self.old.pool handled }
         ensures { (s : Setup) (st : State) (place : ℕ) (answer : Result ClientDone CallFault) → suc place ≡ number →
-            self.old.pool.posts ≡ st.pool → Does s st place self.old.pool (by_call answer) self.old handled →
+            self.old.pool.posts ≡ st.pool → PoolIsSeen s st → Does s st place self.old.pool (by_call answer) self.old handled →
             Comes s st (events.called s number answer st) self.new result }
     {
         match handled {

@@ -1,11 +1,12 @@
 //! Messages are delivered, lost and diverted.
 
-ghost use Rattle.std.specs.Prelude.{◌≡◌, ◌-◌, ◌≤◌, Ok, Some, IfSome, length, option_map};
+ghost use Rattle.std.specs.Prelude.{◌≡◌, ◌-◌, ◌≤◌, Ok, Some, IfSome, length, option_map, true, false};
 ghost use Rattle.cluster_run.specs.Events as events;
 ghost use Rattle.cluster_run.specs.Parts as parts;
 ghost use Rattle.cluster_run.specs.States.{Setup, State};
 ghost use Rattle.message_pool.specs.declared.posted.Posted.{Posted};
 ghost use Rattle.message_pool.specs.Posts.{PoolValue, posted_at};
+ghost use Rattle.sight_laws.specs.Seen.{IsSeenFrame, PoolIsSeen};
 ghost use Rattle.cluster_world.specs.Comes.{Comes};
 ghost use Rattle.cluster_world.specs.Handing.{Hands};
 ghost use Rattle.cluster_world.specs.Shows.{Shows, Stands};
@@ -31,14 +32,22 @@ impl<V: Verifier, S: Signer> Engine<V, S> {
         }
     }
 
-    /// A frame is seen, and its receiver takes it. Where what it would send has no room, nothing was seen.
-    fn hand(&mut self, from: Party, to: Party, frame: &[u8]) -> Result<Took, StepFault>
+    /// A frame is seen, if it wasn't before, and its receiver takes it. Where what it would send has no room, nothing was
+    /// seen.
+    fn hand(
+        &mut self,
+        from: Party,
+        to: Party,
+        frame: &[u8],
+        was_seen: bool,
+    ) -> Result<Took, StepFault>
         ensures within { IfOk result (IsTaken self.old.pool) }
-        ensures handed { (s : Setup) (st : State) → Stands s self.old st →
+        ensures handed { (s : Setup) (st : State) →
+            (was_seen ≡ true → IsSeenFrame s st.watch st.certified frame.now) → Stands s self.old st →
             Hands s st self.old.pool from to frame.now self.new result }
         ensures pool { self.new.pool ≡ self.old.pool }
     {
-        self.sight.see(frame)?;
+        self.sight.look(frame, was_seen)?;
         match self.take(from, to, frame) {
             Ok(took) => Ok(took),
             Err(fault) => {
@@ -52,7 +61,7 @@ impl<V: Verifier, S: Signer> Engine<V, S> {
     fn react(&mut self, message: u64, took: Took) -> Result<(), StepFault>
         requires { IsTaken self.old.pool took }
         ensures { (s : Setup) (st before : State) (pool : PoolValue) (handles : Handles) →
-            self.old.pool.posts ≡ st.pool → Takes s st pool handles self.old (Ok took)
+            self.old.pool.posts ≡ st.pool → PoolIsSeen s st → Takes s st pool handles self.old (Ok took)
             → Comes s before (handles message st) self.new result }
     {
         match took {
@@ -68,7 +77,8 @@ impl<V: Verifier, S: Signer> Engine<V, S> {
         }
     }
 
-    /// A message is delivered, and its receiver is handed these bytes.
+    /// A message is delivered, and its receiver is handed these bytes. They are seen, unless they are the message's own,
+    /// which were seen when it entered.
     pub(crate) fn deliver(&mut self, message: u64, given: &[u8]) -> Result<(), StepFault>
         ensures { (s : Setup) (st : State) → Shows s self.old st →
             Comes s st (events.happens s (events.Deliver message given.now) st) self.new result }
@@ -76,7 +86,8 @@ impl<V: Verifier, S: Signer> Engine<V, S> {
         let Some((from, to)) = self.parties_of(message) else {
             return Ok(());
         };
-        let took = self.hand(from, to, given)?;
+        let was_seen = self.has_frame(message, given);
+        let took = self.hand(from, to, given, was_seen)?;
         self.pool.deliver(message);
         self.react(message, took)
     }
@@ -89,7 +100,7 @@ impl<V: Verifier, S: Signer> Engine<V, S> {
         let Some((from, _)) = self.parties_of(message) else {
             return Ok(());
         };
-        let took = self.hand(from, to, given)?;
+        let took = self.hand(from, to, given, false)?;
         self.react(message, took)
     }
 

@@ -21,7 +21,6 @@ use crate::asking::of_call;
 use crate::calls::formed_in;
 use crate::engine::Engine;
 use crate::fault::StepFault;
-use basil_types::bytes::id_of;
 use basil_types::memory::NoMemory;
 use basil_types::outbox::Outbox;
 use basil_types::party::Party;
@@ -37,7 +36,7 @@ fn id_in(begun: &[Begun], tx: u32) -> Option<[u8; 32]>
     ensures { result ≡ beginning.id_in begun.now tx }
 {
     let formed = formed_in(begun, tx)?;
-    Some(id_of(formed.transaction().view().bytes()))
+    Some(formed.transaction().id())
 }
 
 /// The client at this place.

@@ -8,7 +8,7 @@ ghost use Rattle.cluster_run.specs.States.{Setup, State};
 ghost use Rattle.message_pool.specs.Posts.{pool_bytes, sent};
 ghost use Rattle.node_steps.specs.Envelopes.{EnvelopeValue};
 ghost use Rattle.cluster_world.specs.Comes.{Comes};
-ghost use Rattle.cluster_world.specs.Sending.{Goes, HasRoomFor, full_of, mail_from, mails};
+ghost use Rattle.cluster_world.specs.Sending.{Goes, HasRoomFor, full_of, has_frame_at, mail_from, mails};
 ghost use Rattle.cluster_world.specs.Shows.{Shows};
 
 use crate::engine::Engine;
@@ -42,7 +42,17 @@ impl<V: Verifier, S: Signer> Engine<V, S> {
         Ok(())
     }
 
-    /// A message for which there is room enters the pool, and is seen.
+    /// Whether the message of this number has this frame, so that the run has seen it.
+    pub(crate) fn has_frame(&self, message: u64, frame: &[u8]) -> bool
+        ensures { result ≡ has_frame_at self.now.pool.posts message frame.now }
+    {
+        match self.pool.at(message) {
+            Some(posted) => posted.frame.as_slice() == frame,
+            None => false,
+        }
+    }
+
+    /// A message for which there is room enters the pool, and is seen, unless the one before it has the same frame.
     fn enter_one(&mut self, from: Party, to: Party, frame: Bytes) -> Result<(), WatchFault>
         requires few { length self.old.pool.posts + 1 ≤ self.old.pool.limits.messages }
         requires small { pool_bytes self.old.pool.posts + length frame ≤ self.old.pool.limits.bytes }
@@ -51,7 +61,9 @@ impl<V: Verifier, S: Signer> Engine<V, S> {
         ensures grown { OnOk result (self.new.pool.posts ≡ self.old.pool.posts ++ sent from to frame ∷ []) }
         ensures limits { self.new.pool.limits ≡ self.old.pool.limits }
     {
-        self.sight.see(frame.as_slice())?;
+        let shown = frame.as_slice();
+        let was_seen = self.has_frame(self.pool.len(), shown);
+        self.sight.look(shown, was_seen)?;
         self.pool.enter(from, to, frame)?;
         Ok(())
     }

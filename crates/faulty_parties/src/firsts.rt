@@ -10,7 +10,6 @@ ghost use Rattle.faulty_parties.specs.Lies.{CanBeSaid, Says};
 ghost use Rattle.faulty_parties.specs.Unsaid.{unsaid_first};
 
 use crate::lie::Lie;
-use basil_types::bytes::id_of;
 use basil_types::cluster::Cluster;
 use basil_types::memory::NoMemory;
 use basil_types::party::Party;
@@ -141,7 +140,7 @@ pub fn first_stage(
         size,
     };
     let frames = frames_in(alloc, cluster, t, &front)?;
-    let id = id_of(t.bytes());
+    let id = t.id();
     let pending = Pending::new(alloc, Words::transaction(&id), frames, size)?;
     Lie::of(alloc, pending, size)
 }

@@ -12,7 +12,7 @@ ghost use Rattle.faulty_parties.specs.Hearing.{heard_in, heard_of, is_vote_so, i
 ghost use Rattle.faulty_parties.specs.Hearing.{joined_all, joined_some, same_bool, vote_heard, word_heard};
 
 use crate::question::Question;
-use basil_types::bytes::{Bytes, id_of};
+use basil_types::bytes::Bytes;
 use basil_types::cluster::Cluster;
 use basil_types::memory::NoMemory;
 use basil_types::party::{Decision, Party, same_decision};
@@ -77,7 +77,7 @@ fn heard_vote<'a, V: Verifier>(
 fn is_word<V: Verifier>(keys: &V, id: &[u8; 32], shard: u8, view: u64, m: &ElectView<'_>) -> bool
     ensures { result ≡ is_word_so (V.accepted keys.now) id.now shard view (elect_message_of m.now) }
 {
-    let own = id_of(m.transaction.bytes());
+    let own = m.transaction.id();
     let party = Party::Replica {
         shard: m.shard,
         index: m.replica,

@@ -18,7 +18,6 @@ use crate::lie::Lie;
 use crate::listing::{first_ones, listed};
 use crate::place::Place;
 use crate::question::Question;
-use basil_types::bytes::id_of;
 use basil_types::cluster::Cluster;
 use basil_types::memory::NoMemory;
 use basil_types::party::{Decision, Party};
@@ -120,7 +119,7 @@ fn proposal_with(
         said.view to (map word_value words.now))) }
 {
     signatures_end_frames();
-    let id = id_of(t.bytes());
+    let id = t.id();
     let frame = proposal_frame(alloc, place, t, said, words)?;
     let words = Words::proposal(place.shard, place.index, &id, said.decision, said.view);
     let to = Party::Replica {
@@ -152,7 +151,7 @@ pub fn proposal<V: Verifier>(
         (Says (unsaid_proposal place.shard place.index (transaction_of t.entry) said.decision said.view to
         (words_from s st (transaction_of t.entry) said.decision place.shard said.view))) }
 {
-    let id = id_of(t.bytes());
+    let id = t.id();
     let words = words_of(alloc, keys, cluster, pool, &id, place.shard, said)?;
     proposal_with(alloc, place, t, said, to, words.as_slice(), size)
 }

@@ -9,7 +9,6 @@ ghost use Rattle.faulty_parties.specs.Unsaid.{replied, unsaid_reply};
 
 use crate::lie::Lie;
 use crate::place::Place;
-use basil_types::bytes::id_of;
 use basil_types::memory::NoMemory;
 use basil_types::party::{Decision, Party};
 use basil_types::transaction::TransactionView;
@@ -68,7 +67,7 @@ pub fn log_reply(
         logged.decision logged.decided logged.current client)) }
 {
     signatures_end_frames();
-    let id = id_of(t.bytes());
+    let id = t.id();
     let frame = reply_frame(alloc, place, &id, logged)?;
     let Logged {
         decision,

@@ -18,7 +18,7 @@ ghost use Rattle.faulty_parties.specs.Tallies.{is_enough, shard_in, tallies_in, 
 
 use crate::listing::{all_heard, first_ones, listed, votes_of};
 use crate::question::Question;
-use basil_types::bytes::{Bytes, id_of};
+use basil_types::bytes::Bytes;
 use basil_types::cluster::Cluster;
 use basil_types::memory::NoMemory;
 use basil_types::outbox::Envelope;
@@ -198,7 +198,7 @@ fn tallies<V: Verifier>(
         ≡ tallies_in (V.accepted keys.now) cluster.now pool.now.posts (transaction_of t.entry) decision) }
     ensures fits { IfOk result (λ list. FitsTallies widest (map tally_value list.items)) }
 {
-    let id = id_of(t.bytes());
+    let id = t.id();
     match decision {
         Decision::Commit => commit_tallies(alloc, keys, cluster, pool, &id, t),
         Decision::Abort => abort_tallies(alloc, keys, cluster, pool, &id, t),

@@ -9,7 +9,6 @@ ghost use Rattle.faulty_parties.specs.Unsaid.{unsaid_vote, voted};
 
 use crate::lie::Lie;
 use crate::place::Place;
-use basil_types::bytes::id_of;
 use basil_types::memory::NoMemory;
 use basil_types::party::{Decision, Party};
 use basil_types::transaction::TransactionView;
@@ -57,7 +56,7 @@ pub fn vote(
         (Says (unsaid_vote place.shard place.index (transaction_of t.entry) decision client)) }
 {
     signatures_end_frames();
-    let id = id_of(t.bytes());
+    let id = t.id();
     let frame = vote_frame(alloc, place, &id, decision)?;
     let words = Words::vote(place.shard, place.index, &id, decision);
     let to = Party::Client { number: client };

@@ -10,7 +10,6 @@ ghost use Rattle.faulty_parties.specs.Unsaid.{elected, unsaid_word};
 
 use crate::lie::Lie;
 use crate::place::Place;
-use basil_types::bytes::id_of;
 use basil_types::cluster::Cluster;
 use basil_types::memory::NoMemory;
 use basil_types::party::{Decision, Party};
@@ -76,7 +75,7 @@ pub fn word(
         (Says (unsaid_word cluster.now place.shard place.index (transaction_of t.entry) decision view)) }
 {
     signatures_end_frames();
-    let id = id_of(t.bytes());
+    let id = t.id();
     let frame = word_frame(alloc, place, t, decision, view)?;
     let words = Words::election(place.shard, place.index, &id, decision, view);
     let to = leads(cluster, t, view);

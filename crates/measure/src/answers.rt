@@ -2,7 +2,6 @@
 
 use crate::made::signed_by;
 use crate::steps::Handing;
-use basil_types::bytes::id_of;
 use basil_types::cluster::Cluster;
 use basil_types::memory::NoMemory;
 use basil_types::outbox::Outbox;
@@ -59,7 +58,7 @@ fn form(client: &mut PlainClient, out: &mut Outbox) -> Option<Formed> {
     client.prepare(slot, out).ok()?;
     match client.formed(slot) {
         Some((transaction, _)) => {
-            let id = id_of(transaction.view().bytes());
+            let id = transaction.view().id();
             Some(Formed { slot, id })
         }
         None => None,

@@ -11,7 +11,7 @@ ghost use Rattle.premise_watch.specs.Texts.{AreTexts};
 ghost use Rattle.premise_watch.specs.declared.broken.Broken.TheVariants as broken;
 
 use crate::broken::{Broken, WatchFault};
-use basil_types::bytes::{Bytes, id_of};
+use basil_types::bytes::Bytes;
 use basil_types::memory::NoMemory;
 use basil_types::transaction::TransactionView;
 use indexmap::IndexMap;
@@ -54,7 +54,7 @@ impl Texts {
         ensures grown { take (length self.old.first.entries) self.new.first.entries ≡ self.old.first.entries }
     {
         let bytes = t.bytes();
-        let id = id_of(bytes);
+        let id = t.id();
         match self.first.get(&id) {
             Some(first) => {
                 if first.as_slice() == bytes {

@@ -12,7 +12,6 @@ ghost use Rattle.replica_core.specs.KnownWorks.{CanArrive};
 ghost use Rattle.replica_core.specs.Placing.{IsOpen, IsPlace};
 
 use crate::known::Known;
-use basil_types::bytes::id_of;
 use basil_types::memory::NoMemory;
 use basil_types::transaction::{Transaction, TransactionView};
 use std::alloc::Global;
@@ -75,7 +74,7 @@ pub(crate) fn place_for(
     ensures entries { known.new.table.entries ≡ known.old.table.entries }
     ensures noted { KeepsNoted known.old known.new }
 {
-    let id = id_of(t.bytes());
+    let id = t.id();
     match known.table.place_of(&id) {
         Some(place) => arrival_known(known, place, t),
         None => arrival_new(known, alloc, t),
@@ -94,7 +93,7 @@ pub(crate) fn newcomer(
     ensures entries { known.new.table.entries ≡ known.old.table.entries }
     ensures noted { KeepsNoted known.old known.new }
 {
-    let id = id_of(t.bytes());
+    let id = t.id();
     match known.table.place_of(&id) {
         Some(_) => Ok(None),
         None => {

@@ -52,7 +52,7 @@ use crate::logging::{LogWork, Said};
 use crate::refusal::Refusal;
 use crate::seat::Seat;
 use crate::second::{reply_frame, reply_words};
-use basil_types::bytes::{Bytes, id_of};
+use basil_types::bytes::Bytes;
 use basil_types::memory::NoMemory;
 use basil_types::outbox::Outbox;
 use basil_types::party::Party;
@@ -331,7 +331,7 @@ pub(crate) fn plan_elect<S: Signer>(
     ensures ready { IfOk result (CanLead (S.fixed pen.now).size (S.left_of pen.now)) }
     ensures kept { leading.new.kept ≡ leading.old.kept }
 {
-    let id = id_of(m.transaction.bytes());
+    let id = m.transaction.id();
     let t = known_text(known, &id, m.transaction);
     if is_led_by_another(seat, t.time(), m.view, seat.index) {
         return Err(Refusal::NotLeader);
@@ -497,7 +497,7 @@ pub(crate) fn plan_decide<S: Signer>(
     ensures noted { KeepsNoted known.old known.new }
     ensures logged { logged.new.entries ≡ logged.old.entries }
 {
-    let id = id_of(m.transaction.bytes());
+    let id = m.transaction.id();
     let time = known_text(known, &id, m.transaction).time();
     if is_led_by_another(seat, time, m.view, m.replica) {
         return Err(Refusal::NotLeader);

@@ -34,7 +34,7 @@ use crate::known::Known;
 use crate::refusal::Refusal;
 use crate::seat::Seat;
 use crate::work::KnownWork;
-use basil_types::bytes::{Bytes, id_of};
+use basil_types::bytes::Bytes;
 use basil_types::outbox::Envelope;
 use basil_types::party::{Decision, Party};
 use basil_types::transaction::TransactionView;
@@ -85,7 +85,7 @@ fn verdict_on(known: &Known, seat: &Seat, now: u64, t: TransactionView<'_>) -> V
         (known_of known.now.table.entries (transaction_of t.entry)) }
     ensures within { (place : ℕ) → result ≡ verdicts.AbortBy place → place < length known.now.table.entries }
 {
-    let id = id_of(t.bytes());
+    let id = t.id();
     match known.table.place_of(&id) {
         Some(place) => verdict_of(known, seat, now, known.table.entry(place).view()),
         None => verdict_of(known, seat, now, t),
@@ -117,7 +117,7 @@ fn plan_vote<S: Signer>(
     }
     let size = pen.size();
     let arrival = place_for(known, seat.alloc, t)?;
-    let id = id_of(t.bytes());
+    let id = t.id();
     let pending = pending_vote(seat, size, from, &id, decision, proof_of(known, proof))?;
     Ok(KnownWork::Vote {
         arrives: arrival.arrives,
@@ -266,7 +266,7 @@ fn plan_held<S: Signer>(
             signature,
             proof,
         } => {
-            let id = id_of(known.table.entry(place).view().bytes());
+            let id = known.table.entry(place).view().id();
             plan_again(known, seat, from, &id, vote, signature, proof)
         }
     }
@@ -288,7 +288,7 @@ pub(crate) fn plan_first_stage<S: Signer>(
     ensures entries { known.new.table.entries ≡ known.old.table.entries }
     ensures noted { KeepsNoted known.old known.new }
 {
-    let id = id_of(t.bytes());
+    let id = t.id();
     match known.table.place_of(&id) {
         Some(place) => plan_held(known, pen, seat, now, from, place, t),
         None => plan_first_vote(known, pen, seat, now, from, t),
@@ -336,7 +336,7 @@ pub(crate) fn plan_st1<S: Signer>(
     ensures entries { known.new.table.entries ≡ known.old.table.entries }
     ensures noted { KeepsNoted known.old known.new }
 {
-    let id = id_of(t.bytes());
+    let id = t.id();
     match plan_ended(known, seat, from, &id) {
         Some(planned) => planned,
         None => plan_first_stage(known, pen, seat, now, from, t),

@@ -38,7 +38,6 @@ use crate::seat::Seat;
 use crate::second::{plan_log, plan_told};
 use crate::work::KnownWork;
 use crate::writeback::plan_writeback;
-use basil_types::bytes::id_of;
 use basil_types::party::{Decision, Party};
 use basil_types::transaction::TransactionView;
 use frame_views::frames::{InvokeView, MessageView};
@@ -99,7 +98,7 @@ fn plan_second<S: Signer>(
     ensures ready { IfOk result (CanPerform (S.fixed pen.now).size (S.left_of pen.now) parts.new) }
     ensures same { ShowsSame parts.old parts.new }
 {
-    let id = id_of(t.bytes());
+    let id = t.id();
     match plan_ended(&parts.known, seat, from, &id) {
         Some(planned) => known_work(planned),
         None => {
@@ -204,7 +203,7 @@ fn plan_recovery<S: Signer>(
     ensures ready { IfOk result (CanPerform (S.fixed pen.now).size (S.left_of pen.now) parts.new) }
     ensures same { ShowsSame parts.old parts.new }
 {
-    let id = id_of(t.bytes());
+    let id = t.id();
     match plan_ended(&parts.known, seat, from, &id) {
         Some(planned) => known_work(planned),
         None => plan_unended(parts, pen, seat, now, from, &id, t),

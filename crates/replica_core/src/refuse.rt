@@ -18,7 +18,6 @@ ghost use Rattle.replica_core.specs.Seats.{self_at};
 
 use crate::refusal::Refusal;
 use crate::seat::Seat;
-use basil_types::bytes::id_of;
 use basil_types::party::{Decision, Party};
 use basil_types::transaction::TransactionView;
 use basil_types::words::Words;
@@ -127,7 +126,7 @@ fn refuse_client<V: Verifier>(
     ensures { Refuses result (option_map refusal.BadSignature
         (first_refused (V.accepted keys.now) (client_signed (transaction_of t.entry) signature.now ∷ []))) }
 {
-    let id = id_of(t.bytes());
+    let id = t.id();
     let words = Words::transaction(&id);
     let client = Party::Client { number: t.client() };
     if keys.accepts(client, words.bytes(), signature) {

@@ -31,7 +31,7 @@ use crate::logged::{Logged, asked_by};
 use crate::logging::{LogWork, Said};
 use crate::refusal::Refusal;
 use crate::seat::Seat;
-use basil_types::bytes::{Bytes, id_of};
+use basil_types::bytes::Bytes;
 use basil_types::memory::NoMemory;
 use basil_types::outbox::Envelope;
 use basil_types::party::{Decision, Party};
@@ -206,7 +206,7 @@ pub(crate) fn plan_log<S: Signer>(
 {
     logged.make_room()?;
     let arrives = newcomer(known, seat.alloc, t)?;
-    let id = id_of(t.bytes());
+    let id = t.id();
     match logged.find(&id) {
         Some(log) => plan_reply(pen, seat, from, &id, log, arrives),
         None => plan_anew(pen, seat, from, &id, log_first(decision), &[], arrives),

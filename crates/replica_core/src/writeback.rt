@@ -24,7 +24,6 @@ use crate::known::Known;
 use crate::refusal::Refusal;
 use crate::seat::Seat;
 use crate::work::{KnownWork, Release};
-use basil_types::bytes::id_of;
 use basil_types::memory::NoMemory;
 use basil_types::party::{Decision, Party};
 use basil_types::transaction::TransactionView;
@@ -88,7 +87,7 @@ fn plan_release(
     ensures { IfOk result (IsReleaseOf seat.now size known.now.table.entries (place, decision)) }
 {
     let entry = known.table.entry(place);
-    let id = id_of(entry.view().bytes());
+    let id = entry.view().id();
     let frames = release_frames(seat, size, &id, decision, entry.askers())?;
     let words = Words::vote(seat.home.shard, seat.index, &id, decision);
     let pending = Pending::new(seat.alloc, words, frames, size)?;
@@ -178,7 +177,7 @@ fn plan_end<S: Signer>(
 {
     signatures_end_frames();
     released_votes_ascend();
-    let id = id_of(t.bytes());
+    let id = t.id();
     let outcome = decision_of(&certificate.body());
     let votes = released_votes(known, seat, &id, outcome)?;
     let count = votes.len();
@@ -214,7 +213,7 @@ pub(crate) fn plan_writeback<S: Signer>(
     ensures entries { known.new.table.entries ≡ known.old.table.entries }
     ensures noted { KeepsNoted known.old known.new }
 {
-    let id = id_of(t.bytes());
+    let id = t.id();
     if is_ended(known, &id) {
         return Ok(KnownWork::Nothing);
     }

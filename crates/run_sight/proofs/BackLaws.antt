@@ -12,7 +12,7 @@ use Rattle.cluster_run.specs.Parts.{read_frame, saw, see_message, unless_broken}
 use Rattle.cluster_run.specs.States.{Setup, State}
 use Rattle.run_sight.specs.Sights.{FramesAreTakenBack, sight_of, taken_back}
 
-unmarked : (w : WatchValue) (ms : List MarkValue) (ts : List TransactionValue) →
+pub unmarked : (w : WatchValue) (ms : List MarkValue) (ts : List TransactionValue) →
     record (after_marks w ms) { texts = ts } ≡ record w { texts = ts }
 unmarked w [] ts = refl
 unmarked w (Signature g ∷ ms) ts = unmarked w ms ts

@@ -4,4 +4,5 @@ mod PairLaws
 mod SightLaws
 mod NoteLaws
 mod BackLaws
+mod AgainLaws
 mod OrderLaws

@@ -1,5 +1,5 @@
 -- A sight that notes words one after the other.
-use Rattle.std.proofs.Common.{◌≡◌, ℕ, ◌+◌, ◌<◌, List, [], ◌∷◌, ◌++◌, length, map, take, get_or, refl, sym, ap, subst, ◌∙◌, add-one}
+use Rattle.std.proofs.Common.{◌≡◌, ℕ, ◌+◌, ◌<◌, Bool, true, false, List, [], ◌∷◌, ◌++◌, length, map, take, get_or, refl, sym, ap, subst, ◌∙◌, add-one}
 use Rattle.std.proofs.Math.Seq.{take-suc}
 use Rattle.std.proofs.lemmas.List.{append-nil, append_assoc, map-append}
 use Rattle.basil_types.specs.declared.party.Party.{Party}
@@ -13,7 +13,7 @@ use Rattle.cluster_run.specs.Parts.{noted}
 use Rattle.cluster_run.specs.States.{Setup}
 use Rattle.run_sight.specs.declared.sight.Sight.{Sight}
 use Rattle.run_sight.proofs.SightLaws.{keeps}
-use Rattle.run_sight.specs.Sights.{KeepsSight, Notes, NotesSome, Sees, SightValue, with_noted}
+use Rattle.run_sight.specs.Sights.{GoesTo, KeepsSight, Notes, NotesSome, Sees, SightValue, with_noted}
 
 -- ---- the last of some words
 
@@ -85,10 +85,15 @@ module _ {V : Type 0} (v : verifiers.Ghosts V) (p : Party) where
     same = h.same;
     back = h.back;
     watch = note now.watch h.back x e h.watch;
-    texts = h.texts;
+    texts = goes old.shown h.texts;
     kept = h.kept;
     before = h.before;
   }
+    where
+      goes : (shown : Bool) → GoesTo shown old.watch now.watch h.back earlier.watch.texts →
+          GoesTo shown watch (watching.with_noted p x now.watch) h.back earlier.watch.texts
+      goes true k = k
+      goes false k = note (record now.watch { texts = earlier.watch.texts }) h.back x e k
 
   pub notes_more : (old mid : Sight V) (watch : Watch) (ws : List (List ℕ)) (w : List ℕ) → Notes v old mid p ws →
       watching.Notes mid.watch watch p w → Notes v old (record mid { watch = watch }) p (ws ++ w ∷ [])

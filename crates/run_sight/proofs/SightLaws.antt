@@ -34,7 +34,7 @@ use Rattle.run_sight.specs.declared.certified.Lengths.{Lengths}
 use Rattle.run_sight.specs.declared.sight.Sight.{Sight}
 use Rattle.run_sight.specs.Keeping.{AddsProven, AreKept, AreOf, Commits, Decisions, Keeps, KeepsFirst}
 use Rattle.run_sight.specs.Keeping.{SameKept, by_id, commits_of, committed_in, decisions_of}
-use Rattle.run_sight.specs.Sights.{BreaksBy, BreaksByFrame, BreaksByMessage, Ends, Follows, GoesBack}
+use Rattle.run_sight.specs.Sights.{BreaksBy, BreaksByFrame, BreaksByMessage, Ends, Follows, GoesBack, GoesTo}
 use Rattle.run_sight.specs.Sights.{KeepsSight, Sees, SeesFrame, SeesMessage, SeesNothing, SightValue, sight_of}
 
 -- ---- lists
@@ -83,10 +83,15 @@ still_keeps_first old new n pairs same h =
 
 -- ---- what the watch keeps
 
-faulty_after : (w : WatchValue) (ms : List MarkValue) → (after_marks w ms).faulty ≡ w.faulty
+pub faulty_after : (w : WatchValue) (ms : List MarkValue) → (after_marks w ms).faulty ≡ w.faulty
 faulty_after w [] = refl
 faulty_after w (Signature g ∷ ms) = faulty_after w ms
 faulty_after w (Text t ∷ ms) = faulty_after (seen_text w t) ms
+
+pub signed_after : (w : WatchValue) (ms : List MarkValue) → (after_marks w ms).signed ≡ w.signed
+signed_after w [] = refl
+signed_after w (Signature g ∷ ms) = signed_after w ms
+signed_after w (Text t ∷ ms) = signed_after (seen_text w t) ms
 
 -- ---- results
 
@@ -118,7 +123,7 @@ module _ {V : Type 0} (v : verifiers.Ghosts V) where
     same = refl;
     back = [];
     watch = watch;
-    texts = sym (ap (λ b. cond b [] []) shown);
+    texts = subst (λ b. GoesTo b sight.watch (record { faulty = s.faulty; signed = []; texts = [] }) [] []) (sym shown) watch;
     kept = kept_nothing (decisions_of sight.certified) (commits_of sight.certified) d c;
     before = first_of_none sight.certified sight.before d c;
   }
@@ -167,6 +172,11 @@ module _ {V : Type 0} (v : verifiers.Ghosts V) where
     pub breaks_nothing : (seen : Setup → State → Result State WorldFault) → BreaksBy v old seen watches.NoMemory
     breaks_nothing seen s st earlier h = tt
 
+    goes_as : (shown : Bool) (watch : Watch) (now : WatchValue) (back texts : List TransactionValue) → KeepsWatching old.watch watch →
+        GoesTo shown old.watch now back texts → GoesTo shown watch now back texts
+    goes_as true watch now back texts same h = h
+    goes_as false watch now back texts same h = same (record now { texts = texts }) back h
+
     -- as before
     pub keeps : (watch : Watch) (certified : Certified) → KeepsWatching old.watch watch → SameKept old.certified certified →
         KeepsSight v old (record old { watch = watch; certified = certified })
@@ -176,7 +186,7 @@ module _ {V : Type 0} (v : verifiers.Ghosts V) where
       same = h.same;
       back = h.back;
       watch = same now.watch h.back h.watch;
-      texts = h.texts;
+      texts = goes_as old.shown watch now.watch h.back earlier.watch.texts same h.texts;
       kept = still_keeps old.certified certified now.certified kept h.kept;
       before = still_keeps_first old.certified certified old.before earlier.certified kept h.before;
     }
@@ -190,7 +200,7 @@ module _ {V : Type 0} (v : verifiers.Ghosts V) where
       same = h.same;
       back = h.back;
       watch = h.watch;
-      texts = refl;
+      texts = h.watch;
       kept = h.kept;
       before =
           let ds = decisions_of old.certified in
@@ -226,39 +236,39 @@ module _ {V : Type 0} (v : verifiers.Ghosts V) where
 
     -- ---- going back
 
-    backed : (shown : Bool) (watch : Watch) (now earlier : WatchValue) (back : List TransactionValue) → old.shown ≡ shown →
-        earlier.texts ≡ cond old.shown back now.texts →
-        (shown ≡ true → watching.GoesBack old.watch watch) → (shown ≡ false → watch ≡ old.watch) → Watches old.watch now back →
-        Watches watch (record now { texts = earlier.texts }) back
-    backed true watch now earlier back e texts back_by same h =
-        let is : earlier.texts ≡ back = texts ∙ ap (λ b. cond b back now.texts) e in
-        subst (λ ts. Watches watch (record now { texts = ts }) back) (sym is) (back_by refl now back h)
-    backed false watch now earlier back e texts back_by same h =
-        let is : earlier.texts ≡ now.texts = texts ∙ ap (λ b. cond b back now.texts) e in
-        subst (λ ts. Watches watch (record now { texts = ts }) back) (sym is) (subst (λ w. Watches w now back) (sym (same refl)) h)
+    backed : (shown : Bool) (watch : Watch) (now : WatchValue) (back texts : List TransactionValue) →
+        GoesTo shown old.watch now back texts → (shown ≡ true → watching.GoesBack old.watch watch) → (shown ≡ false → watch ≡ old.watch) →
+        Watches old.watch now back → Watches watch (record now { texts = texts }) back
+    backed true watch now back texts goes back_by same h =
+        subst (λ ts. Watches watch (record now { texts = ts }) back) (sym goes) (back_by refl now back h)
+    backed false watch now back texts goes back_by same h =
+        subst (λ w. Watches w (record now { texts = texts }) back) (sym (same refl)) goes
 
-    again : (shown : Bool) (ts us back : List TransactionValue) → ts ≡ cond shown back us → ts ≡ cond shown back ts
-    again true ts us back e = e
-    again false ts us back e = refl
+    again : (shown : Bool) (watch : Watch) (now : WatchValue) (back texts : List TransactionValue) → GoesTo shown old.watch now back texts →
+        Watches watch (record now { texts = texts }) back → GoesTo shown watch (record now { texts = texts }) back texts
+    again true watch now back texts goes h = goes
+    again false watch now back texts goes h = h
 
-    pub goes_back : (shown : Bool) (watch : Watch) (certified : Certified) → old.shown ≡ shown →
-        (shown ≡ true → watching.GoesBack old.watch watch) → (shown ≡ false → watch ≡ old.watch) →
+    pub goes_back : (watch : Watch) (certified : Certified) →
+        (old.shown ≡ true → watching.GoesBack old.watch watch) → (old.shown ≡ false → watch ≡ old.watch) →
         decisions_of certified ≡ take old.before.decisions (decisions_of old.certified) →
         commits_of certified ≡ take old.before.commits (commits_of old.certified) →
         GoesBack v old (record old { watch = watch; certified = certified })
-    goes_back shown watch certified e back_by same d c s now earlier h = record {
-      own = h.own;
-      faulty = h.faulty;
-      same = h.same;
-      back = h.back;
-      watch = backed shown watch now.watch earlier.watch h.back e h.texts back_by same h.watch;
-      texts = again old.shown earlier.watch.texts now.watch.texts h.back h.texts;
-      kept = kept_as _ (decisions_of certified) _ (commits_of certified) earlier.certified d c h.before;
-      before = kept_as _ (take old.before.decisions (decisions_of certified)) _ (take old.before.commits (commits_of certified))
-          earlier.certified
-          (ap (take old.before.decisions) d ∙ take_again old.before.decisions (decisions_of old.certified))
-          (ap (take old.before.commits) c ∙ take_again old.before.commits (commits_of old.certified)) h.before;
-    }
+    goes_back watch certified back_by same d c s now earlier h =
+        let back = backed old.shown watch now.watch h.back earlier.watch.texts h.texts back_by same h.watch in
+        record {
+          own = h.own;
+          faulty = h.faulty;
+          same = h.same;
+          back = h.back;
+          watch = back;
+          texts = again old.shown watch now.watch h.back earlier.watch.texts h.texts back;
+          kept = kept_as _ (decisions_of certified) _ (commits_of certified) earlier.certified d c h.before;
+          before = kept_as _ (take old.before.decisions (decisions_of certified)) _ (take old.before.commits (commits_of certified))
+              earlier.certified
+              (ap (take old.before.decisions) d ∙ take_again old.before.decisions (decisions_of old.certified))
+              (ap (take old.before.commits) c ∙ take_again old.before.commits (commits_of old.certified)) h.before;
+        }
 
     -- ---- what is told
 

@@ -1,5 +1,5 @@
 -- What a sight stands for: the part of a run's state that seeing frames changes.
-use Rattle.std.specs.Prelude.{◌≡◌, ℕ, ◌<◌, List, Result, Ok, Err, length, map, take, ⊤, if◌then◌else◌}
+use Rattle.std.specs.Prelude.{◌≡◌, ℕ, ◌<◌, Bool, true, false, List, Result, Ok, Err, length, map, take, ⊤}
 use Rattle.basil_types.specs.declared.party.Party.{Party}
 use Rattle.basil_types.specs.Transaction.{TransactionValue}
 use Rattle.basil_types.specs.Words.{SignedWords, words_of}
@@ -7,12 +7,14 @@ use Rattle.frame_views.specs.Values.{MessageValue, PairValue}
 use Rattle.keyring.specs.declared.verifier.Verifier as verifiers
 use Rattle.premise_watch.specs.declared.broken.WatchFault.{WatchFault}
 use Rattle.premise_watch.specs.declared.broken.WatchFault.TheVariants as watches
+use Rattle.premise_watch.specs.declared.watch.Watch.{Watch}
 use Rattle.premise_watch.specs.Breaches.{WatchValue}
 use Rattle.premise_watch.specs.Watches.{Watches}
 use Rattle.cluster_run.specs.declared.fault.WorldFault.{WorldFault}
 use Rattle.cluster_run.specs.declared.fault.WorldFault.TheVariants as fault
 use Rattle.cluster_run.specs.Parts.{noted, see, see_message}
 use Rattle.cluster_run.specs.States.{Setup, State}
+use Rattle.sight_laws.specs.Seen.{IsSeenFrame}
 use Rattle.run_sight.specs.declared.sight.Sight.{Sight}
 use Rattle.run_sight.specs.Keeping.{AreOf, Keeps, KeepsFirst}
 
@@ -25,16 +27,21 @@ pub record SightValue : Type 0 where
 abbrev pub sight_of : State → SightValue
 sight_of st = record { watch = st.watch; certified = st.certified }
 
+-- to what `undo` goes back: what was seen earlier is that to which the watch goes back, or the watch tells of it as well
+abbrev pub GoesTo : (shown : Bool) → Watch → (now : WatchValue) → (back earlier : List TransactionValue) → Type 0
+GoesTo true watch now back earlier = earlier ≡ back
+GoesTo false watch now back earlier = Watches watch (record now { texts = earlier }) back
+
 -- a sight of a run in which this was signed and seen; `undo` goes back to what was seen earlier
 pub record Sees {V : Type 0} (v : verifiers.Ghosts V) (sight : Sight V) (s : Setup) (now earlier : SightValue)
     : Type 0 where
   pub own : AreOf (v.accepted sight.keys) sight.cluster s
   pub faulty : sight.faulty ≡ s.faulty
   pub same : now.watch.faulty ≡ s.faulty
-  -- the transactions to which the watch goes back, if the last frame was a message
+  -- the transactions to which the watch goes back, if the last frame was a message that was new
   pub back : List TransactionValue
   pub watch : Watches sight.watch now.watch back
-  pub texts : earlier.watch.texts ≡ (if sight.shown then back else now.watch.texts)
+  pub texts : GoesTo sight.shown sight.watch now.watch back earlier.watch.texts
   pub kept : Keeps sight.certified now.certified
   pub before : KeepsFirst sight.certified sight.before earlier.certified
 
@@ -72,6 +79,13 @@ module _ {V : Type 0} (v : verifiers.Ghosts V) (old new : Sight V) where
   -- the message is seen
   abbrev pub SeesMessage : MessageValue → Type 0
   SeesMessage m = Follows (λ s. see_message s (Ok m))
+
+  -- the frame is seen, where it was seen before if this says so
+  abbrev pub Looks : List ℕ → (was_seen : Bool) → Type 0
+  Looks frame was_seen =
+      (s : Setup) (st : State) (earlier : SightValue) → Sees v old s (sight_of st) earlier →
+      (was_seen ≡ true → IsSeenFrame s st.watch st.certified frame) →
+      (after : State) × (see s frame st ≡ Ok after) × Sees v new s (sight_of after) (sight_of st)
 
   -- nothing is seen, and `undo` would change nothing
   abbrev pub SeesNothing : Type 0

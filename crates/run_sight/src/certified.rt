@@ -14,7 +14,6 @@ ghost use Rattle.frame_views.specs.Shown.{certificate_of, message_of};
 
 use crate::ordered;
 use crate::proven::is_proven;
-use basil_types::bytes::id_of;
 use basil_types::cluster::Cluster;
 use basil_types::memory::NoMemory;
 use basil_types::party::{Decision, is_abort};
@@ -148,7 +147,7 @@ impl Certified {
             (AddsProven (V.accepted keys.now) cluster.now (pair_of pair.entry ∷ []) self.old self.new) }
         ensures grown { HasGrown self.old self.new }
     {
-        let id = id_of(pair.transaction.bytes());
+        let id = pair.transaction.id();
         let decision = decision_of(&pair.certificate.body());
         if self.knows(&id, decision) {
             return Ok(());

@@ -22,6 +22,7 @@ use keyring::verifier::Verifier;
 use premise_watch::broken::WatchFault;
 use premise_watch::faulty::Faulty;
 use premise_watch::watch::Watch;
+use sight_laws::seen_shows_nothing;
 use std::alloc::Global;
 
 /// What a run has seen of its frames: the words that parties signed, the transactions that were seen, and of each id
@@ -34,7 +35,7 @@ pub struct Sight<V: Verifier> {
     keys: V,
     watch: Watch,
     certified: Certified,
-    /// Whether the last frame that was seen was a message.
+    /// Whether the last frame that was seen was a message that was new, so that the watch goes back.
     shown: bool,
     /// How much was kept before it.
     before: Lengths,
@@ -42,7 +43,7 @@ pub struct Sight<V: Verifier> {
 
 impl<V: Verifier> Sight<V> {
     ghost use Rattle.run_sight.specs.Sights.{Sees, SeesFrame, SeesMessage, BreaksByFrame, BreaksByMessage, KeepsSight};
-    ghost use Rattle.run_sight.specs.Sights.{GoesBack, Notes, NotesSome, SeesNothing};
+    ghost use Rattle.run_sight.specs.Sights.{GoesBack, Looks, Notes, NotesSome, SeesNothing};
 
     /// The sight of a run of this cluster with these faulty parties and this keyring, before its first frame. Takes no
     /// memory.
@@ -114,6 +115,21 @@ impl<V: Verifier> Sight<V> {
                 Ok(())
             }
         }
+    }
+
+    /// Sees a frame as `see` does. Of one that was seen before, as each message of a pool was when it entered, nothing is
+    /// read, since it shows nothing new.
+    pub fn look(&mut self, frame: &[u8], was_seen: bool) -> Result<(), WatchFault>
+        ensures seen { OnOk result (Looks V.Verifier self.old self.new frame.now was_seen) }
+        ensures breach { IfErr result (BreaksByFrame V.Verifier self.old frame.now) }
+        ensures as_before { OnErr result (KeepsSight V.Verifier self.old self.new) }
+    {
+        if was_seen {
+            seen_shows_nothing();
+            self.see_nothing();
+            return Ok(());
+        }
+        self.see(frame)
     }
 
     /// Takes back the last frame that was seen, once: where there is none, it showed nothing or it was taken back,

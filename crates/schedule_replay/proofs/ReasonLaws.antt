@@ -1,14 +1,15 @@
 -- Why a line is refused, from what a world and its names tell.
 use Rattle.std.proofs.Common.{◌≡◌, ℕ, ◌≤◌, length, Bool, true, false, not, List, Option, Some, None, refl, sym, ap, ◌∙◌, arith, is_some}
-use Rattle.std.specs.Prelude.{◌&&◌, find, nat_le, nat_lt, option_and_then, option_map}
+use Rattle.std.specs.Prelude.{◌&&◌, ◌||◌, find, nat_le, nat_lt, option_and_then, option_map}
 use Rattle.std.specs.Option.{option_map_or}
 use Rattle.std.proofs.lemmas.Grind.{common_steps}
 use Rattle.basil_types.specs.Transaction.{TransactionValue}
 use Rattle.basil_types.specs.declared.party.Party.TheVariants.{Client}
 use Rattle.cluster_run.specs.States.{State, is_faulty}
 use Rattle.cluster_run.specs.Telling.{transaction_at}
-use Rattle.schedule_replay.specs.Names.{is_by_faulty, is_formed, is_named, is_of_faulty, number_of}
-use Rattle.schedule_replay.specs.Reasons.{is_message}
+use Rattle.schedule_replay.specs.Names.{is_begun, is_by_faulty, is_formed, is_named, is_of_faulty, number_of}
+use Rattle.schedule_replay.specs.Reasons.{is_message, misnames}
+use Rattle.schedule_text.specs.declared.line.Line.TheVariants.{Claim}
 use Rattle.schedule_replay.specs.Replays.{NamedValue, NamesValue, ReplayValue}
 
 there : {A B : Type 0} (f : A → B) (o : Option A) → is_some o ≡ is_some (option_map f o)
@@ -46,3 +47,9 @@ pub no_message : (st : State) (count message : ℕ) → 1 ≤ message → count 
     nat_lt count message ≡ not (is_message st message)
 no_message st count message some same =
     at_most count message some ∙ ap (λ (n : ℕ). not (nat_le 1 message && nat_le message n)) same
+
+-- a claim whose transaction is begun is misnamed where its writer isn't formed
+pub claim_misnamed : (r : ReplayValue) (name key : List ℕ) (writer : Option (List ℕ)) (b : Bool) → b ≡ is_begun r.names name → b ≡ true →
+    option_map_or (λ n. not (is_formed r n)) writer false ≡ misnames r (Claim name key writer)
+claim_misnamed r name key None b is h = sym (ap not (sym is ∙ h))
+claim_misnamed r name key (Some w) b is h = sym (ap (λ x. x || not (is_formed r w)) (ap not (sym is ∙ h)))

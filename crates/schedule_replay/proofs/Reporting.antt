@@ -275,3 +275,14 @@ whole_report r empty lines keyed text messages none a b n c =
     c ∙ ap (λ k. keyed ++ end_line k) n
     ∙ ap (λ o. o ++ end_line (length r.state.pool))
     (b ∙ ap (λ o. o ++ key_lines r.state) (a ∙ ap (λ o. o ++ tx_lines r 0 r.names.begun) none))
+
+-- four parts, one after the other
+pub four_parts : (x0 x1 x2 x3 x4 a b c d : List ℕ) → x0 ≡ [] → x1 ≡ x0 ++ a → x2 ≡ x1 ++ b → x3 ≡ x2 ++ c → x4 ≡ x3 ++ d →
+    (p q r s : List ℕ) → a ≡ p → b ≡ q → c ≡ r → d ≡ s → x4 ≡ ((p ++ q) ++ r) ++ s
+four_parts x0 x1 x2 x3 x4 a b c d none one two three four p q r s e f g h =
+    four
+    ∙ ap (λ x. x ++ d) (three ∙ ap (λ x. x ++ c) (two ∙ ap (λ x. x ++ b) (one ∙ ap (λ x. x ++ a) none)))
+    ∙ ap (λ x. ((x ++ b) ++ c) ++ d) e
+    ∙ ap (λ x. ((p ++ x) ++ c) ++ d) f
+    ∙ ap (λ x. ((p ++ q) ++ x) ++ d) g
+    ∙ ap (λ x. ((p ++ q) ++ r) ++ x) h

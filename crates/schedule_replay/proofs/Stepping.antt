@@ -169,6 +169,12 @@ module _ (r : ReplayValue) (course : Course) (answer : Result State WorldFault) 
   event_refused messages (step.World (world.Exhausted party)) goes = (fails (world.Exhausted party) goes.0, goes.1)
   event_refused messages step.NoMemory goes = tt
 
+  pub event_fails : (messages : List ℕ) (x : StepFault) (result : Result (Unit {0}) Halt) → IsErrAnd result (λ y. y ≡ halt_of x) →
+      Goes answer r course (Err x) → Does messages Answer r course result left
+  event_fails messages x (Ok done) h goes = absurd h
+  event_fails messages x (Err y) h goes =
+      subst (λ z. Does messages Answer r course (Err z) left) (sym h) (event_refused messages x goes)
+
 -- ---- another line than a round
 
 -- the event that was made is that of the line

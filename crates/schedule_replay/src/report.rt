@@ -14,7 +14,7 @@ ghost use Rattle.schedule_replay.specs.Telling.{AddsPlace, AreFirst, Tells, tran
 ghost use Rattle.schedule_text.specs.Spelling.{key_token};
 
 use crate::course::Course;
-use basil_types::bytes::{Bytes, id_of};
+use basil_types::bytes::Bytes;
 use basil_types::memory::NoMemory;
 use basil_types::party::Decision;
 use basil_types::version::Version;
@@ -128,7 +128,7 @@ impl Course {
             result ≡ option_map transactions.id (transaction_at r.state tx) }
     {
         match self.world.transaction(tx) {
-            Some(view) => Some(id_of(view.bytes())),
+            Some(view) => Some(view.id()),
             None => None,
         }
     }

@@ -7,7 +7,6 @@ ghost use Rattle.basil_types.specs.Version.{below};
 ghost use Rattle.txn_meta.specs.Form as forms;
 ghost use Rattle.txn_meta.specs.Form.{form_fault, first_not_below};
 
-use basil_types::bytes::id_of;
 use basil_types::transaction::TransactionView;
 use basil_types::version::Version;
 
@@ -53,7 +52,7 @@ pub fn version_of(t: TransactionView<'_>) -> Version
     Version {
         time: t.time(),
         client: t.client(),
-        id: id_of(t.bytes()),
+        id: t.id(),
     }
 }
 

@@ -7,7 +7,7 @@ ghost use Rattle.txn_table.specs.Entries.{askers_of, decision_of, outcome_of};
 ghost use Rattle.txn_table.specs.Shown.{entry_of, has_room, Tells};
 ghost use Rattle.txn_table.specs.Tables as tables;
 
-use basil_types::bytes::{Bytes, id_of};
+use basil_types::bytes::Bytes;
 use basil_types::list::List;
 use basil_types::memory::NoMemory;
 use basil_types::party::{Decision, Party};
@@ -70,7 +70,7 @@ impl Entry {
     pub(crate) fn id(&self) -> [u8; 32]
         ensures { result ≡ tables.id_of (entry_of self.now) }
     {
-        id_of(self.view().bytes())
+        self.view().id()
     }
 
     /// The replica's own vote.

@@ -15,7 +15,6 @@ ghost use Rattle.txn_table.specs.Tables.{AreHeld, HasRoomAt, IsProofBelow, chang
 
 use crate::entry::Entry;
 use crate::waiters::Waiters;
-use basil_types::bytes::id_of;
 use basil_types::list::List;
 use basil_types::memory::NoMemory;
 use basil_types::party::{Decision, Party};
@@ -117,7 +116,7 @@ impl Table {
         ensures full { length self.old.entries ≡ 2 ^ 32 - 1
             → tables.place_of self.old.entries (transactions.id (transaction_of t.entry)) ≡ None → IsErr result }
     {
-        let id = id_of(t.bytes());
+        let id = t.id();
         match self.place_of(&id) {
             Some(place) => self.room_at(place, id),
             None => match self.room_for_waits(t) {

@@ -4,25 +4,30 @@ ghost use Rattle.std.specs.Prelude.{◌≡◌, ◌≢◌, IfOk, IfErr, OnOk, Non
 ghost use Rattle.basil_types.specs.Built.{built, build_fault};
 ghost use Rattle.basil_types.specs.Parsed.{spells_transaction, transaction_in};
 ghost use Rattle.basil_types.specs.Transaction.{IsTransaction};
+ghost use Rattle.basil_types.specs.Transaction as transactions;
+ghost use Rattle.basil_types.specs.Id.{id_of as named_by};
 
 use super::fault::BuildFault;
 use super::parts::{ReadPart, WritePart};
 use super::spell::{fault_in, spell};
 use super::view::TransactionView;
+use crate::bytes::id_of;
 use crate::memory::NoMemory;
 use crate::reading::in_range;
 use std::alloc::Global;
 use std::marker::Model;
 
-/// A transaction, by its canonical bytes.
+/// A transaction, by its canonical bytes, and its id, which is made once.
 #[derive(Drop)]
 pub struct Transaction {
     bytes: Vec<u8>,
+    id: [u8; 32],
 }
 
 impl Model for Transaction {
-    ghost use Rattle.std.specs.Prelude.{IsTrue};
+    ghost use Rattle.std.specs.Prelude.{◌≡◌, IsTrue};
     ghost use Rattle.basil_types.specs.Transaction.{TransactionValue};
+    ghost use Rattle.basil_types.specs.Id.{id_of};
 
     ghost Value = { TransactionValue };
 
@@ -30,7 +35,7 @@ impl Model for Transaction {
 
     ghost view = { λ t. transaction_in t.bytes.items };
 
-    ghost invariant = { λ t. IsTrue (spells_transaction t.bytes.items) };
+    ghost invariant = { λ t. IsTrue (spells_transaction t.bytes.items) × (t.id ≡ id_of t.bytes.items) };
 }
 
 impl Transaction {
@@ -55,7 +60,8 @@ impl Transaction {
             Some(fault) => Err(fault),
             None => {
                 let bytes = spell(alloc, time, client, reads, writes)?;
-                Ok(Transaction { bytes })
+                let id = id_of(bytes.as_slice());
+                Ok(Transaction { bytes, id })
             }
         }
     }
@@ -65,22 +71,34 @@ impl Transaction {
         ensures value { transaction_of result ≡ self.now }
         ensures in_range { IsTransaction self.now }
     {
-        TransactionView::of(in_range(self.bytes.as_slice()))
+        TransactionView::named(in_range(self.bytes.as_slice()), self.id)
+    }
+
+    /// Its id: the SHA-256 of its canonical bytes (FIPS 180-4).
+    pub fn id(&self) -> [u8; 32]
+        ensures { result ≡ transactions.id self.now }
+    {
+        self.view().id()
     }
 
     /// An equal transaction, or want of memory.
     pub fn try_copy(&self, alloc: Global) -> Result<Transaction, NoMemory>
         ensures { IfOk result (λ t. t ≡ self.now) }
     {
-        Transaction::of_bytes(alloc, self.bytes.as_slice())
+        Transaction::of_bytes(alloc, self.bytes.as_slice(), self.id)
     }
 
-    /// The transaction that these bytes, whole, spell.
-    pub(crate) fn of_bytes(alloc: Global, bytes: &[u8]) -> Result<Transaction, NoMemory>
-        requires { IsTrue (spells_transaction bytes.now) }
+    /// The transaction with this id that these bytes, whole, spell.
+    pub(crate) fn of_bytes(
+        alloc: Global,
+        bytes: &[u8],
+        id: [u8; 32],
+    ) -> Result<Transaction, NoMemory>
+        requires whole { IsTrue (spells_transaction bytes.now) }
+        requires named { id ≡ named_by bytes.now }
         ensures { IfOk result (λ t. t ≡ transaction_in bytes.now) }
     {
         let bytes = Vec::from_slice(alloc, bytes)?;
-        Ok(Transaction { bytes })
+        Ok(Transaction { bytes, id })
     }
 }

@@ -1,28 +1,33 @@
 //! Views of transactions in borrowed bytes.
 
-ghost use Rattle.std.specs.Prelude.{IsTrue};
+ghost use Rattle.std.specs.Prelude.{◌≡◌, IsTrue};
 ghost use Rattle.basil_types.specs.Parsed.{spells_transaction};
+ghost use Rattle.basil_types.specs.Id.{id_of};
 
 use super::fault::PartFault;
 use super::lists::{Front, ReadsIter, ReadsView, WritesIter, WritesView};
 use super::owned::Transaction;
 use super::parse::{before_writes, first, read_front};
 use super::parts::{ReadItem, WriteItem};
+use crate::bytes::id_of;
 use crate::memory::NoMemory;
 use crate::reading::{behind, between, in_range};
 use std::alloc::Global;
 
-/// A transaction, by its canonical bytes, which were checked.
+/// A transaction, by its canonical bytes, which were checked, and its id, which is made once.
 #[derive(Clone, Copy)]
 pub struct TransactionView<'a> {
     bytes: &'a [u8],
+    id: [u8; 32],
     ghost whole: { IsTrue (spells_transaction bytes.now) },
+    ghost named: { id ≡ id_of bytes.now },
 }
 
 impl<'a> TransactionView<'a> {
     ghost use Rattle.std.specs.Prelude.{◌≡◌, ◌≤◌, IfOk, Ok, length, drop, option_map, slice_get};
     ghost use Rattle.basil_types.specs.Steps.{Gives};
     ghost use Rattle.basil_types.specs.Transaction.{TransactionValue, IsTransaction, Begins, canonical};
+    ghost use Rattle.basil_types.specs.Transaction as transactions;
     ghost use Rattle.basil_types.specs.Placed.{transaction_from};
     ghost use Rattle.basil_types.specs.Parsed.{transaction_in};
     ghost use Rattle.basil_types.specs.Shown.{transaction_of, read_of, write_of, reads_left, writes_left};
@@ -80,6 +85,14 @@ impl<'a> TransactionView<'a> {
         in_range(self.bytes)
     }
 
+    /// The id: the SHA-256 of the canonical bytes (FIPS 180-4).
+    pub fn id(&self) -> [u8; 32]
+        ensures { result ≡ transactions.id (transaction_of self.now) }
+    {
+        let _ = in_range(self.bytes);
+        self.id
+    }
+
     /// The read at a place, from 0. None exactly past the end.
     pub fn read_at(&self, place: usize) -> Option<ReadItem<'a>>
         ensures { option_map read_of result ≡ slice_get (transaction_of self.now).reads place }
@@ -116,7 +129,7 @@ impl<'a> TransactionView<'a> {
     pub fn try_owned(&self, alloc: Global) -> Result<Transaction, NoMemory>
         ensures { IfOk result (λ t. t ≡ transaction_of self.now) }
     {
-        Transaction::of_bytes(alloc, self.bytes)
+        Transaction::of_bytes(alloc, self.bytes, self.id)
     }
 
     /// The view of bytes that, whole, spell a transaction.
@@ -124,7 +137,19 @@ impl<'a> TransactionView<'a> {
         requires { IsTrue (spells_transaction bytes.now) }
         ensures { transaction_of result ≡ transaction_in bytes.now }
     {
-        TransactionView { bytes }
+        TransactionView {
+            bytes,
+            id: id_of(bytes),
+        }
+    }
+
+    /// The view of bytes that, whole, spell the transaction with this id.
+    pub(crate) fn named(bytes: &'a [u8], id: [u8; 32]) -> TransactionView<'a>
+        requires whole { IsTrue (spells_transaction bytes.now) }
+        requires named { id ≡ id_of bytes.now }
+        ensures { transaction_of result ≡ transaction_in bytes.now }
+    {
+        TransactionView { bytes, id }
     }
 
     fn front(&self) -> Front

@@ -12,7 +12,6 @@ ghost use Rattle.frame_views.specs.Walks.{signed_of};
 
 use crate::frames::{CommittedView, ReadReplyView};
 use crate::items::{ElectItem, InvokeItem, VoteItem};
-use basil_types::bytes::id_of;
 use basil_types::party::{Decision, Party};
 use basil_types::transaction::TransactionView;
 use basil_types::version::Version;
@@ -30,7 +29,7 @@ pub struct SignedItem<'a> {
 pub(super) fn id_in(transaction: TransactionView<'_>) -> [u8; 32]
     ensures { result ≡ transactions.id (transaction_of transaction.entry) }
 {
-    id_of(transaction.bytes())
+    transaction.id()
 }
 
 /// The version of a transaction.

@@ -1,5 +1,4 @@
 use Rattle.std.proofs.Common.{◌∙◌, ℕ, List, ap}
-use Rattle.basil_types.specs.Id.{id_of}
 use Rattle.basil_types.specs.Transaction.{id}
 use Rattle.basil_types.specs.Words.{TransactionWords, words_of}
 use Rattle.client_core.proofs.preparing.pending_for.Goals as goal
@@ -8,4 +7,4 @@ pub returns-clause-words : goal.returns-clause-words
 returns-clause-words c =
     c.in_ok-pending.ensures.words ∙ c.transaction.ensures
     ∙ ap (λ (k : List ℕ). words_of (TransactionWords k))
-    (c.id_of-id.ensures ∙ ap id_of c.bytes.ensures.spelled ∙ ap id c.view.ensures.value)
+    (c.id-id.ensures ∙ ap id c.view.ensures.value)

@@ -1,5 +1,4 @@
 use Rattle.std.proofs.Common.{◌∙◌, List, ℕ, sym, ap, subst}
-use Rattle.basil_types.specs.Id.{id_of}
 use Rattle.basil_types.specs.Transaction.{id}
 use Rattle.frame_views.specs.declared.frames.views.MessageView.{MessageView}
 use Rattle.frame_views.specs.Shown.{message_of, voted_of, log_reply_of, writeback_of}
@@ -34,7 +33,7 @@ pub returns-in-Writeback-clause-answer : goal.returns-in-Writeback-clause-answer
 returns-in-Writeback-clause-answer g c = λ signing v h.
     let me = self_at c.args.seat.now (g.V.Verifier.accepted c.args.keys.now) signing in
     let w = c.in-Writeback.writeback in
-    let named = c.id_of-named.ensures ∙ ap id_of c.bytes.ensures.spelled in
+    let named = c.id-named.ensures in
     subst (IsPlannedFrame signing c.plan_named-in-Writeback.new.held v c.plan_named-in-Writeback.result)
     (ap (λ (n : List ℕ). on_named me v n (message_of c.args.m.now)) named
     ∙ ap (λ (x : MessageView). on_named me v (id (writeback_of w).transaction) (message_of x)) c.in-Writeback.is

@@ -1,6 +1,5 @@
 use Rattle.std.proofs.Common.{◌≡◌, ◌∙◌, Some, None, sym, ap, refl}
 use Rattle.std.specs.Prelude.{Option, option_map}
-use Rattle.basil_types.specs.Id.{id_of}
 use Rattle.basil_types.specs.Transaction.{id}
 use Rattle.node_steps.specs.Refusing.{unless}
 use Rattle.txn_meta.specs.Form.{form_fault}
@@ -27,8 +26,8 @@ returns-in-Ok-plan_held-clause-answer c = λ signing accepts v h.
     let t = c.args.t.now in
     let place = c.in-Some.place in
     let good = ap form_fault (sym c.view.ensures.value) ∙ c.in-Ok.ensures.good in
-    let named : c.id_of-id.result ≡ id t =
-    c.id_of-id.ensures ∙ ap id_of c.bytes.ensures.spelled ∙ ap id c.view-2.ensures.value in
+    let named : c.id-id.result ≡ id t =
+    c.id-id.ensures ∙ ap id c.view-2.ensures.value in
     let at : slot_of_id v (id t) ≡ Some place = ap (slot_of_id v) (sym named) ∙ sym (c.in-Some.ensures.found v h) in (
       again_done me v place,
       recover_answer me v t c.args.signature.now (Some place) good at,
@@ -39,8 +38,8 @@ pub returns-in-Ok-plan_held-clause-slot : goal.returns-in-Ok-plan_held-clause-sl
 returns-in-Ok-plan_held-clause-slot c = λ v h.
     let t = c.args.t.now in
     let place = c.in-Some.place in
-    let named : c.id_of-id.result ≡ id t =
-    c.id_of-id.ensures ∙ ap id_of c.bytes.ensures.spelled ∙ ap id c.view-2.ensures.value in
+    let named : c.id-id.result ≡ id t =
+    c.id-id.ensures ∙ ap id c.view-2.ensures.value in
     let at : slot_of_id v (id t) ≡ Some place = ap (slot_of_id v) (sym named) ∙ sym (c.in-Some.ensures.found v h) in
     c.in-Ok-plan_held.ensures.slot ∙ ap Some (recovered_held v t (Some place) at)
 
@@ -49,8 +48,8 @@ returns-in-Ok-plan_hold-clause-answer c = λ signing accepts v h.
     let me = self_at c.args.seat.now accepts signing in
     let t = c.args.t.now in
     let good = ap form_fault (sym c.view.ensures.value) ∙ c.in-Ok.ensures.good in
-    let named : c.id_of-id.result ≡ id t =
-    c.id_of-id.ensures ∙ ap id_of c.bytes.ensures.spelled ∙ ap id c.view-2.ensures.value in
+    let named : c.id-id.result ≡ id t =
+    c.id-id.ensures ∙ ap id c.view-2.ensures.value in
     let at : slot_of_id v (id t) ≡ None = ap (slot_of_id v) (sym named) ∙ sym (c.in-None.ensures.found v h) in (
       hold_done me v t c.args.signature.now,
       recover_answer me v t c.args.signature.now None good at,
@@ -60,7 +59,7 @@ returns-in-Ok-plan_hold-clause-answer c = λ signing accepts v h.
 pub returns-in-Ok-plan_hold-clause-slot : goal.returns-in-Ok-plan_hold-clause-slot
 returns-in-Ok-plan_hold-clause-slot c = λ v h.
     let t = c.args.t.now in
-    let named : c.id_of-id.result ≡ id t =
-    c.id_of-id.ensures ∙ ap id_of c.bytes.ensures.spelled ∙ ap id c.view-2.ensures.value in
+    let named : c.id-id.result ≡ id t =
+    c.id-id.ensures ∙ ap id c.view-2.ensures.value in
     let at : slot_of_id v (id t) ≡ None = ap (slot_of_id v) (sym named) ∙ sym (c.in-None.ensures.found v h) in
     c.in-Ok-plan_hold.ensures.slot v h ∙ ap Some (recovered_held v t None at)

@@ -1,4 +1,5 @@
 use Rattle.std.proofs.Common.{refl}
+use Rattle.basil_types.proofs.MemberLaws.{in_none}
 use Rattle.cluster_run.specs.States.{start}
 use Rattle.run_sight.specs.Sights.{sight_of}
 use Rattle.cluster_world.specs.Building.{setup_of}
@@ -20,4 +21,5 @@ returns g c =
         refused = refl;
       };
       posts = c.new-3.ensures.posts;
+      seen = λ p i. absurd (in_none p i);
     }

@@ -3,5 +3,4 @@ use Rattle.cluster_world.proofs.preparing.id_in.Goals as goal
 
 pub returns : goal.returns
 returns c =
-    id_told c.in_ok-formed.formed.now _ c.bytes.result.now c.id_of.result _ c.id_of.ensures c.bytes.ensures.spelled c.transaction.result.now
-    c.view.ensures.value c.transaction.ensures.value c.in_ok-formed.ensures
+    id_told c.in_ok-formed.formed.now c.id.result _ c.transaction.result.now c.id.ensures c.transaction.ensures.value c.in_ok-formed.ensures

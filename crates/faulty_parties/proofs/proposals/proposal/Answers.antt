@@ -1,6 +1,5 @@
 use Rattle.std.proofs.Common.{◌≡◌, ◌∙◌, List, ap, map, subst}
 use Rattle.std.specs.Prelude.{IfOk}
-use Rattle.basil_types.specs.Id.{id_of}
 use Rattle.basil_types.specs.Shown.{transaction_of}
 use Rattle.basil_types.specs.Transaction.{id}
 use Rattle.frame_values.specs.Owned.{word_value}
@@ -22,7 +21,7 @@ returns-clause-says g c s st cluster accepted posts =
     let is : map word_value c.as_slice.result.now ≡ words_from s st t d place.shard said.view =
     ap (map word_value) c.as_slice.ensures.value ∙ c.in_ok-words.ensures.words
     ∙ ap (λ i. words_in A c.args.cluster.now c.args.pool.now.posts i d place.shard said.view)
-    (c.id_of-id.ensures ∙ ap id_of c.bytes.ensures.spelled)
+    (c.id-id.ensures)
     ∙ ap (λ a. words_in a c.args.cluster.now c.args.pool.now.posts (id t) d place.shard said.view) accepted
     ∙ ap (λ x. words_in s.kit.accepts x c.args.pool.now.posts (id t) d place.shard said.view) cluster
     ∙ ap (λ x. words_in s.kit.accepts s.cluster x (id t) d place.shard said.view) posts

@@ -1,5 +1,4 @@
-use Rattle.std.proofs.Common.{◌∙◌, ap, map}
-use Rattle.basil_types.specs.Id.{id_of}
+use Rattle.std.proofs.Common.{◌∙◌, map}
 use Rattle.basil_types.specs.Shown.{transaction_of}
 use Rattle.frame_values.specs.Owned.{word_value}
 use Rattle.faulty_parties.specs.Unsaid.{unsaid_proposal}
@@ -14,6 +13,6 @@ returns-clause-says c =
     let t = transaction_of c.args.t in
     let words = map word_value c.args.words.now in
     lie_says c.of.result p (unsaid_proposal place.shard place.index t said.decision said.view c.args.to words) c.of.ensures.pending
-    (proposal_waits place.shard place.index t said.decision said.view c.args.to words c.id_of-id.result c.in_ok-frame.frame.items p
-    (c.id_of-id.ensures ∙ ap id_of c.bytes.ensures.spelled) (c.in_ok-pending.ensures.words ∙ c.proposal-words.ensures)
+    (proposal_waits place.shard place.index t said.decision said.view c.args.to words c.id-id.result c.in_ok-frame.frame.items p
+    (c.id-id.ensures) (c.in_ok-pending.ensures.words ∙ c.proposal-words.ensures)
     c.in_ok-pending.ensures.fronts c.in_ok-frame.ensures c.signatures_end_frames.ensures.decides)

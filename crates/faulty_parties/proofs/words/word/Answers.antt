@@ -1,5 +1,4 @@
-use Rattle.std.proofs.Common.{◌∙◌, ap}
-use Rattle.basil_types.specs.Id.{id_of}
+use Rattle.std.proofs.Common.{◌∙◌}
 use Rattle.basil_types.specs.Shown.{transaction_of}
 use Rattle.faulty_parties.specs.Unsaid.{unsaid_word}
 use Rattle.faulty_parties.proofs.SaidLaws.{lie_says, word_waits}
@@ -11,8 +10,8 @@ returns-clause-says c =
     let p = c.in_ok-pending.pending in
     let t = transaction_of c.args.t in
     lie_says c.of.result p (unsaid_word c.args.cluster.now place.shard place.index t c.args.decision c.args.view) c.of.ensures.pending
-    (word_waits c.args.cluster.now place.shard place.index t c.args.decision c.args.view c.id_of-id.result c.in_ok-frame.frame.items
+    (word_waits c.args.cluster.now place.shard place.index t c.args.decision c.args.view c.id-id.result c.in_ok-frame.frame.items
     c.leads-to.result p
-    (c.id_of-id.ensures ∙ ap id_of c.bytes.ensures.spelled) c.leads-to.ensures
+    (c.id-id.ensures) c.leads-to.ensures
     (c.in_ok-pending.ensures.words ∙ c.election-words.ensures)
     c.in_ok-pending.ensures.fronts c.in_ok-frame.ensures c.signatures_end_frames.ensures.elects)

@@ -1,6 +1,5 @@
 use Rattle.std.proofs.Common.{◌≡◌, ℕ, Option, Some, None, false, not, ◌==◌, sym, ap, subst, ◌∙◌, List}
 use Rattle.std.specs.Prelude.{option_map}
-use Rattle.basil_types.specs.Id.{id_of}
 use Rattle.basil_types.specs.Built.{or_else}
 use Rattle.basil_types.specs.Shown.{transaction_of}
 use Rattle.basil_types.specs.Transaction.{TransactionValue, id}
@@ -38,12 +37,12 @@ returns-in-Some-clause-answer g c accepts book =
     let leads : not (leader_of seat.home.cluster t.time m.view == m.replica) ≡ false =
     sym (ap (λ (n : ℕ). not (leader_of seat.home.cluster n m.view == m.replica)) timed) ∙ sym c.is_led_by_another.ensures
     ∙ c.if-is_led_by_another.false in
-    let named : c.id_of-id.result ≡ id mt = c.id_of-id.ensures ∙ ap id_of c.bytes.ensures.spelled in
+    let named : c.id-id.result ≡ id mt = c.id-id.ensures in
     let log = c.in-Some.log.now in
-    let found : logged_with old (id mt) ≡ Some (logged_as c.id_of-id.result log) =
-    sym (ap (logged_with old) named) ∙ ap (λ (ls : List LoggedEntry). logged_with ls c.id_of-id.result) (sym c.make_room.ensures.entries)
+    let found : logged_with old (id mt) ≡ Some (logged_as c.id-id.result log) =
+    sym (ap (logged_with old) named) ∙ ap (λ (ls : List LoggedEntry). logged_with ls c.id-id.result) (sym c.make_room.ensures.entries)
     ∙ sym c.find.ensures
-    ∙ ap (option_map (λ x. logged_as c.id_of-id.result x.now)) c.in-Some.is in
+    ∙ ap (option_map (λ x. logged_as c.id-id.result x.now)) c.in-Some.is in
     subst
     (λ (o : Option Refusal). IsPlanned (perform_log signing) b c.plan_adopt.result
     (unless (or_else o (adopts me m l (pen_value spent left))) (adopt_done me b t m l)))
@@ -69,11 +68,11 @@ returns-in-None-clause-answer g c accepts book =
     let leads : not (leader_of seat.home.cluster t.time m.view == m.replica) ≡ false =
     sym (ap (λ (n : ℕ). not (leader_of seat.home.cluster n m.view == m.replica)) timed) ∙ sym c.is_led_by_another.ensures
     ∙ c.if-is_led_by_another.false in
-    let named : c.id_of-id.result ≡ id mt = c.id_of-id.ensures ∙ ap id_of c.bytes.ensures.spelled in
+    let named : c.id-id.result ≡ id mt = c.id-id.ensures in
     let found : logged_with old (id mt) ≡ None =
-    sym (ap (logged_with old) named) ∙ ap (λ (ls : List LoggedEntry). logged_with ls c.id_of-id.result) (sym c.make_room.ensures.entries)
+    sym (ap (logged_with old) named) ∙ ap (λ (ls : List LoggedEntry). logged_with ls c.id-id.result) (sym c.make_room.ensures.entries)
     ∙ sym c.find.ensures
-    ∙ ap (option_map (λ x. logged_as c.id_of-id.result x.now)) c.in-None.is in
+    ∙ ap (option_map (λ x. logged_as c.id-id.result x.now)) c.in-None.is in
     subst
     (λ (o : Option Refusal). IsPlanned (perform_log signing) b c.plan_adopt-in-None.result
     (unless (or_else o (adopts me m l (pen_value spent left))) (adopt_done me b t m l)))

@@ -1,7 +1,6 @@
 use Rattle.std.proofs.Common.{sym, ap, subst, ◌∙◌}
 use Rattle.std.specs.Prelude.{slice_get}
 use Rattle.std.specs.Option.{option_and_then}
-use Rattle.basil_types.specs.Id.{id_of}
 use Rattle.basil_types.specs.Shown.{transaction_of}
 use Rattle.node_steps.specs.Pens.{pen_value}
 use Rattle.txn_table.specs.Tables.{place_of}
@@ -15,7 +14,7 @@ use Rattle.replica_core.proofs.first.plan_first_stage.Goals as goal
 pub plan_first_vote-requires : goal.plan_first_vote-requires
 plan_first_vote-requires g c x h =
     let es = c.args.known.now.table.entries in
-    let named = c.id_of-id.ensures ∙ ap id_of c.bytes.ensures.spelled in
+    let named = c.id-id.ensures in
     let none = sym (ap (place_of es) named) ∙ sym c.place_of.ensures.place ∙ c.in-None.is in
     let z = sym (ap (option_and_then (slice_get es)) none) ∙ h in absurd cc
 
@@ -23,7 +22,7 @@ pub returns-in-None-clause-answer : goal.returns-in-None-clause-answer
 returns-in-None-clause-answer g c accepts book s =
     let es = c.args.known.now.table.entries in
     let t = transaction_of c.args.t in
-    let named = c.id_of-id.ensures ∙ ap id_of c.bytes.ensures.spelled in
+    let named = c.id-id.ensures in
     let none = sym (ap (place_of es) named) ∙ sym c.place_of.ensures.place ∙ c.in-None.is in
     let sg = g.S.Signer.fixed c.args.pen.now in
     let b = book_with book es (pen_value (g.S.Signer.spent c.args.pen.now) (g.S.Signer.left_of c.args.pen.now)) in

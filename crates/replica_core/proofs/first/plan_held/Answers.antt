@@ -1,7 +1,6 @@
 use Rattle.std.proofs.Common.{◌≡◌, ℕ, List, [], ◌∷◌, Some, sym, ap, subst, ◌∙◌}
 use Rattle.std.specs.Prelude.{slice_get, Ok}
 use Rattle.std.specs.Option.{option_and_then}
-use Rattle.basil_types.specs.Id.{id_of}
 use Rattle.basil_types.specs.Shown.{transaction_of}
 use Rattle.basil_types.specs.Transaction.{TransactionValue, id}
 use Rattle.frame_views.specs.Stored.{spells_certificate}
@@ -67,7 +66,7 @@ returns-in-Voted-clause-answer g c accepts book s =
     let is : entry_with es (id t) ≡ Some e = ap (option_and_then (slice_get es)) c.requires.place ∙ c.entry.ensures.entry in
     let both = sym c.entry-in-Voted.ensures.entry ∙ c.entry.ensures.entry in
     let same : f ≡ e = cc in
-    let named : c.id_of-id.result ≡ id e.transaction = c.id_of-id.ensures ∙ ap id_of c.bytes.ensures.spelled ∙ ap id c.view.ensures
+    let named : c.id-id.result ≡ id e.transaction = c.id-id.ensures ∙ ap id c.view.ensures
     ∙ ap (λ (x : EntryValue). id x.transaction) same in
     let equal = ap (answer_known me c.args.now c.args.from b t) is
     ∙ ap (by_vote me c.args.now c.args.from b e.transaction) c.in-Voted.ensures

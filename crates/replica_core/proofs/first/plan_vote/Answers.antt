@@ -1,7 +1,6 @@
 use Rattle.std.proofs.Common.{◌≡◌, ℕ, ◌<◌, List, [], ◌∷◌, length, Option, sym, ap, subst, ◌∙◌, arith}
 use Rattle.std.specs.Prelude.{option_map}
 use Rattle.std.specs.Option.{option_and_then}
-use Rattle.basil_types.specs.Id.{id_of}
 use Rattle.basil_types.specs.Shown.{transaction_of}
 use Rattle.basil_types.specs.Transaction.{id}
 use Rattle.basil_types.specs.Words.{words_of}
@@ -25,7 +24,7 @@ returns-clause-answer g c accepts book s =
     let left = g.S.Signer.left_of c.args.pen.now in
     let arrives = c.in_ok-arrival.arrival.arrives in
     let place = c.in_ok-arrival.arrival.place in
-    let named : c.id_of-id.result ≡ id u = c.id_of-id.ensures ∙ ap id_of c.bytes.ensures.spelled
+    let named : c.id-id.result ≡ id u = c.id-id.ensures
     ∙ sym c.in_ok-arrival.ensures.place.named in
     let proof = c.proof_of.ensures ∙ ap (λ (l : List EntryValue). option_and_then (proven_at l) c.args.proof) c.place_for.ensures.entries in
     vote_planned c.args.seat.now accepts (g.S.Signer.fixed c.args.pen.now) (book_with book es (pen_value spent left)) c.args.from u

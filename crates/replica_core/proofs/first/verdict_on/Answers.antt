@@ -1,5 +1,4 @@
 use Rattle.std.proofs.Common.{sym, ap, ◌∙◌}
-use Rattle.basil_types.specs.Id.{id_of}
 use Rattle.basil_types.specs.Shown.{transaction_of}
 use Rattle.mvtso_check.specs.Verdict as rules
 use Rattle.txn_table.specs.Shown.{entry_of}
@@ -11,7 +10,7 @@ pub returns-in-Some-clause-verdict : goal.returns-in-Some-clause-verdict
 returns-in-Some-clause-verdict c noted s =
     let es = c.args.known.now.table.entries in
     let t = transaction_of c.args.t in
-    let named = c.id_of-id.ensures ∙ ap id_of c.bytes.ensures.spelled in
+    let named = c.id-id.ensures in
     let at = sym (ap (place_of es) named) ∙ sym c.place_of.ensures.place ∙ c.in-Some.is in
     c.verdict_of.ensures.verdict noted s
     ∙ ap (rules.verdict c.args.seat.now.home c.args.now (record { entries = es; noted = noted })) (c.view.ensures
@@ -21,7 +20,7 @@ pub returns-in-None-clause-verdict : goal.returns-in-None-clause-verdict
 returns-in-None-clause-verdict c noted s =
     let es = c.args.known.now.table.entries in
     let t = transaction_of c.args.t in
-    let named = c.id_of-id.ensures ∙ ap id_of c.bytes.ensures.spelled in
+    let named = c.id-id.ensures in
     let none = sym (ap (place_of es) named) ∙ sym c.place_of.ensures.place ∙ c.in-None.is in
     c.verdict_of-in-None.ensures.verdict noted s
     ∙ ap (rules.verdict c.args.seat.now.home c.args.now (record { entries = es; noted = noted })) (sym (known_new es t none))

@@ -1,6 +1,5 @@
 use Rattle.std.proofs.Common.{◌≡◌, ℕ, List, Result, sym, ap, subst, ◌∙◌}
 use Rattle.std.specs.Prelude.{IfOk}
-use Rattle.basil_types.specs.Id.{id_of}
 use Rattle.basil_types.specs.Shown.{transaction_of}
 use Rattle.basil_types.specs.Transaction.{id}
 use Rattle.node_steps.specs.Pens.{pen_value}
@@ -28,7 +27,7 @@ returns-in-Some-clause-answer g c accepts book s =
     let t = transaction_of c.args.t in
     let me = self_at c.args.seat.now accepts sg in
     let x = recover_by me c.args.now c.args.from b t (logged_with b.logged (id t)) in
-    let named = c.id_of-id.ensures ∙ ap id_of c.bytes.ensures.spelled in
+    let named = c.id-id.ensures in
     let kept = kept_next parts.leading in
     subst (λ (r : Result Work Refusal). IsPlanned (perform_work sg kept) b r (unless_ended c.args.from b (id t) x))
     (sym c.known_work.ensures)
@@ -45,7 +44,7 @@ returns-in-None-clause-answer g c accepts book s =
     let t = transaction_of c.args.t in
     let me = self_at c.args.seat.now accepts sg in
     let x = recover_by me c.args.now c.args.from b t (logged_with b.logged (id t)) in
-    let named = c.id_of-id.ensures ∙ ap id_of c.bytes.ensures.spelled in
+    let named = c.id-id.ensures in
     let goes : unless_ended c.args.from b (id t) x ≡ x =
     ap (λ (y : List ℕ). unless_ended c.args.from b y x) (sym named) ∙ c.plan_ended.ensures.goes_on c.in-None.is b pen x in
     subst (IsPlanned (perform_work sg (kept_next c.plan_unended.new.parts.leading)) b c.plan_unended.result) (sym goes)

@@ -1,6 +1,5 @@
 use Rattle.std.proofs.Common.{◌≡◌, ℕ, List, Result, sym, ap, subst, ◌∙◌}
 use Rattle.std.specs.Prelude.{IfOk}
-use Rattle.basil_types.specs.Id.{id_of}
 use Rattle.basil_types.specs.Shown.{transaction_of}
 use Rattle.basil_types.specs.Transaction.{id}
 use Rattle.node_steps.specs.Pens.{pen_value}
@@ -30,7 +29,7 @@ returns-in-Some-clause-answer g c accepts book s =
     let t = transaction_of c.args.t in
     let me = self_at c.args.seat.now accepts sg in
     let x = log_or_reply me c.args.from b t c.args.decision (logged_with b.logged (id t)) in
-    let named = c.id_of-id.ensures ∙ ap id_of c.bytes.ensures.spelled in
+    let named = c.id-id.ensures in
     let done = perform_work sg (kept_next parts.leading) in
     subst (λ (r : Result Work Refusal). IsPlanned done b r (unless_ended c.args.from b (id t) x)) (sym c.known_work.ensures)
     (known_planned sg (kept_next parts.leading) b c.in-Some.planned (unless_ended c.args.from b (id t) x)
@@ -46,7 +45,7 @@ returns-in-None-clause-answer g c accepts book s =
     let t = transaction_of c.args.t in
     let me = self_at c.args.seat.now accepts sg in
     let x = log_or_reply me c.args.from b t c.args.decision (logged_with b.logged (id t)) in
-    let named = c.id_of-id.ensures ∙ ap id_of c.bytes.ensures.spelled in
+    let named = c.id-id.ensures in
     let equal : unless_ended c.args.from b (id t) x ≡ x =
     ap (λ (y : List ℕ). unless_ended c.args.from b y x) (sym named) ∙ c.plan_ended.ensures.goes_on c.in-None.is b pen x in
     let kept = kept_next parts.leading in

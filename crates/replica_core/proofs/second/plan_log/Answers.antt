@@ -1,6 +1,5 @@
 use Rattle.std.proofs.Common.{◌≡◌, ℕ, List, [], Option, Some, None, sym, ap, subst, ◌∙◌}
 use Rattle.std.specs.Prelude.{option_map}
-use Rattle.basil_types.specs.Id.{id_of}
 use Rattle.basil_types.specs.Shown.{transaction_of}
 use Rattle.basil_types.specs.Transaction.{id}
 use Rattle.decision_log.specs.Cells.{first_cell}
@@ -31,11 +30,11 @@ returns-in-Some-clause-answer g c accepts book =
     let old = c.args.logged.now.entries in
     let arrives = c.in_ok-arrives.arrives in
     let entries = sym (c.in_ok-arrives.ensures.with_it ∙ ap (λ (l : List EntryValue). arrived_in l arrives) c.newcomer.ensures.entries) in
-    let named : c.id_of-id.result ≡ id t = c.id_of-id.ensures ∙ ap id_of c.bytes.ensures.spelled in
+    let named : c.id-id.result ≡ id t = c.id-id.ensures in
     let there = sym (ap (logged_with old) named)
-    ∙ ap (λ (ls : List LoggedEntry). logged_with ls c.id_of-id.result) (sym c.make_room.ensures.entries) ∙ sym c.find.ensures in
-    let found : logged_with old (id t) ≡ Some (logged_as c.id_of-id.result c.in-Some.log.now) = there
-    ∙ ap (option_map (λ x. logged_as c.id_of-id.result x.now)) c.in-Some.is in
+    ∙ ap (λ (ls : List LoggedEntry). logged_with ls c.id-id.result) (sym c.make_room.ensures.entries) ∙ sym c.find.ensures in
+    let found : logged_with old (id t) ≡ Some (logged_as c.id-id.result c.in-Some.log.now) = there
+    ∙ ap (option_map (λ x. logged_as c.id-id.result x.now)) c.in-Some.is in
     subst
     (λ (o : Option LoggedEntry). IsPlanned (perform_log signing) b c.plan_reply.result
     (log_or_reply me c.args.from b t c.args.decision o)) (sym found)
@@ -52,10 +51,10 @@ returns-in-None-clause-answer g c accepts book =
     let old = c.args.logged.now.entries in
     let arrives = c.in_ok-arrives.arrives in
     let entries = sym (c.in_ok-arrives.ensures.with_it ∙ ap (λ (l : List EntryValue). arrived_in l arrives) c.newcomer.ensures.entries) in
-    let named : c.id_of-id.result ≡ id t = c.id_of-id.ensures ∙ ap id_of c.bytes.ensures.spelled in
+    let named : c.id-id.result ≡ id t = c.id-id.ensures in
     let there = sym (ap (logged_with old) named)
-    ∙ ap (λ (ls : List LoggedEntry). logged_with ls c.id_of-id.result) (sym c.make_room.ensures.entries) ∙ sym c.find.ensures in
-    let found : logged_with old (id t) ≡ None = there ∙ ap (option_map (λ x. logged_as c.id_of-id.result x.now)) c.in-None.is in
+    ∙ ap (λ (ls : List LoggedEntry). logged_with ls c.id-id.result) (sym c.make_room.ensures.entries) ∙ sym c.find.ensures in
+    let found : logged_with old (id t) ≡ None = there ∙ ap (option_map (λ x. logged_as c.id-id.result x.now)) c.in-None.is in
     let r = c.plan_anew.result in
     subst (λ (o : Option LoggedEntry). IsPlanned (perform_log signing) b r (log_or_reply me c.args.from b t c.args.decision o)) (sym found)
     (subst
@@ -65,5 +64,5 @@ returns-in-None-clause-answer g c accepts book =
     (subst
     (λ (k : LogCell). IsPlanned (perform_log signing) b r
     (unless (exhausted 1 (pen_value spent left))
-    (reply_anew me c.args.from b t (logged_at c.id_of-id.result k [])))) c.log_first.ensures.value
+    (reply_anew me c.args.from b t (logged_at c.id-id.result k [])))) c.log_first.ensures.value
     (c.plan_anew.ensures.answer accepts b t entries)))

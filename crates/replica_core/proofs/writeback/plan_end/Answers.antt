@@ -1,6 +1,5 @@
 use Rattle.std.proofs.Common.{◌≡◌, ℕ, List, [], length, true, refl, sym, ap, subst, ◌∙◌, arith}
 use Rattle.std.specs.Prelude.{Ok, Err}
-use Rattle.basil_types.specs.Id.{id_of}
 use Rattle.basil_types.specs.Shown.{transaction_of}
 use Rattle.basil_types.specs.Transaction.{id}
 use Rattle.basil_types.specs.declared.party.Decision.{Decision}
@@ -25,14 +24,14 @@ use Rattle.replica_core.proofs.writeback.plan_end.Goals as goal
 
 pub released_votes-requires : goal.released_votes-requires
 released_votes-requires g c x h =
-    let named = c.id_of-id.ensures ∙ ap id_of c.bytes.ensures.spelled in
+    let named = c.id-id.ensures in
     c.requires x (sym (ap (entry_with c.args.known.now.table.entries) named) ∙ h)
 
 pub plan_releases-requires-clause-within : goal.plan_releases-requires-clause-within
 plan_releases-requires-clause-within g c =
     let es = c.args.known.now.table.entries in
     subst (AreWithin es) (sym c.in_ok-votes.ensures)
-    (released_within c.released_votes_ascend.ensures c.args.seat.now.home es (place_of es c.id_of-id.result)
+    (released_within c.released_votes_ascend.ensures c.args.seat.now.home es (place_of es c.id-id.result)
     c.decision_of-outcome.result)
 
 pub returns-then-left-count-clause-answer : goal.returns-then-left-count-clause-answer
@@ -45,7 +44,7 @@ returns-then-left-count-clause-answer g c accepts book s n =
     let b = book_with book es (pen_value spent left) in
     let me = self_at c.args.seat.now accepts (g.S.Signer.fixed c.args.pen.now) in
     let cert = certificate_of c.args.certificate.now in
-    let named = c.id_of-id.ensures ∙ ap id_of c.bytes.ensures.spelled in
+    let named = c.id-id.ensures in
     let outcome = c.decision_of-outcome.ensures ∙ ap refusals.decision_of c.body.ensures.shows in
     let d = refusals.decision_of cert.body in
     let rs = releases me es (place_of es (id t)) d in
@@ -69,7 +68,7 @@ returns-clause-answer g c accepts book s =
     let b = book_with book es (pen_value spent left) in
     let cert = certificate_of c.args.certificate.now in
     let d = refusals.decision_of cert.body in
-    let named = c.id_of-id.ensures ∙ ap id_of c.bytes.ensures.spelled in
+    let named = c.id-id.ensures in
     let outcome : c.decision_of-outcome.result ≡ d = c.decision_of-outcome.ensures ∙ ap refusals.decision_of c.body.ensures.shows in
     let rs = released_by home es (place_of es (id t)) d in
     let is : c.in_ok-votes.votes.items ≡ rs = c.in_ok-votes.ensures
@@ -78,7 +77,7 @@ returns-clause-answer g c accepts book s =
     let are_same = releases_are me es (place_of es (id t)) d in
     let arrives = c.in_ok-arrival.arrival.arrives in
     let place = c.in_ok-arrival.arrival.place in
-    let bytes : c.in_ok-bytes.bytes.items ≡ certificate_bytes cert = c.in_ok-bytes.ensures ∙ c.bytes-2.ensures.spelled in
+    let bytes : c.in_ok-bytes.bytes.items ≡ certificate_bytes cert = c.in_ok-bytes.ensures ∙ c.bytes.ensures.spelled in
     let entries : changed (decided c.decision_of-outcome.result c.in_ok-bytes.bytes.items) place (arrived_in es arrives) ≡ changed_at
     (decided d (certificate_bytes cert)) (id t) (with_known es t) =
     sym (c.in_ok-arrival.ensures.place.change (decided c.decision_of-outcome.result c.in_ok-bytes.bytes.items))
@@ -101,7 +100,7 @@ returns-clause-ready g c =
     let seat = c.args.seat.now in
     let home = seat.home in
     let vs = c.in_ok-planned.planned.items in
-    let named = c.id_of-id.ensures ∙ ap id_of c.bytes.ensures.spelled in
+    let named = c.id-id.ensures in
     let outcome = c.decision_of-outcome.result in
     let rs = released_by home es (place_of es (id t)) outcome in
     let is : c.in_ok-votes.votes.items ≡ rs = c.in_ok-votes.ensures
@@ -114,7 +113,7 @@ returns-clause-ready g c =
     (subst (λ (l : List (ℕ × Decision)). AreReleasesOf seat c.size-size.result es l vs) is c.in_ok-planned.ensures) in (
       c.in_ok-arrival.ensures.place.arrives,
       c.in_ok-arrival.ensures.place.enters,
-      subst (λ (x : List ℕ). spells_certificate x ≡ true) (sym c.in_ok-bytes.ensures) c.bytes-2.ensures.whole,
+      subst (λ (x : List ℕ). spells_certificate x ≡ true) (sym c.in_ok-bytes.ensures) c.bytes.ensures.whole,
       end_can c.released_votes_ascend.ensures seat size home es _ t f outcome vs are
           (ap (λ (l : List EntryValue). changed f place (arrived_in l arrives)) c.place_for.ensures.entries
           ∙ sym (c.in_ok-arrival.ensures.place.change f)),

@@ -1,5 +1,4 @@
 use Rattle.std.proofs.Common.{◌≡◌, List, ℕ, map, refl, ap, ◌∙◌}
-use Rattle.basil_types.specs.Id.{id_of}
 use Rattle.basil_types.specs.Transaction.{id}
 use Rattle.basil_types.specs.Words.{words_of}
 use Rattle.node_steps.specs.Pendings.{front_of}
@@ -11,7 +10,7 @@ use Rattle.replica_core.proofs.writeback.plan_release.Goals as goal
 pub returns : goal.returns
 returns c =
     let e = entry_of c.entry-entry.result.now in
-    let named : c.id_of-id.result ≡ id e.transaction = c.id_of-id.ensures ∙ ap id_of c.bytes.ensures.spelled ∙ ap id c.view.ensures in
+    let named : c.id-id.result ≡ id e.transaction = c.id-id.ensures ∙ ap id c.view.ensures in
     record {
       entry = e;
       at = c.entry-entry.ensures.entry;

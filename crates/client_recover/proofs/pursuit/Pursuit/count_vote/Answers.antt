@@ -12,6 +12,9 @@ use Rattle.client_recover.proofs.pursuit.Pursuit.count_vote.Goals as goal
 pub push-requires-clause-place : goal.push-requires-clause-place
 push-requires-clause-place c = omega (arith, c.requires.fits.shard, c.n.ensures.in_range.few)
 
+pub push-requires-clause-replica : goal.push-requires-clause-replica
+push-requires-clause-replica c = omega (arith, c.requires.fits.replica, c.n.ensures.in_range.faulty)
+
 pub returns-in-Ok-clause-taken : goal.returns-in-Ok-clause-taken
 returns-in-Ok-clause-taken c =
     let old = c.args.self.now in

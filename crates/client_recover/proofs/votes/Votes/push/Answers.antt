@@ -1,27 +1,36 @@
-use Rattle.std.proofs.Common.{List, length, sym, ap, arith}
+use Rattle.std.proofs.Common.{List, length, ap, arith}
 use Rattle.basil_types.specs.declared.party.Decision.TheVariants.{Commit, Abort}
 use Rattle.client_recover.specs.declared.votes.CountedVote.{CountedVote}
 use Rattle.client_recover.proofs.CountLaws.{few_at}
+use Rattle.client_recover.proofs.VoterLaws.{few_voters}
 use Rattle.client_recover.proofs.votes.Votes.push.Goals as goal
 
-pub raise-requires-clause-few : goal.raise-requires-clause-few
-raise-requires-clause-few c =
+pub raise-requires : goal.raise-requires
+raise-requires c =
     let v = c.self.inside in
-    omega (
-      arith,
-      few_at Commit v.list.items v.commits c.self.invariant.0 c.args.vote.shard,
-      ap
-          (λ (vs : List CountedVote). length vs) c.self.view_is,
-      c.requires.few,
+    let few = few_voters v.list.items v.voters c.self.invariant.2 c.place_of-place.result in
+    let size = ap (λ (vs : List CountedVote). length vs) c.self.view_is in (
+      omega arith,
+      (
+        omega (arith, c.place_of-place.ensures, c.requires.place, c.requires.replica),
+        omega (arith, few, size, c.requires.few),
+      ),
     )
 
-pub raise-requires-in-Abort-clause-few : goal.raise-requires-in-Abort-clause-few
-raise-requires-in-Abort-clause-few c =
+pub raise-requires-in-Commit : goal.raise-requires-in-Commit
+raise-requires-in-Commit c =
     let v = c.self.inside in
-    omega (
-      arith,
-      few_at Abort v.list.items v.aborts c.self.invariant.1 c.args.vote.shard,
-      ap
-          (λ (vs : List CountedVote). length vs) c.self.view_is,
-      c.requires.few,
+    let few = few_at Commit v.list.items v.commits c.self.invariant.0 c.from-shard.result in
+    let size = ap (λ (vs : List CountedVote). length vs) c.self.view_is in (
+      omega arith,
+      (omega (arith, c.from-shard.ensures, c.requires.place), omega (arith, few, size, c.requires.few)),
+    )
+
+pub raise-requires-in-Abort : goal.raise-requires-in-Abort
+raise-requires-in-Abort c =
+    let v = c.self.inside in
+    let few = few_at Abort v.list.items v.aborts c.self.invariant.1 c.from-shard.result in
+    let size = ap (λ (vs : List CountedVote). length vs) c.self.view_is in (
+      omega arith,
+      (omega (arith, c.from-shard.ensures, c.requires.place), omega (arith, few, size, c.requires.few)),
     )

@@ -6,6 +6,7 @@ pub returns-in_err-took : goal.returns-in_err-took
 returns-in_err-took g c = λ s st h.
     deliver_fails g.V.Verifier g.S.Signer s c.args.self.now c.hand.new.self st c.args.message c.in-Some.from c.in-Some.to c.args.given.now
     c.parties_of.result c.in-Some.is c.parties_of.ensures.parties c.in-Some.ensures.number.0 h c.in_err-took.ensures.pool
+    c.has_frame-was_seen.result c.has_frame-was_seen.ensures
     c.from_residual.result c.in_err-took.field-0.0 c.from_residual.ensures.1 (c.in_err-took.ensures.handed s)
 
 pub react-requires : goal.react-requires
@@ -18,5 +19,6 @@ pub returns : goal.returns
 returns g c = λ s st h.
     deliver_comes g.V.Verifier g.S.Signer s c.args.self.now c.hand.new.self st c.args.message c.in-Some.from c.in-Some.to
     c.args.given.now c.parties_of.result c.in-Some.is c.parties_of.ensures.parties c.in-Some.ensures.number.0 h c.in_ok-took.ensures.pool
+    c.has_frame-was_seen.result c.has_frame-was_seen.ensures
     (record c.hand.new.self { pool = c.deliver.new.self }) c.react.new.self refl c.deliver.ensures.posts c.deliver.ensures.limits
     c.in_ok-took.took c.react.result (c.in_ok-took.ensures.handed s) (c.react.ensures s)

@@ -1,7 +1,5 @@
-use Rattle.std.proofs.Common.{refl}
-use Rattle.cluster_run.specs.Parts.{Mail}
 use Rattle.cluster_world.specs.Sending.{mail_from}
-use Rattle.cluster_world.proofs.SendingLaws.{Leaves, enter_ends, enter_full, enter_goes}
+use Rattle.cluster_world.proofs.SendingLaws.{enter_ends, enter_full, enter_goes}
 use Rattle.cluster_world.proofs.engine.Engine.enter.Goals as goal
 
 pub returns-then-not-has : goal.returns-then-not-has

@@ -1,4 +1,4 @@
-use Rattle.std.proofs.Common.{◌≡◌, ◌∙◌, [], ◌∷◌, ap, arith, refl, subst, sym}
+use Rattle.std.proofs.Common.{◌≡◌, ◌∙◌, [], ap, arith, refl, subst, sym}
 use Rattle.cluster_run.specs.Parts as parts
 use Rattle.message_pool.specs.Posts.{sent}
 use Rattle.cluster_world.specs.Sending.{HasRoomFor, mails}

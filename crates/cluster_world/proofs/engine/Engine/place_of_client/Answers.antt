@@ -1,4 +1,4 @@
-use Rattle.std.proofs.Common.{◌≡◌, ◌≤◌, arith, length, suc, subst}
+use Rattle.std.proofs.Common.{◌≡◌, ◌≤◌, arith, length, suc}
 use Rattle.cluster_world.proofs.AskingLaws.{nobody_there}
 use Rattle.cluster_world.proofs.engine.Engine.place_of_client.Goals as goal
 

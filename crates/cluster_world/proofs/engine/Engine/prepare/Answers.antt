@@ -1,4 +1,4 @@
-use Rattle.std.proofs.Common.{◌∙◌, ap, refl, sym}
+use Rattle.std.proofs.Common.{◌∙◌, ap, sym}
 use Rattle.cluster_world.specs.Beginning.{own_slot}
 use Rattle.cluster_world.proofs.BeginLaws.{comes_as, own_here}
 use Rattle.cluster_world.proofs.StepLaws.{prepares_as, prepares_unheld}

@@ -17,7 +17,7 @@ returns-in-Some-2 g c s st h =
     own.0 there.1
     (c.in-Some.ensures.somebody s st h.stands) own.1 c.in_ok-handled.ensures.pool h c.in_ok-handled.field-0
     (c.in_ok-handled.ensures.asked s st own.0 h.stands own.1) c.in-Some-2.handled c.answered.result c.in-Some-2.is
-    (λ answer posts does. c.answered.ensures s st c.in-Some.place answer there.1 posts does)
+    (λ answer posts seen does. c.answered.ensures s st c.in-Some.place answer there.1 posts seen does)
 
 pub returns-in-None : goal.returns-in-None
 returns-in-None g c s st h =

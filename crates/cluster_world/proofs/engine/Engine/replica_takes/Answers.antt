@@ -1,5 +1,4 @@
 use Rattle.std.proofs.Common.{Ok, ap, refl, subst, sym}
-use Rattle.basil_types.specs.declared.party.Party.TheVariants as parties
 use Rattle.cluster_nodes.specs.Handling as nodes
 use Rattle.replica_core.specs.Answers.{answer}
 use Rattle.cluster_run.specs.Parts as parts

@@ -1,13 +1,9 @@
-use Rattle.std.proofs.Common.{◌≡◌, ◌∙◌, Ok, Err, ap, refl, subst, sym}
-use Rattle.std.specs.Prelude.{List, ℕ, length}
+use Rattle.std.proofs.Common.{Ok, Err, refl, subst, sym}
 use Rattle.cluster_run.specs.Faulty.{faulty_signature}
-use Rattle.cluster_run.specs.States.{Setup, State}
 use Rattle.faulty_parties.specs.Lies.{CanBeSaid}
-use Rattle.faulty_parties.specs.Pens.{size_in}
-use Rattle.faulty_parties.specs.Unsaid.{Unsaid}
 use Rattle.cluster_world.specs.Lying.{says}
 use Rattle.cluster_world.proofs.LyingLaws.{room_told, says_full, says_goes}
-use Rattle.cluster_world.proofs.SendingLaws.{Leaves, comes_err}
+use Rattle.cluster_world.proofs.SendingLaws.{comes_err}
 use Rattle.cluster_world.proofs.engine.Engine.say.Goals as goal
 
 pub returns-then-not-has : goal.returns-then-not-has

@@ -1,4 +1,4 @@
-use Rattle.std.proofs.Common.{◌∙◌, refl, sym}
+use Rattle.std.proofs.Common.{refl, sym}
 use Rattle.cluster_world.proofs.TakingLaws.{clock_set, no_clock, within_found}
 use Rattle.cluster_world.proofs.engine.Engine.set_clock.Goals as goal
 

@@ -1,4 +1,4 @@
-use Rattle.std.proofs.Common.{[], Ok, refl, ap, subst, ◌++◌, ◌∙◌}
+use Rattle.std.proofs.Common.{[], Ok, Err, refl, ap, subst, ◌++◌, ◌∙◌}
 use Rattle.cluster_run.specs.Events as events
 use Rattle.cluster_run.specs.Events.{happens}
 use Rattle.schedule_replay.specs.Events.{deliver, frame_at}
@@ -7,7 +7,7 @@ use Rattle.schedule_replay.specs.Roads.{behind_one, gift, handed, road_with}
 use Rattle.schedule_replay.specs.Shown.{Goes}
 use Rattle.schedule_replay.specs.declared.fault.Halt.TheVariants as halt
 use Rattle.schedule_replay.proofs.RoadLaws.{behind_gift, carries_none, carries_these, no_gift}
-use Rattle.schedule_replay.proofs.Stepping.{ends_not_begun, event_done, stands_along}
+use Rattle.schedule_replay.proofs.Stepping.{ends_not_begun, event_done, event_fails, stands_along}
 use Rattle.schedule_replay.proofs.course.Course.deliver.Goals as goal
 
 pub returns-in_err-frame-clause-does : goal.returns-in_err-frame-clause-does
@@ -39,3 +39,17 @@ returns-clause-does g c =
     (subst (λ bytes. Goes (happens q.setup (events.Deliver c.args.message bytes) q.state) q c.step.new.self (Ok tt))
     (c.as_slice-given.ensures.value ∙ c.in_ok-given.ensures.given later ∙ ap (handed road) (c.in_ok-frame.ensures r h))
     (c.in_ok-step.ensures.goes q (stands_along c.args.self.now r road h))))
+
+pub returns-in_err-step-clause-does : goal.returns-in_err-step-clause-does
+returns-in_err-step-clause-does g c =
+    let given = c.in_ok-given.given.items in
+    carries_these c.args.carried (gift c.args.carried given) c.in_ok-given.ensures.told (no_gift c.args.carried given)
+    (λ r later h.
+    let road = road_with c.args.carried (gift c.args.carried given ++ later) in
+    let q = along road r in
+    let x = c.in_err-step.field-0.0 in
+    event_fails q c.step.new.self (happens q.setup (events.Deliver c.args.message (handed road (frame_at r.state c.args.message))) q.state)
+    (behind_one road) (road_with c.args.carried later) [] x c.from_residual-in_err-step.result c.from_residual-in_err-step.ensures.1
+    (subst (λ bytes. Goes (happens q.setup (events.Deliver c.args.message bytes) q.state) q c.step.new.self (Err x))
+    (c.as_slice-given.ensures.value ∙ c.in_ok-given.ensures.given later ∙ ap (handed road) (c.in_ok-frame.ensures r h))
+    (c.in_err-step.ensures.goes q (stands_along c.args.self.now r road h))))

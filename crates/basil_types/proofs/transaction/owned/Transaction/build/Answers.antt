@@ -1,5 +1,6 @@
 use Rattle.std.proofs.Common.{◌∙◌, ap, sym}
 use Rattle.basil_types.specs.Built.{built}
+use Rattle.basil_types.specs.Id.{id_of}
 use Rattle.basil_types.specs.Transaction.{IsTransaction}
 use Rattle.basil_types.specs.Parsed.{transaction_in, spells_transaction}
 use Rattle.basil_types.proofs.BuildLaws.{built-is}
@@ -12,7 +13,7 @@ invariant_of-result c =
     let is : IsTransaction t =
     built-is c.args.time c.args.client c.args.reads.now c.args.writes.now
     (sym c.in-None.ensures.first) c.spell.ensures.time c.in_ok-bytes-in-None.ensures.reads c.in_ok-bytes-in-None.ensures.writes in
-    ap spells_transaction c.in_ok-bytes-in-None.ensures.spelled ∙ (again-spells t is).0
+    (ap spells_transaction c.in_ok-bytes-in-None.ensures.spelled ∙ (again-spells t is).0, c.id_of-id.ensures ∙ ap id_of c.as_slice.ensures.value)
 
 pub returns-in_ok-bytes-in-None-clause-value : goal.returns-in_ok-bytes-in-None-clause-value
 returns-in_ok-bytes-in-None-clause-value c =
