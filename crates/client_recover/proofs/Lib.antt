@@ -2,6 +2,7 @@ pub mod Walks
 pub mod VoteLaws
 pub mod CountLaws
 pub mod VoterLaws
+pub mod FirstLaws
 pub mod ReplyLaws
 pub mod TakeLaws
 pub mod MarkLaws

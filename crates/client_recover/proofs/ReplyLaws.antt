@@ -29,7 +29,7 @@ use Rattle.client_recover.specs.Certifying.{certificate_of}
 use Rattle.client_recover.specs.Pursuits.{later_reply, latest_by}
 use Rattle.client_recover.specs.Kept.{as_part, as_latest}
 use Rattle.client_recover.specs.Quorums.{earliest_by, logged_as}
-use Rattle.client_recover.specs.Replies.{same_key, earliest_at, latest_at, says, earliest_of, latest_of, HoldsLogs, is_last, put_back}
+use Rattle.client_recover.specs.Replies.{part_at, earliest_at, latest_at, says, earliest_of, latest_of, HoldsLogs, is_last, put_back}
 use Rattle.client_recover.specs.Replies.{HasPlace, HoldsBefore, IsBefore, SameLogs, is_of, NotesFirst, latest_with, NotesLatest}
 use Rattle.client_recover.proofs.Walks.{filter_map-option_map, map-map}
 
@@ -100,9 +100,9 @@ is_of-key l r d view n e =
     let bits : is_commit r.decision ≡ is_commit d = same_bit r.decision d inner.0 in
     let views : r.decided ≡ view = eqb-true r.decided view inner.1 in
     let replicas : r.replica ≡ n = eqb-true r.replica n outer.1 in
-    sym (ap (λ b. Rattle.indexmap.specs.IndexMap.get same_key l.earliest (b, r.decided, r.replica)) bits
-    ∙ ap (λ v. Rattle.indexmap.specs.IndexMap.get same_key l.earliest (is_commit d, v, r.replica)) views
-    ∙ ap (λ m. Rattle.indexmap.specs.IndexMap.get same_key l.earliest (is_commit d, view, m)) replicas)
+    sym (ap (λ b. part_at l.earliest (b, r.decided) r.replica) bits
+    ∙ ap (λ v. part_at l.earliest (is_commit d, v) r.replica) views
+    ∙ ap (λ m. part_at l.earliest (is_commit d, view) m) replicas)
 
 no_item : {A : Type 0} (o : Option A) → false ≡ not (is_some o) → is_some o ≡ true
 no_item None e = absurd cc
@@ -244,7 +244,7 @@ held_more old middle new replies r first before notes later held counted same_ea
     let middle_latest : (n : ℕ) → latest_at middle n ≡ latest_of replies n = λ n. notes.latest n ∙ held.latest n in
     record {
       earliest =
-          λ d view n. ap (λ m. Rattle.indexmap.specs.IndexMap.get same_key m (is_commit d, view, n)) same_earliest ∙ later.earliest d view n
+          λ d view n. ap (λ m. part_at m (is_commit d, view) n) same_earliest ∙ later.earliest d view n
           ∙ earliest-more old middle replies r first notes held d view n;
       latest = λ n. ap (λ m. Rattle.indexmap.specs.IndexMap.get nat_eq m n) same_latest ∙ later.latest n
           ∙ ap (λ o. cond (r.replica == n) (latest_with r o) o) (middle_latest n) ∙ sym (latest_of-push replies r n);
@@ -260,7 +260,7 @@ is_before old middle new r first before notes later counted same_earliest same_l
     record {
       earliest = λ d view n.
           ap (λ m. cond (first && is_of r d view n) None
-          (Rattle.indexmap.specs.IndexMap.get same_key m (is_commit d, view, n))) same_earliest
+          (part_at m (is_commit d, view) n)) same_earliest
           ∙ ap (cond (first && is_of r d view n) None) (later.earliest d view n) ∙ earliest-undone old middle r first notes d view n;
       latest = λ n.
           ap (λ m. cond (r.replica == n) (put_back before (Rattle.indexmap.specs.IndexMap.get nat_eq m n))

@@ -1,25 +1,26 @@
 -- What is kept stays fit to be written.
-use Rattle.std.proofs.Common.{◌≡◌, ℕ, Bool, true, false, cond, Option, Some, None, refl, sym, ap, subst, ◌∙◌}
+use Rattle.std.proofs.Common.{◌≡◌, ℕ, ◌<◌, ◌⊎◌, inl, inr, Bool, true, false, cond, Option, Some, None, refl, sym, ap, subst, ◌∙◌}
 use Rattle.std.proofs.Common.{arith}
-use Rattle.std.specs.Prelude.{◌&&◌, ◌==◌, option_map, nat_lt, Result, Ok, Err, OnOk, OnErr}
+use Rattle.std.specs.Prelude.{◌&&◌, ◌==◌, ◌≢◌, option_map, nat_lt, Result, Ok, Err, OnOk, OnErr}
 use Rattle.std.specs.Bool.{beq}
 use Rattle.std.specs.Option.{ForSome}
 use Rattle.std.proofs.lemmas.Bool.{and_parts, eqb-true}
+use Rattle.std.proofs.lemmas.Bool.Decides.{eqb_tells}
 use Rattle.basil_types.specs.declared.party.Decision.{Decision}
 use Rattle.basil_types.specs.Decision.{is_commit}
 use Rattle.frame_values.specs.declared.owned.certificate.Certificate.{Certificate}
 use Rattle.frame_values.specs.declared.owned.parts.InvokePart.{InvokePart}
+use Rattle.frame_values.specs.declared.owned.parts.LogPart.{LogPart}
 use Rattle.frame_values.specs.Owned.{certificate_value}
 use Rattle.frame_views.specs.Fitting.{widest, FitsCertificate}
 use Rattle.frame_views.specs.Values.{LogReplyValue, CertificateValue}
 use Rattle.client_recover.specs.declared.logs.LastLog.{LastLog}
 use Rattle.client_recover.specs.declared.logs.Latest.{Latest}
-use Rattle.client_recover.specs.declared.logs.Latest.TheVariants as latest
 use Rattle.client_recover.specs.declared.logs.Logs.{Logs}
 use Rattle.client_recover.specs.declared.pursuit.Last.TheVariants as last
 use Rattle.client_recover.specs.Kept.{as_part, as_latest}
-use Rattle.client_recover.specs.Replies.{same_key, earliest_at, latest_at, put_back, is_of, latest_with, SameLogs, NotesFirst, ForgetsFirst}
-use Rattle.client_recover.specs.Replies.{NotesLatest}
+use Rattle.client_recover.specs.Replies.{part_at, same_key, earliest_at, latest_at, put_back, is_of, latest_with, SameLogs, NotesFirst, ForgetsFirst}
+use Rattle.client_recover.specs.Replies.{AreBelow, NotesLatest}
 use Rattle.client_recover.specs.Writable.{IsSound, IsEarliest, IsLatest, AreSound, PutsBack, IsSoundLast, FitsOutcome}
 use Rattle.client_recover.proofs.FitLaws.{for_one, for_none}
 
@@ -92,7 +93,7 @@ pub sound_maps : (old new : Logs) → new.earliest ≡ old.earliest → new.late
 sound_maps old new earliest latest sound =
     record {
       earliest = λ d view n p e. sound.earliest d view n p
-          (sym (ap (λ m. Rattle.indexmap.specs.IndexMap.get same_key m (is_commit d, view, n)) earliest) ∙ e);
+          (sym (ap (λ m. part_at m (is_commit d, view) n) earliest) ∙ e);
       latest = λ n p e. sound.latest n p
           (sym (ap (λ m. Rattle.indexmap.specs.IndexMap.get Rattle.std.specs.Prelude.nat_eq m n) latest) ∙ e);
     }
@@ -102,7 +103,7 @@ pub sound_unchanged : (old new : Logs) → new.earliest ≡ old.earliest → ((n
 sound_unchanged old new earliest latest sound =
     record {
       earliest = λ d view n p e. sound.earliest d view n p
-          (sym (ap (λ m. Rattle.indexmap.specs.IndexMap.get same_key m (is_commit d, view, n)) earliest) ∙ e);
+          (sym (ap (λ m. part_at m (is_commit d, view) n) earliest) ∙ e);
       latest = λ n p e. sound.latest n p (sym (latest n) ∙ e);
     }
 
@@ -147,7 +148,7 @@ pub sound_restored : (old new : Logs) (n : ℕ) (put : Option InvokePart) → ne
 sound_restored old new n put earliest latest is sound =
     record {
       earliest = λ d view m p e. sound.earliest d view m p
-          (sym (ap (λ ms. Rattle.indexmap.specs.IndexMap.get same_key ms (is_commit d, view, m)) earliest) ∙ e);
+          (sym (ap (λ ms. part_at ms (is_commit d, view) m) earliest) ∙ e);
       latest = λ m p e. by m (n == m) refl p (sym (latest m) ∙ e);
     }
   where
@@ -170,3 +171,40 @@ none_fits o none x e = absurd cc
 pub shown_fits : (o : Option Certificate) (x : Option CertificateValue) → option_map certificate_value o ≡ x → ForSome x
     (FitsCertificate widest) → FitsOutcome o
 shown_fits o x shows fits c e = fits (certificate_value c) (sym shows ∙ ap (option_map certificate_value) e)
+
+-- ---- none is of a replica from a number on
+
+and_false : (b : Bool) → (b && false) ≡ false
+and_false true = refl
+and_false false = refl
+
+pub below_first : (old new : Logs) (r : LogReplyValue) (first : Bool) → NotesFirst old new r first → (n : ℕ) → r.replica < n →
+    AreBelow n old → AreBelow n new
+below_first old new r first notes n low h d view k far = notes.earliest d view k ∙ by first (eqb_tells r.replica k)
+  where
+    here : Option LogPart
+    here = earliest_at old d view k
+
+    by : (first : Bool) → (((r.replica == k) ≡ true) × (r.replica ≡ k)) ⊎ (((r.replica == k) ≡ false) × (r.replica ≢ k)) →
+        cond (first && is_of r d view k) (Some (as_part r)) here ≡ None
+    by first (inl e) = absurd (let t = e.1 in omega (arith, t, low, far))
+    by true (inr e) =
+        ap (λ b. cond b (Some (as_part r)) here)
+        (ap (λ b. (beq (is_commit r.decision) (is_commit d) && (r.decided == view)) && b) e.0
+        ∙ and_false (beq (is_commit r.decision) (is_commit d) && (r.decided == view)))
+        ∙ h d view k far
+    by false (inr e) = h d view k far
+
+pub below_latest : (old new : Logs) (r : LogReplyValue) (before : Latest) → NotesLatest old new r before → (n : ℕ) → AreBelow n old → AreBelow n new
+below_latest old new r before notes n h d view k far = notes.earliest d view k ∙ h d view k far
+
+pub below_forgotten : (old new : Logs) (d : Decision) (view m : ℕ) → ForgetsFirst old new d view m → (n : ℕ) → AreBelow n old → AreBelow n new
+below_forgotten old new d view m forgets n h e v k far =
+    forgets.earliest e v k ∙ by (same_key (is_commit d, view, m) (is_commit e, v, k))
+  where
+    by : (b : Bool) → cond b None (earliest_at old e v k) ≡ None
+    by true = refl
+    by false = h e v k far
+
+pub below_same : (old new : Logs) → SameLogs old new → (n : ℕ) → AreBelow n old → AreBelow n new
+below_same old new same n h d view k far = same.earliest d view k ∙ h d view k far

@@ -188,17 +188,6 @@ all_none f n got is e =
     e ∙ sym (given-push f n ∙ ap (λ ys. filter_map f (range_with_len 0 n) ++ ys) (given_none f n is)
     ∙ append-nil (filter_map f (range_with_len 0 n)))
 
--- how many numbers give something
-pub count_one : {A : Type 0} (f : ℕ → Option A) (n : ℕ) (a : A) (k : ℕ) → f n ≡ Some a → k ≡ length (filter_map f (range_with_len 0 n)) →
-    k + 1 ≡ length (filter_map f (range_with_len 0 (n + 1)))
-count_one {A} f n a k is e =
-    ap (λ k. k + 1) e ∙ sym (length-append (filter_map f (range_with_len 0 n)) (a ∷ []))
-    ∙ ap (λ (ys : List A). length ys) (all_one f n a (filter_map f (range_with_len 0 n)) is refl)
-
-pub count_none : {A : Type 0} (f : ℕ → Option A) (n : ℕ) (k : ℕ) → f n ≡ None → k ≡ length (filter_map f (range_with_len 0 n)) →
-    k ≡ length (filter_map f (range_with_len 0 (n + 1)))
-count_none {A} f n k is e = e ∙ ap (λ (ys : List A). length ys) (all_none f n (filter_map f (range_with_len 0 n)) is refl)
-
 -- ---- the first of two
 
 pub or_none : {A : Type 0} (o : Option A) → or_else o None ≡ o

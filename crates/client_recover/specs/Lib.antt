@@ -6,6 +6,7 @@ pub mod Faults
 pub mod Frames
 pub mod Kept
 pub mod Counts
+pub mod Firsts
 pub mod Replies
 pub mod Quorums
 pub mod Owned

@@ -1,8 +1,7 @@
 -- The log replies that a pursuit keeps.
-use Rattle.std.specs.Prelude.{◌≡◌, ℕ, ◌+◌, Bool, ◌&&◌, ◌==◌, not, nat_lt, List, true, Option, Some, None, option_map}
+use Rattle.std.specs.Prelude.{◌≡◌, ℕ, ◌+◌, ◌≤◌, Bool, ◌&&◌, ◌==◌, not, nat_lt, List, true, Option, Some, None, option_map}
 use Rattle.std.specs.Prelude.{filter, length, is_some, if◌then◌else◌}
 use Rattle.std.specs.Prelude.{nat_eq}
-use Rattle.std.specs.Bool.{beq}
 use Rattle.indexmap.specs.IndexMap.{get}
 use Rattle.basil_types.specs.declared.party.Decision.{Decision}
 use Rattle.basil_types.specs.Decision.{same_decision, is_commit}
@@ -14,6 +13,7 @@ use Rattle.client_recover.specs.declared.logs.Logs.{Logs}
 use Rattle.client_recover.specs.declared.logs.LastLog.{LastLog}
 use Rattle.client_recover.specs.declared.logs.Latest.{Latest}
 use Rattle.client_recover.specs.declared.logs.Latest.TheVariants as latest
+pub use Rattle.client_recover.specs.Firsts.{part_at, same_key}
 use Rattle.client_recover.specs.Pursuits.{latest_by}
 use Rattle.client_recover.specs.Kept.{as_part, as_latest}
 
@@ -22,12 +22,13 @@ LogReplies = List LogReplyValue
 
 -- ---- what is looked up
 
-abbrev pub same_key : Bool × ℕ × ℕ → Bool × ℕ × ℕ → Bool
-same_key k l = (beq k.0 l.0 && (k.1 == l.1)) && (k.2 == l.2)
-
 -- of a decision, the view in which it was decided and a replica
 abbrev pub earliest_at : Logs → Decision → ℕ → ℕ → Option LogPart
-earliest_at l d view replica = get same_key l.earliest (is_commit d, view, replica)
+earliest_at l d view replica = part_at l.earliest (is_commit d, view) replica
+
+-- none is of a replica from this number on
+abbrev pub AreBelow : (replicas : ℕ) → Logs → Type 0
+AreBelow replicas l = (d : Decision) (view replica : ℕ) → replicas ≤ replica → earliest_at l d view replica ≡ None
 
 abbrev pub latest_at : Logs → ℕ → Option InvokePart
 latest_at l replica = get nat_eq l.latest replica

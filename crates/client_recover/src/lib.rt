@@ -4,6 +4,7 @@
 
 mod checks;
 mod counts;
+mod earliest;
 mod fast;
 mod involved;
 mod logs;

@@ -5,15 +5,16 @@ ghost use Rattle.std.specs.Prelude.{length, nat_le, is_some, not};
 ghost use Rattle.std.specs.Option.{option_copied};
 ghost use Rattle.basil_types.specs.declared.party.Decision.{Decision};
 ghost use Rattle.frame_views.specs.Shown.{log_reply_of};
-ghost use Rattle.quorum_laws.specs.Numbers.{log_quorum};
+ghost use Rattle.quorum_laws.specs.Numbers.{log_quorum, replicas};
 ghost use Rattle.client_recover.specs.Counting.{all_replicas};
 ghost use Rattle.client_recover.specs.declared.logs.Logs as declared;
 ghost use Rattle.client_recover.specs.Kept.{as_part, as_latest};
-ghost use Rattle.client_recover.specs.Replies.{earliest_at, latest_at, put_back, HasPlace, HoldsLogs, HoldsBefore};
+ghost use Rattle.client_recover.specs.Replies.{AreBelow, earliest_at, latest_at, put_back, HasPlace, HoldsLogs, HoldsBefore};
 ghost use Rattle.client_recover.specs.Replies.{LogReplies, IsBefore, SameLogs, NotesFirst, ForgetsFirst, NotesLatest};
 ghost use Rattle.client_recover.specs.Replies.{RestoresLatest};
 ghost use Rattle.client_recover.specs.Writable.{AreSound, IsSound, PutsBack};
 
+use crate::earliest::Earliest;
 use basil_types::bytes::Bytes;
 use basil_types::cluster::Cluster;
 use basil_types::list::List;
@@ -28,7 +29,7 @@ use std::alloc::Global;
 /// each replica, the latest of each replica, and how many there were.
 #[derive(Drop)]
 pub struct Logs {
-    earliest: IndexMap<(bool, u64, u8), LogPart>,
+    earliest: Earliest,
     latest: IndexMap<u8, InvokePart>,
     count: u32,
 }
@@ -108,10 +109,11 @@ impl Logs {
     pub(crate) fn new(alloc: Global) -> Logs
         ensures holds { HoldsLogs result [] }
         ensures sound { AreSound result }
+        ensures below { (n : ℕ) → AreBelow n result }
         ensures count { result.count ≡ 0 }
     {
         Logs {
-            earliest: IndexMap::new(alloc),
+            earliest: Earliest::new(alloc),
             latest: IndexMap::new(alloc),
             count: 0,
         }
@@ -128,7 +130,7 @@ impl Logs {
     fn earliest(&self, decision: Decision, decided: u64, replica: u8) -> Option<&LogPart>
         ensures { option_copied result ≡ earliest_at self.now decision decided replica }
     {
-        self.earliest.get(&(is_commit(decision), decided, replica))
+        self.earliest.get((is_commit(decision), decided), replica)
     }
 
     /// The latest of a replica.
@@ -143,12 +145,12 @@ impl Logs {
         ensures noted { IfOk result (λ first. NotesFirst self.old self.new (log_reply_of reply.now) first) }
         ensures as_before { OnErr result (SameLogs self.old self.new) }
     {
-        let key = (is_commit(reply.decision), reply.decided, reply.replica);
-        if self.earliest.contains_key(&key) {
+        let logged = (is_commit(reply.decision), reply.decided);
+        if self.earliest.get(logged, reply.replica).is_some() {
             return Ok(false);
         }
         let part = part_of(alloc, reply)?;
-        self.earliest.insert(key, part)?;
+        self.earliest.add(logged, reply.replica, part)?;
         Ok(true)
     }
 
@@ -156,9 +158,8 @@ impl Logs {
     fn forget_first(&mut self, decision: Decision, decided: u64, replica: u8)
         ensures { ForgetsFirst self.old self.new decision decided replica }
     {
-        let _ = self
-            .earliest
-            .swap_remove(&(is_commit(decision), decided, replica));
+        self.earliest
+            .forget((is_commit(decision), decided), replica);
     }
 
     /// Keeps a log reply where its replica has none with as great a current view, and tells what that one was.
@@ -191,6 +192,8 @@ impl Logs {
             HoldsLogs self.new (replies ++ log_reply_of reply.now ∷ [])) }
         ensures back { IfOk result (λ last. IsBefore last self.old self.new) }
         ensures sound { OnOk result (IsSound (log_reply_of reply.now) → AreSound self.old → AreSound self.new) }
+        ensures below { OnOk result ((n : ℕ) → (log_reply_of reply.now).replica < n → AreBelow n self.old
+            → AreBelow n self.new) }
         ensures sound_back { IfOk result (λ last. AreSound self.old → PutsBack last.replica last.latest) }
         ensures as_before { OnErr result (SameLogs self.old self.new) }
         ensures count { OnOk result (self.new.count ≡ self.old.count + 1) }
@@ -222,6 +225,7 @@ impl Logs {
             HoldsLogs self.new replies }
         ensures same { (before : declared.Logs) → IsBefore last before self.old → SameLogs before self.new }
         ensures sound { AreSound self.old → PutsBack last.replica last.latest → AreSound self.new }
+        ensures below { (n : ℕ) → AreBelow n self.old → AreBelow n self.new }
         ensures count { self.new.count ≤ self.old.count }
     {
         if last.first {
@@ -250,17 +254,12 @@ impl Logs {
 
     /// Whether a log quorum of replicas has one for this decision in this view.
     pub(crate) fn has_quorum(&self, cluster: &Cluster, decision: Decision, decided: u64) -> bool
+        requires { AreBelow (replicas cluster.now.f) self.now }
         ensures { result ≡ nat_le (log_quorum cluster.now.f)
             (length (filter_map (earliest_at self.now decision decided) (all_replicas cluster.now))) }
     {
-        let mut logged = 0usize;
-        for replica in 0..cluster.n() {
-            match self.earliest(decision, decided, replica) {
-                Some(_) => logged += 1,
-                None => {}
-            }
-        }
-        usize::from(cluster.log_quorum()) <= logged
+        let _ = cluster.n();
+        u32::from(cluster.log_quorum()) <= self.earliest.number((is_commit(decision), decided))
     }
 
     /// The earliest ones of the lowest replicas, a log quorum or as many as there are.

@@ -8,6 +8,8 @@ ghost use Rattle.frame_values.specs.Owned.{certificate_value};
 ghost use Rattle.frame_views.specs.Fitting.{IsId, IsSignature};
 ghost use Rattle.txn_meta.specs.Places as places;
 ghost use Rattle.client_recover.specs.Certifying.{certificate_by};
+ghost use Rattle.quorum_laws.specs.Numbers.{replicas};
+ghost use Rattle.client_recover.specs.Replies.{AreBelow};
 ghost use Rattle.client_recover.specs.Writable.{AreSigned, AreSound, IsSoundLast, FitsOutcome, FitsOutcome-prop};
 
 use crate::checks::{check_certificate, check_log, check_vote};
@@ -65,6 +67,7 @@ pub struct Pursuit {
     ghost few: { length votes + logs.count < 2 ^ 32 },
     ghost votes_signed: { AreSigned votes },
     ghost logs_sound: { AreSound logs },
+    ghost logs_below: { AreBelow (replicas cluster.f) logs },
     ghost last_sound: { IsSoundLast last },
     ghost outcome_fits: { FitsOutcome outcome } by { FitsOutcome-prop outcome },
 }

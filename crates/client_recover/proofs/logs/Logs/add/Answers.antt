@@ -1,7 +1,7 @@
 use Rattle.std.proofs.Common.{refl}
 use Rattle.frame_views.specs.Shown.{log_reply_of}
 use Rattle.client_recover.proofs.ReplyLaws.{held_more, is_before}
-use Rattle.client_recover.proofs.SoundLaws.{sound_more, sound_before}
+use Rattle.client_recover.proofs.SoundLaws.{below_first, below_latest, sound_more, sound_before}
 use Rattle.client_recover.proofs.logs.Logs.add.Goals as goal
 
 pub returns-in-Ok-clause-holds : goal.returns-in-Ok-clause-holds
@@ -27,3 +27,9 @@ returns-in-Ok-clause-sound_back c sound =
     sound_before c.args.self.now c.note_first.new.self c.note_latest.new.self
     (log_reply_of c.args.reply.now) c.in_ok-first.first c.in-Ok.latest
     c.in_ok-first.ensures.noted c.in-Ok.ensures.noted sound
+
+pub returns-in-Ok-clause-below : goal.returns-in-Ok-clause-below
+returns-in-Ok-clause-below c n low below =
+    below_latest c.note_first.new.self c.note_latest.new.self (log_reply_of c.args.reply.now) c.in-Ok.latest c.in-Ok.ensures.noted n
+    (below_first c.args.self.now c.note_first.new.self (log_reply_of c.args.reply.now) c.in_ok-first.first c.in_ok-first.ensures.noted n low
+    below)

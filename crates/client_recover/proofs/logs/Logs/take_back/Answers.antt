@@ -1,6 +1,7 @@
-use Rattle.std.proofs.Common.{refl, sym, subst}
+use Rattle.std.proofs.Common.{refl, sym, subst, ◌∙◌}
+use Rattle.client_recover.specs.Replies.{AreBelow}
 use Rattle.client_recover.specs.Writable.{AreSound}
-use Rattle.client_recover.proofs.SoundLaws.{sound_maps, sound_forgotten}
+use Rattle.client_recover.proofs.SoundLaws.{below_forgotten, sound_maps, sound_forgotten}
 use Rattle.client_recover.proofs.logs.Logs.take_back.Goals as goal
 use Rattle.client_recover.proofs.logs.Logs.take_back.Goals.{then-last, else-last}
 
@@ -14,3 +15,14 @@ returns-clause-sound c sound puts =
       | else-last w ↦ subst AreSound (sym w.self-is) sound
     ] in
     sound_maps c.restore_latest.new.self _ refl refl (c.restore_latest.ensures.sound forgotten puts)
+
+pub returns-clause-below : goal.returns-clause-below
+returns-clause-below c n below d view k far =
+    let last = c.args.last in
+    let forgotten : AreBelow n c.if-last.self =
+    elim c.if-last.branch [
+      | then-last w ↦ subst (AreBelow n) (sym w.self-is)
+          (below_forgotten c.args.self.now _ last.decision last.decided last.replica w.forget_first.ensures n below)
+      | else-last w ↦ subst (AreBelow n) (sym w.self-is) below
+    ] in
+    c.restore_latest.ensures.restores.earliest d view k ∙ forgotten d view k far

@@ -3,8 +3,9 @@ use Rattle.frame_views.specs.Fitting.{FitsLogReply}
 use Rattle.frame_views.specs.declared.bounds.Bounds.{Bounds}
 use Rattle.frame_views.specs.Shown.{log_reply_of}
 use Rattle.frame_views.specs.Values.{LogReplyValue}
+use Rattle.quorum_laws.specs.Numbers.{replicas}
 use Rattle.client_recover.specs.Writable.{IsSound}
-use Rattle.client_recover.proofs.SoundLaws.{either_way, sound_same, sound_last, shown_fits}
+use Rattle.client_recover.proofs.SoundLaws.{below_same, either_way, sound_same, sound_last, shown_fits}
 use Rattle.client_recover.proofs.TakeLaws.{counts_log, as_before}
 use Rattle.client_recover.proofs.pursuit.Pursuit.count_log.Goals as goal
 
@@ -39,3 +40,14 @@ invariant_of-self-in-Ok-clause-last_sound c =
 
 pub invariant_of-self-in-Ok-clause-outcome_fits : goal.invariant_of-self-in-Ok-clause-outcome_fits
 invariant_of-self-in-Ok-clause-outcome_fits c = shown_fits c.in-Ok.outcome _ c.in-Ok.ensures c.logged_fits.ensures
+
+pub invariant_of-self-clause-logs_below : goal.invariant_of-self-clause-logs_below
+invariant_of-self-clause-logs_below c =
+    let u = c.args.self.now in
+    let n = replicas u.cluster.f in
+    either_way c.add.result c.add.ensures.below c.add.ensures.as_before (λ more. more n c.requires.fits.replica u.logs_below)
+    (λ same. below_same u.logs c.add.new.self same n u.logs_below)
+
+pub invariant_of-self-in-Ok-clause-logs_below : goal.invariant_of-self-in-Ok-clause-logs_below
+invariant_of-self-in-Ok-clause-logs_below c =
+    c.in_ok-last.ensures.below (replicas c.args.self.now.cluster.f) c.requires.fits.replica c.args.self.now.logs_below

@@ -1,5 +1,6 @@
 use Rattle.std.proofs.Common.{◌≡◌, List, [], length, refl, sym, ap, arith}
 use Rattle.std.proofs.lemmas.List.Elements.{All-nil, All-same}
+use Rattle.quorum_laws.specs.Numbers.{replicas}
 use Rattle.client_recover.specs.declared.votes.CountedVote.{CountedVote}
 use Rattle.client_recover.specs.Writable.{IsSigned}
 use Rattle.client_recover.proofs.pursuit.Pursuit.new.Goals as goal
@@ -25,6 +26,7 @@ invariant_of-result c =
       few = omega (arith, empty, c.new-2.ensures.count);
       votes_signed = All-same IsSigned _ [] c.new.ensures (All-nil IsSigned);
       logs_sound = c.new-2.ensures.sound;
+      logs_below = c.new-2.ensures.below (replicas c.args.cluster.f);
       last_sound = λ log e. absurd cc;
       outcome_fits = λ x e. absurd cc;
     }

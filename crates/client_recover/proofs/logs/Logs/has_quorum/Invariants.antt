@@ -1,9 +1,0 @@
-use Rattle.std.proofs.Common.{◌≡◌, ◌≤◌, length}
-use Rattle.std.specs.Prelude.{filter_map}
-use Rattle.std.specs.List.{range_with_len}
-use Rattle.client_recover.specs.Replies.{earliest_at}
-use Rattle.client_recover.proofs.logs.Logs.has_quorum.Given as goal
-
-abbrev pub invariant-loop-replica : goal.invariant-loop-replica
-invariant-loop-replica l =
-    (l.logged ≡ length (filter_map (earliest_at l.self l.decision l.decided) (range_with_len 0 l.replica))) × (l.logged ≤ l.replica)
