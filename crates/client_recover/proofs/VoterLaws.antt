@@ -126,15 +126,13 @@ pub no_voters : (votes : List CountedVote) (counts : List ℕ) → votes ≡ [] 
 no_voters votes counts none h =
     subst (λ vs. VotersOf vs counts) (sym none) (record { counted = λ place. zeros counts place h; placed = refl })
 
--- a count is at most the number of the votes
-pub few_voters : (votes : List CountedVote) (counts : List ℕ) → VotersOf votes counts → (place : ℕ) → count_at counts place ≤ length votes
-few_voters votes counts h place = omega (arith, h.counted place, at_most votes)
+-- of a replica that hasn't voted none is counted
+pub first_voter : (votes : List CountedVote) (counts : List ℕ) → VotersOf votes counts → (s r place : ℕ) → r < 32 → place ≡ place_of s r →
+    has_voted s r votes ≡ false → count_at counts place ≡ 0
+first_voter votes counts h s r place low at first =
+    zero_of (count_at counts place) (eqb_tells (count_at counts place) 0)
+    (voted votes counts h s r place (count_at counts place) low at refl ∙ first)
   where
-    at_most : (vs : List CountedVote) → length (filter (is_at place) vs) ≤ length vs
-    at_most [] = omega arith
-    at_most (v ∷ vs) = by (is_at place v) (at_most vs)
-      where
-        by : (b : Bool) → length (filter (is_at place) vs) ≤ length vs →
-            length (cond b (v ∷ filter (is_at place) vs) (filter (is_at place) vs)) ≤ length (v ∷ vs)
-        by true e = omega (arith, e)
-        by false e = omega (arith, e)
+    zero_of : (n : ℕ) → ((nat_eq n 0 ≡ true) × (n ≡ 0)) ⊎ ((nat_eq n 0 ≡ false) × (n ≢ 0)) → not (nat_eq n 0) ≡ false → n ≡ 0
+    zero_of n (inl e) h = e.1
+    zero_of n (inr e) h = absurd (let t : true ≡ false = sym (ap not e.0) ∙ h in cc)

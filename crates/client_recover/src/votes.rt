@@ -1,12 +1,12 @@
 //! The votes that count: the first of each replica.
 
-ghost use Rattle.std.specs.Prelude.{◌≡◌, find, ◌&&◌, ◌==◌};
+ghost use Rattle.std.specs.Prelude.{◌≡◌, false, find, ◌&&◌, ◌==◌};
 ghost use Rattle.std.specs.Option.{option_copied};
 ghost use Rattle.client_recover.specs.Counts as counts;
 ghost use Rattle.client_recover.specs.Kept as kept;
 ghost use Rattle.client_recover.specs.Kept.{is_so};
 
-use crate::counts::{count_of, lower, raise};
+use crate::counts::{count_of, lower, lower_small, raise, raise_small, small_of};
 use basil_types::bytes::Bytes;
 use basil_types::cluster::Cluster;
 use basil_types::memory::NoMemory;
@@ -51,7 +51,7 @@ pub struct Votes {
     list: Vec<CountedVote>,
     commits: [u32; 8],
     aborts: [u32; 8],
-    voters: [u32; 256],
+    voters: [u8; 256],
 }
 
 impl Model for Votes {
@@ -105,13 +105,14 @@ impl Votes {
         requires { replica < 32 }
         ensures { result ≡ kept.has_voted shard replica self.now }
     {
-        count_of(&self.voters, place_of(shard, replica)) != 0
+        small_of(&self.voters, place_of(shard, replica)) != 0
     }
 
-    /// Counts a vote, the last of them.
+    /// Counts a vote, the last of them and the first of its replica.
     pub(crate) fn push(&mut self, vote: CountedVote) -> Result<(), NoMemory>
         requires place { vote.shard < 8 }
         requires replica { vote.replica < 32 }
+        requires first { kept.has_voted vote.shard vote.replica self.old ≡ false }
         requires few { length self.old + 1 < 2 ^ 32 }
         ensures pushed { OnOk result (self.new ≡ self.old ++ vote ∷ []) }
         ensures as_before { OnErr result (self.new ≡ self.old) }
@@ -120,7 +121,7 @@ impl Votes {
         let place = place_of(vote.shard, vote.replica);
         let decision = vote.decision;
         self.list.push(vote)?;
-        raise(&mut self.voters, place);
+        raise_small(&mut self.voters, place);
         match decision {
             Decision::Commit => raise(&mut self.commits, shard),
             Decision::Abort => raise(&mut self.aborts, shard),
@@ -135,7 +136,7 @@ impl Votes {
         match self.list.pop() {
             Some(vote) => {
                 let shard = usize::from(vote.shard);
-                lower(&mut self.voters, place_of(vote.shard, vote.replica));
+                lower_small(&mut self.voters, place_of(vote.shard, vote.replica));
                 match vote.decision {
                     Decision::Commit => lower(&mut self.commits, shard),
                     Decision::Abort => lower(&mut self.aborts, shard),

@@ -5,5 +5,5 @@ use Rattle.client_recover.proofs.votes.Votes.has_voted.Goals as goal
 
 pub returns : goal.returns
 returns c =
-    voted c.self.inside.list.items c.self.inside.voters c.self.invariant.2 c.args.shard c.args.replica c.place_of.result c.count_of.result
-    c.requires c.place_of.ensures c.count_of.ensures ∙ ap (has_voted c.args.shard c.args.replica) c.self.view_is
+    voted c.self.inside.list.items c.self.inside.voters c.self.invariant.2 c.args.shard c.args.replica c.place_of.result c.small_of.result
+    c.requires c.place_of.ensures c.small_of.ensures ∙ ap (has_voted c.args.shard c.args.replica) c.self.view_is
