@@ -194,9 +194,9 @@ impl Words {
         requires { length self.old + length bytes.now ≤ 160 }
         ensures { self.new ≡ self.old ++ bytes.now }
     {
-        for byte in bytes {
-            self.push(*byte);
-        }
+        let end = self.len + bytes.len();
+        self.buf[self.len..end].copy_from_slice(bytes);
+        self.len = end;
     }
 }
 

@@ -1,8 +1,7 @@
 -- The proof of a vote to abort.
 use Rattle.std.proofs.Common.{◌≡◌, Bool, true, false, cond, Option, None, Some, refl, sym, ap, subst}
-use Rattle.std.specs.Prelude.{is_none, ◌↔◌, Result}
+use Rattle.std.specs.Prelude.{is_none, Result}
 use Rattle.basil_types.specs.Built.{or_else}
-use Rattle.basil_types.specs.declared.party.Decision.TheVariants.{Commit}
 use Rattle.basil_types.specs.Setting.{Setting, IsSetting}
 use Rattle.basil_types.specs.Transaction.{TransactionValue}
 use Rattle.frame_views.specs.Fitting.{FitsCertificate, bounds_of}

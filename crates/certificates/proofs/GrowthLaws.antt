@@ -18,7 +18,7 @@ use Rattle.certificates.specs.Accepted.{Accepted, accepts, AllAccepted}
 use Rattle.certificates.specs.Voters.{voters, Voted, loggers}
 use Rattle.certificates.specs.Tallies.{lists, VotedInOne, CommitTallied, AbortTallied, Tallied}
 use Rattle.certificates.specs.Deciding.{HasGoodForm, LoggedAs, Proves}
-use Rattle.certificates.specs.Laws.{AcceptsMore, ProofsGrow, LongerTallies, LongerFastAborts, LongerLogs}
+use Rattle.certificates.specs.Laws.{ProofsGrow, LongerTallies, LongerFastAborts, LongerLogs}
 use Rattle.certificates.proofs.DecideLaws.{proves_exactly}
 use Rattle.certificates.proofs.RestLaws.{certificates_carry}
 

@@ -16,7 +16,7 @@ use Rattle.frame_views.specs.declared.bounds.Bounds.{Bounds}
 use Rattle.frame_views.specs.Fitting.{FitsLog, FitsLogged, FitsCertificate, after_log, bounds_of}
 use Rattle.frame_views.specs.Signed.{vote_signed, one_logged, certificate_signed}
 use Rattle.frame_views.specs.Values as values
-use Rattle.frame_views.specs.Values.{VoteValue, TallyValue, LogValue, LoggedValue, BodyValue, ConflictValue, CertificateValue}
+use Rattle.frame_views.specs.Values.{VoteValue, TallyValue, LogValue, LoggedValue, BodyValue, CertificateValue}
 use Rattle.frame_views.specs.Values.{as_certificate}
 use Rattle.quorum_laws.specs.Numbers.{fast_commit, fast_abort, commit_tally, abort_tally}
 use Rattle.certificates.specs.Accepted.{Accepted, accepts}

@@ -6,10 +6,9 @@ use Rattle.std.proofs.lemmas.Bool.{and_parts}
 use Rattle.basil_types.proofs.MemberLaws.{in_head, in_tail}
 use Rattle.basil_types.proofs.Walks.{position-cons}
 use Rattle.basil_types.specs.Built.{or_else}
-use Rattle.basil_types.specs.declared.party.Decision.{Decision}
 use Rattle.basil_types.specs.declared.party.Decision.TheVariants.{Commit}
 use Rattle.basil_types.specs.Setting.{Setting, IsSetting}
-use Rattle.basil_types.specs.Transaction.{TransactionValue, id}
+use Rattle.basil_types.specs.Transaction.{id}
 use Rattle.frame_views.specs.Fitting.{FitsCertificate, bounds_of}
 use Rattle.frame_views.specs.Signed.{SignedBy, certificate_signed, tallies_signed}
 use Rattle.frame_views.specs.Spelling.{certificate_bytes}
@@ -21,8 +20,8 @@ use Rattle.certificates.specs.Accepted.{Accepted, accepts, first_refused}
 use Rattle.certificates.specs.Laws.{AgreeOn, AcceptsMoreOf, CertificatesOfBytes, CertificatesAlike, TalliesAlike, ConflictsAlike}
 use Rattle.certificates.specs.Laws.{CertificatesCarry, TalliesCarry, ConflictsCarry}
 use Rattle.certificates.specs.Refusals.{bad_signature, wrong_id, mixed, not_involved, too_few, no_conflict, nested, wrong_ids, mixed_pairs}
-use Rattle.certificates.specs.Refusals.{strays, shortages, refusal, ill_formed, no_rival, proof_refusal, stray_tallies, few_listed}
-use Rattle.certificates.specs.Refusals.{tally_needs, tallies_refusal}
+use Rattle.certificates.specs.Refusals.{strays, shortages, ill_formed, no_rival, stray_tallies, few_listed}
+use Rattle.certificates.specs.Refusals.{tally_needs}
 use Rattle.certificates.proofs.CountLaws.{none_refused, refused_none}
 
 -- ---- signatures

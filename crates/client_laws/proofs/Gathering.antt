@@ -20,7 +20,7 @@ use Rattle.client_reads.specs.Versions.{carried_versions}
 use Rattle.frame_views.specs.Fitting.{bounds_of}
 use Rattle.frame_views.specs.Frames.{IsFrame, frame_in}
 use Rattle.frame_views.specs.Values as values
-use Rattle.frame_views.specs.Values.{ReadReplyValue, ReadValue}
+use Rattle.frame_views.specs.Values.{ReadReplyValue}
 use Rattle.node_steps.specs.Refusing.{when}
 use Rattle.client_core.specs.declared.fault.CallFault.TheVariants.{Empty, Exhausted, NotOpen, ReadPending}
 use Rattle.client_core.specs.Calls.{begun_slot, formed, pending, pursued, recovered_slot}

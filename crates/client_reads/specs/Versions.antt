@@ -1,10 +1,10 @@
 -- The versions that a read reply carries, and the bound of what a read sees.
 pub use Rattle.node_steps.specs.Limits.{limit_of}
-use Rattle.std.specs.Prelude.{◌≡◌, true, replicate}
+use Rattle.std.specs.Prelude.{◌≡◌, true}
 use Rattle.basil_types.specs.declared.version.Version.{Version}
 use Rattle.basil_types.specs.Version.{below}
 use Rattle.frame_views.specs.Signed.{committed_told, version_told}
-use Rattle.frame_views.specs.Values.{ReadValue, ReadReplyValue}
+use Rattle.frame_views.specs.Values.{ReadReplyValue}
 use Rattle.client_reads.specs.declared.versions.ReplyVersions.{ReplyVersions}
 
 -- a missing one is genesis

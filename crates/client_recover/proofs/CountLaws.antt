@@ -54,7 +54,8 @@ one_so d votes v shard =
     by false = refl
 
 -- of its decision
-pub lowered : (d : Decision) (votes : List CountedVote) (v : CountedVote) (old new : List ℕ) (place : ℕ) → CountsOf d (votes ++ v ∷ []) old →
+pub lowered : (d : Decision) (votes : List CountedVote) (v : CountedVote) (old new : List ℕ) (place : ℕ) →
+    CountsOf d (votes ++ v ∷ []) old →
     v.decision ≡ d → place ≡ v.shard →
     ((shard : ℕ) → count_at new shard ≡ count_at old shard - cond (place == shard) 1 0) → CountsOf d votes new
 lowered d votes v old new place h e at less shard =

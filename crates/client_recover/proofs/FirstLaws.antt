@@ -151,12 +151,14 @@ number_told parts counts p n o h found is now same =
     is ∙ ap (λ (o : Option ℕ). option_map_or (λ (n : ℕ). n) o 0) found ∙ h p ∙ ap (λ ps. number_of ps p) same
 
 -- one part more, and its number one more
-pub counts_more : (old new : Parts) (was now : List (Logged × ℕ)) (p : Logged) (r : ℕ) (part : LogPart) (n : ℕ) → CountsParts old was → r < 256 →
-    part_at old p r ≡ None → n ≡ number_of old p →
-    IsSet old new (p.0, p.1, r) (Some part) → ((q : Logged) → lookup (same_logged q) now ≡ cond (same_logged p q) (Some (n + 1)) (lookup (same_logged q) was)) → CountsParts new now
+pub counts_more : (old new : Parts) (was now : List (Logged × ℕ)) (p : Logged) (r : ℕ) (part : LogPart) (n : ℕ) → CountsParts old was →
+    r < 256 → part_at old p r ≡ None → n ≡ number_of old p →
+    IsSet old new (p.0, p.1, r) (Some part) →
+    ((q : Logged) → lookup (same_logged q) now ≡ cond (same_logged p q) (Some (n + 1)) (lookup (same_logged q) was)) → CountsParts new now
 counts_more old new was now p r part n h low none is set counts q = by (cases_Bool (same_logged p q))
   where
-    read : (b : Bool) → same_logged p q ≡ b → count_in now q ≡ option_map_or (λ (n : ℕ). n) (cond b (Some (n + 1)) (lookup (same_logged q) was)) 0
+    read : (b : Bool) → same_logged p q ≡ b → count_in now q
+        ≡ option_map_or (λ (n : ℕ). n) (cond b (Some (n + 1)) (lookup (same_logged q) was)) 0
     read b e =
         ap (λ (o : Option ℕ). option_map_or (λ (n : ℕ). n) o 0)
         (counts q ∙ ap (λ b. cond b (Some (n + 1)) (lookup (same_logged q) was)) e)
@@ -175,7 +177,8 @@ counts_same old new was now h same counts q =
     ∙ sym (ap (λ (f : ℕ → Option LogPart). length (filter_map f (range_with_len 0 256))) (λ i k. same (q.0, q.1, k) i))
 
 -- a part that is put and taken away again
-pub set_back : (old mid new : Parts) (p : Logged) (r : ℕ) (part : LogPart) → part_at old p r ≡ None → IsSet old mid (p.0, p.1, r) (Some part) →
+pub set_back : (old mid new : Parts) (p : Logged) (r : ℕ) (part : LogPart) → part_at old p r ≡ None →
+    IsSet old mid (p.0, p.1, r) (Some part) →
     IsSet mid new (p.0, p.1, r) None → IsSame old new
 set_back old mid new p r part none put taken k =
     taken k ∙ ap (cond (same_key (p.0, p.1, r) k) None) (put k) ∙ by (cases_Bool (same_key (p.0, p.1, r) k))
@@ -187,7 +190,8 @@ set_back old mid new p r part none put taken k =
         ∙ ap (λ m. part_at old p m) (sym (eqb-true r k.2 h.1)) ∙ none
 
     by : (same_key (p.0, p.1, r) k ≡ true) ⊎ (same_key (p.0, p.1, r) k ≡ false) →
-        cond (same_key (p.0, p.1, r) k) None (cond (same_key (p.0, p.1, r) k) (Some part) (lookup (same_key k) old)) ≡ lookup (same_key k) old
+        cond (same_key (p.0, p.1, r) k) None (cond (same_key (p.0, p.1, r) k) (Some part) (lookup (same_key k) old))
+        ≡ lookup (same_key k) old
     by (inl e) = ap (λ b. cond b None (cond b (Some part) (lookup (same_key k) old))) e ∙ sym (there e)
     by (inr e) = ap (λ b. cond b None (cond b (Some part) (lookup (same_key k) old))) e
 

@@ -19,7 +19,8 @@ use Rattle.client_recover.specs.declared.logs.Latest.{Latest}
 use Rattle.client_recover.specs.declared.logs.Logs.{Logs}
 use Rattle.client_recover.specs.declared.pursuit.Last.TheVariants as last
 use Rattle.client_recover.specs.Kept.{as_part, as_latest}
-use Rattle.client_recover.specs.Replies.{part_at, same_key, earliest_at, latest_at, put_back, is_of, latest_with, SameLogs, NotesFirst, ForgetsFirst}
+use Rattle.client_recover.specs.Replies.{part_at, same_key, earliest_at, latest_at, put_back, is_of, latest_with, SameLogs, NotesFirst}
+use Rattle.client_recover.specs.Replies.{ForgetsFirst}
 use Rattle.client_recover.specs.Replies.{AreBelow, NotesLatest}
 use Rattle.client_recover.specs.Writable.{IsSound, IsEarliest, IsLatest, AreSound, PutsBack, IsSoundLast, FitsOutcome}
 use Rattle.client_recover.proofs.FitLaws.{for_one, for_none}
@@ -195,10 +196,12 @@ below_first old new r first notes n low h d view k far = notes.earliest d view k
         ∙ h d view k far
     by false (inr e) = h d view k far
 
-pub below_latest : (old new : Logs) (r : LogReplyValue) (before : Latest) → NotesLatest old new r before → (n : ℕ) → AreBelow n old → AreBelow n new
+pub below_latest : (old new : Logs) (r : LogReplyValue) (before : Latest) → NotesLatest old new r before → (n : ℕ) → AreBelow n old →
+    AreBelow n new
 below_latest old new r before notes n h d view k far = notes.earliest d view k ∙ h d view k far
 
-pub below_forgotten : (old new : Logs) (d : Decision) (view m : ℕ) → ForgetsFirst old new d view m → (n : ℕ) → AreBelow n old → AreBelow n new
+pub below_forgotten : (old new : Logs) (d : Decision) (view m : ℕ) → ForgetsFirst old new d view m → (n : ℕ) → AreBelow n old →
+    AreBelow n new
 below_forgotten old new d view m forgets n h e v k far =
     forgets.earliest e v k ∙ by (same_key (is_commit d, view, m) (is_commit e, v, k))
   where

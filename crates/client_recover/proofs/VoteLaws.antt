@@ -11,17 +11,17 @@ use Rattle.basil_types.specs.declared.party.Decision.{Decision}
 use Rattle.basil_types.specs.declared.party.Decision.TheVariants.{Commit, Abort}
 use Rattle.basil_types.specs.Setting.{Setting}
 use Rattle.basil_types.specs.Transaction.{TransactionValue, id}
-use Rattle.frame_views.specs.Values.{VotedValue, VoteValue, TallyValue, CertificateValue, Commits, FastCommit}
+use Rattle.frame_views.specs.Values.{VotedValue, VoteValue, TallyValue, Commits, FastCommit}
 use Rattle.node_steps.specs.Lists.{firsts, first_with, by_number}
 use Rattle.quorum_laws.specs.Numbers.{replicas, fast_commit, commit_tally, abort_tally, fast_abort}
 use Rattle.txn_meta.specs.Places.{involved}
 use Rattle.client_recover.specs.declared.votes.CountedVote.{CountedVote}
 use Rattle.client_recover.specs.Taken.{TakenValue, TakenVote, LogsValue}
 use Rattle.client_recover.specs.Counting.{all_replicas, vote_in, certificate_in, same_voter, counted_votes, votes_for, has_votes}
-use Rattle.client_recover.specs.Counting.{voted_in, as_vote, tally_of, replies_of}
+use Rattle.client_recover.specs.Counting.{voted_in, tally_of, replies_of}
 use Rattle.client_recover.specs.Counting as counting
-use Rattle.client_recover.specs.Certifying.{certificate_of, each_has, lowest_with, by_writeback, by_fast_commit, by_fast_abort}
-use Rattle.client_recover.specs.Certifying.{fast_abort_in, conflict_by, by_conflict, by_log, certificate_by, logs_commit, logs_abort}
+use Rattle.client_recover.specs.Certifying.{certificate_of, each_has, lowest_with, by_fast_commit, by_fast_abort}
+use Rattle.client_recover.specs.Certifying.{fast_abort_in, logs_commit}
 use Rattle.client_recover.specs.Certifying.{settled, all_voted}
 use Rattle.client_recover.specs.Certifying as certifying
 use Rattle.client_recover.specs.Kept.{counted, is_by, has_voted, is_so, votes_so, are_enough, has_all, part_of, tally, each_enough}

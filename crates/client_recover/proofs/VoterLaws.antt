@@ -1,5 +1,6 @@
 -- Which replicas have voted.
-use Rattle.std.proofs.Common.{◌≡◌, ℕ, ◌+◌, ◌-◌, ◌<◌, ◌≤◌, Bool, true, false, cond, List, [], ◌∷◌, ◌++◌, length, refl, sym, ap, ◌∙◌, subst, arith, inl, inr, ◌⊎◌, zero, suc}
+use Rattle.std.proofs.Common.{◌≡◌, ℕ, ◌+◌, ◌-◌, ◌<◌, ◌≤◌, Bool, true, false, cond, List, [], ◌∷◌, ◌++◌, length, refl, sym, ap, ◌∙◌, subst}
+use Rattle.std.proofs.Common.{arith, inl, inr, ◌⊎◌, zero, suc}
 use Rattle.std.specs.Prelude.{filter, not, nat_eq, nat_lt, ◌==◌, ◌&&◌, ◌||◌, ◌≢◌}
 use Rattle.std.specs.List.{list_any, list_all}
 use Rattle.std.proofs.lemmas.Bool.{eqb-true}
@@ -26,7 +27,8 @@ any_counted f (v ∷ vs) = by (f v) (any_counted f vs)
 
 -- places tell replicas apart
 same_place : (s r : ℕ) (v : CountedVote) → r < 32 → has_place v ≡ true → is_at (place_of s r) v ≡ is_by s r v
-same_place s r v low h = by (leb_tells (suc v.replica) 32) (eqb_tells (place_of v.shard v.replica) (place_of s r)) (eqb_tells s v.shard) (eqb_tells r v.replica)
+same_place s r v low h = by (leb_tells (suc v.replica) 32) (eqb_tells (place_of v.shard v.replica) (place_of s r))
+    (eqb_tells s v.shard) (eqb_tells r v.replica)
   where
     by : ((nat_lt v.replica 32 ≡ true) × (suc v.replica ≤ 32)) ⊎ ((nat_lt v.replica 32 ≡ false) × (32 < suc v.replica)) →
         (((place_of v.shard v.replica == place_of s r) ≡ true) × (place_of v.shard v.replica ≡ place_of s r)) ⊎

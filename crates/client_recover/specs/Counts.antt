@@ -13,15 +13,19 @@ count_at counts place = slice_index_or counts place 0
 abbrev pub CountsOf : Decision → List CountedVote → List ℕ → Type 0
 CountsOf d votes counts = (shard : ℕ) → count_at counts shard ≡ length (votes_so votes d shard)
 
--- the place of a replica of a shard, which has fewer than 32
+-- how many places a shard has among those of the replicas: no shard has so many of them
+abbrev pub seats : ℕ
+seats = 32
+
+-- the place of a replica of a shard
 abbrev pub place_of : (shard replica : ℕ) → ℕ
-place_of shard replica = shard * 32 + replica
+place_of shard replica = shard * seats + replica
 
 abbrev pub is_at : (place : ℕ) → CountedVote → Bool
 is_at place v = place_of v.shard v.replica == place
 
 abbrev pub has_place : CountedVote → Bool
-has_place v = nat_lt v.replica 32
+has_place v = nat_lt v.replica seats
 
 -- at each replica's place, how many of these votes are its
 pub record VotersOf (votes : List CountedVote) (counts : List ℕ) : Type 0 where

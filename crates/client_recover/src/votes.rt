@@ -3,6 +3,7 @@
 ghost use Rattle.std.specs.Prelude.{◌≡◌, false, find, ◌&&◌, ◌==◌};
 ghost use Rattle.std.specs.Option.{option_copied};
 ghost use Rattle.client_recover.specs.Counts as counts;
+ghost use Rattle.client_recover.specs.Counts.{seats};
 ghost use Rattle.client_recover.specs.Kept as kept;
 ghost use Rattle.client_recover.specs.Kept.{is_so};
 
@@ -23,11 +24,14 @@ pub struct CountedVote {
     pub signature: Bytes,
 }
 
+/// How many places a shard has among those of the replicas: no shard has so many of them.
+const SEATS: usize = 32;
+
 /// The place of a replica of a shard among the counts.
 fn place_of(shard: u8, replica: u8) -> usize
     ensures { result ≡ counts.place_of shard replica }
 {
-    usize::from(shard) * 32 + usize::from(replica)
+    usize::from(shard) * SEATS + usize::from(replica)
 }
 
 /// The first of these votes that is of this replica of this shard, for this decision.
@@ -102,7 +106,7 @@ impl Votes {
 
     /// Whether a vote of a replica of a shard is among them.
     pub(crate) fn has_voted(&self, shard: u8, replica: u8) -> bool
-        requires { replica < 32 }
+        requires { replica < seats }
         ensures { result ≡ kept.has_voted shard replica self.now }
     {
         small_of(&self.voters, place_of(shard, replica)) != 0
@@ -111,7 +115,7 @@ impl Votes {
     /// Counts a vote, the last of them and the first of its replica.
     pub(crate) fn push(&mut self, vote: CountedVote) -> Result<(), NoMemory>
         requires place { vote.shard < 8 }
-        requires replica { vote.replica < 32 }
+        requires replica { vote.replica < seats }
         requires first { kept.has_voted vote.shard vote.replica self.old ≡ false }
         requires few { length self.old + 1 < 2 ^ 32 }
         ensures pushed { OnOk result (self.new ≡ self.old ++ vote ∷ []) }

@@ -15,7 +15,6 @@ use Rattle.client_reads.specs.Replies.{reply_fault}
 use Rattle.client_recover.specs.Faults.{vote_fault, log_fault, writeback_fault}
 use Rattle.client_core.specs.declared.ask.Ask.{Ask}
 use Rattle.client_core.specs.declared.ask.Ask.TheVariants as asks
-use Rattle.client_core.specs.declared.ask.AskFault.{AskFault}
 use Rattle.client_core.specs.declared.fault.CallFault.{CallFault}
 use Rattle.client_core.specs.declared.fault.CallFault.TheVariants.{NotOpen, BadTransaction, TimeNotAbove}
 use Rattle.client_core.specs.declared.held.Held.{Held}
@@ -26,15 +25,15 @@ use Rattle.client_core.specs.Clients.{AskedRead, ClientDone, ClientSelf, ClientV
 use Rattle.client_core.specs.Done.{Calls, Shows}
 use Rattle.client_core.specs.Frames as frames
 use Rattle.client_core.specs.Receiving.{AnswersFrame}
-use Rattle.client_core.specs.Slots.{asked, put_read, put_write, slot_of_id, slot_of_time, is_named, is_chosen, with_slot, with_pursuit}
-use Rattle.client_recover.specs.Pursuits.{PursuitDone, settle, outcome, take_frame}
+use Rattle.client_core.specs.Slots.{asked, slot_of_id, slot_of_time, is_named, is_chosen, with_slot}
+use Rattle.client_recover.specs.Pursuits.{settle, outcome, take_frame}
 use Rattle.client_recover.specs.Taken.{PursuitValue, TakenValue, TakenVote, TakenLog, TakenCertificate}
 use Rattle.frame_views.specs.declared.fault.BadFrame.{BadFrame}
 use Rattle.frame_views.specs.Fitting.{bounds_of, IsSignature}
 use Rattle.frame_views.specs.Frames.{frame_in}
 use Rattle.frame_views.specs.Values.{MessageValue, Read, ReadReply, St1, Vote, St2, LogReply}
 use Rattle.frame_views.specs.Values.{Writeback, Recover, Invoke, Elect, Decide, ReadReplyValue}
-use Rattle.node_steps.specs.Pens.{PenValue, after_one}
+use Rattle.node_steps.specs.Pens.{PenValue}
 use Rattle.node_steps.specs.Refusing.{unless, when}
 use Rattle.txn_meta.specs.Form.{form_fault}
 use Rattle.std.proofs.Math.Logic.{∥∥₁_elim}

@@ -1,5 +1,5 @@
 -- What a plan of a client sends, counted.
-use Rattle.std.proofs.Common.{◌≡◌, ◌+◌, ◌<◌, ◌≤◌, ℕ, List, [], suc, ◌∷◌, ◌++◌, length, map, refl, sym, ap, ◌∙◌, subst, arith}
+use Rattle.std.proofs.Common.{◌+◌, List, [], ◌++◌, length, map, refl, sym, ap, ◌∙◌, arith}
 use Rattle.std.proofs.lemmas.List.{append-nil}
 use Rattle.basil_types.specs.declared.outbox.Envelope.{Envelope}
 use Rattle.basil_types.specs.declared.outbox.Outbox.{Outbox}

@@ -1,9 +1,9 @@
 -- A client of a run that is asked.
-use Rattle.std.proofs.Common.{◌≡◌, ◌<◌, ◌≤◌, ℕ, zero, suc, Bool, true, false, List, []}
-use Rattle.std.proofs.Common.{◌∷◌, Ok, Err, length, map, refl, sym, ap, subst, ◌∙◌, arith}
+use Rattle.std.proofs.Common.{◌≡◌, ◌<◌, ◌≤◌, ℕ, zero, suc, true, false, List, []}
+use Rattle.std.proofs.Common.{◌∷◌, Ok, Err, length, refl, sym, ap, subst, ◌∙◌, arith}
 use Rattle.std.proofs.lemmas.Bool.{leb-false, leb-true}
 use Rattle.std.proofs.lemmas.Option.{same_Some}
-use Rattle.std.specs.Prelude.{◌≢◌, Result, IfOk, Option, Some, None, nat_le, slice_get, ◌&&◌}
+use Rattle.std.specs.Prelude.{◌≢◌, Result, Some, None, nat_le, slice_get, ◌&&◌}
 use Rattle.basil_types.specs.declared.transaction.parts.WritePart.{WritePart}
 use Rattle.node_steps.specs.Refusing.{unless}
 use Rattle.client_core.specs.Calls.{by_slot, call_write, invoke_by, prepare_done}
@@ -28,8 +28,6 @@ use Rattle.client_core.specs.Seats.{self_at}
 use Rattle.client_core.specs.Works.{CanPerform, WillDo}
 use Rattle.keyring.specs.declared.verifier.Verifier as verifiers
 use Rattle.keyring.specs.declared.signer.Signer as signers
-use Rattle.keyring.specs.Signing.{Signing}
-use Rattle.node_steps.specs.Framed.{framed}
 use Rattle.node_steps.specs.Pens.{pen_value}
 use Rattle.cluster_run.specs.Parts.{client_self}
 use Rattle.cluster_run.specs.States.{Setup}
@@ -37,9 +35,8 @@ use Rattle.cluster_nodes.specs.declared.calling.StandingClient.{StandingClient}
 use Rattle.cluster_nodes.specs.declared.handled.Handled.{Handled}
 use Rattle.cluster_nodes.specs.declared.handled.Handled.TheVariants.{Refused, Full, Sent}
 use Rattle.message_pool.specs.declared.pool.Room.{Room}
-use Rattle.cluster_nodes.specs.Asking.{Answers, HasSignature, IsAnswered, RefusesAsk, slot_named}
-use Rattle.cluster_nodes.specs.Handling.{Holds, fits}
-use Rattle.cluster_nodes.specs.Sizes.{ClientPlansTell, Counts, GivesItsSize}
+use Rattle.cluster_nodes.specs.Asking.{Answers, HasSignature, RefusesAsk, slot_named}
+use Rattle.cluster_nodes.specs.Sizes.{ClientPlansTell, GivesItsSize}
 use Rattle.cluster_nodes.specs.Standings.{HoldsAs}
 use Rattle.cluster_nodes.proofs.Holding.{gives_after}
 use Rattle.cluster_nodes.proofs.Taking.{fits_as_told}

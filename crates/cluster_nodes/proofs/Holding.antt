@@ -1,5 +1,5 @@
 -- What a planned answer of a client leaves of its pen.
-use Rattle.std.proofs.Common.{◌≡◌, ◌+◌, ◌<◌, ℕ, refl, sym, ap, ◌∙◌, arith}
+use Rattle.std.proofs.Common.{◌≡◌, ◌+◌, ap, arith}
 use Rattle.keyring.specs.Signing.{Signing}
 use Rattle.node_steps.specs.Pens.{PenValue}
 use Rattle.client_core.specs.Clients.{ClientDone, ClientValue}

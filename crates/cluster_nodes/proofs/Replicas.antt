@@ -1,6 +1,6 @@
 -- A replica of a run that is handed a frame.
-use Rattle.std.proofs.Common.{◌≡◌, ℕ, Bool, true, false, List, Ok, Err, map, refl, sym, ap, subst, ◌∙◌}
-use Rattle.std.specs.Prelude.{◌≢◌, Result, IfOk, nat_le, ◌&&◌}
+use Rattle.std.proofs.Common.{◌≡◌, ℕ, true, false, List, Ok, Err, sym, ap, subst, ◌∙◌}
+use Rattle.std.specs.Prelude.{◌≢◌, Result, nat_le, ◌&&◌}
 use Rattle.basil_types.specs.declared.memory.NoMemory.{NoMemory}
 use Rattle.basil_types.specs.declared.outbox.Outbox.{Outbox}
 use Rattle.basil_types.specs.declared.party.Party.{Party}
@@ -28,11 +28,11 @@ use Rattle.cluster_nodes.specs.declared.handled.Handled.{Handled}
 use Rattle.cluster_nodes.specs.declared.handled.Handled.TheVariants.{Refused, Full, Sent}
 use Rattle.message_pool.specs.declared.pool.Room.{Room}
 use Rattle.cluster_nodes.specs.declared.standing.StandingReplica.{StandingReplica}
-use Rattle.cluster_nodes.specs.Handling.{Holds, Takes, fits}
+use Rattle.cluster_nodes.specs.Handling.{Takes}
 use Rattle.cluster_nodes.specs.Refusing.{Refuses}
 use Rattle.cluster_nodes.specs.Sizes.{Counts, GivesItsSize, PlansTell}
 use Rattle.cluster_nodes.specs.Standings.{StandsAs}
-use Rattle.cluster_nodes.proofs.Taking.{Answered, answered, fits_as_told, gives_after, shown_same}
+use Rattle.cluster_nodes.proofs.Taking.{answered, fits_as_told, gives_after, shown_same}
 
 module _ {V S : Type 0} (v : verifiers.Ghosts V) (g : signers.Ghosts S) (s : Setup) (x : Standing) where
   -- the answer to a frame

@@ -1,9 +1,8 @@
 -- What a planned answer is, under the room of a pool.
-use Rattle.std.proofs.Common.{◌≡◌, ◌+◌, ◌<◌, ◌≤◌, ℕ, Bool, true, false, List, [], ◌∷◌}
+use Rattle.std.proofs.Common.{◌≡◌, ◌+◌, ◌≤◌, ℕ, Bool, true, false, List, [], ◌∷◌}
 use Rattle.std.proofs.Common.{◌++◌, Ok, Err, length, map, refl, sym, ap, subst, ◌∙◌, arith}
 use Rattle.std.specs.Prelude.{Result, nat_le, ◌&&◌}
 use Rattle.basil_types.specs.declared.outbox.Envelope.{Envelope}
-use Rattle.basil_types.specs.declared.party.Party.{Party}
 use Rattle.fallback_leader.specs.declared.words.KeptWord.{KeptWord}
 use Rattle.keyring.specs.Signing.{Signing}
 use Rattle.node_steps.specs.Envelopes.{EnvelopeValue}

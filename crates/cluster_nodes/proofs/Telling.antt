@@ -1,7 +1,6 @@
 -- What a plan of a replica sends, counted.
 use Rattle.std.proofs.Common.{◌≡◌, ◌+◌, ◌<◌, ◌≤◌, ℕ, List, [], suc, ◌∷◌, ◌++◌, Option}
-use Rattle.std.proofs.Common.{Some, None, length, map, refl, sym, ap, ◌∙◌, subst, arith}
-use Rattle.std.specs.Prelude.{◌-◌}
+use Rattle.std.proofs.Common.{Some, None, length, map, refl, sym, ap, ◌∙◌, arith}
 use Rattle.basil_types.specs.declared.outbox.Envelope.{Envelope}
 use Rattle.basil_types.specs.Transaction.{long_text}
 use Rattle.fallback_leader.specs.declared.words.KeptWord.{KeptWord}
@@ -10,8 +9,6 @@ use Rattle.node_steps.specs.declared.pending.Pending.{Pending}
 use Rattle.node_steps.specs.declared.pending.Unsigned.{Unsigned}
 use Rattle.node_steps.specs.Pendings.{bytes_in, bytes_sent, sealed, sealed_all}
 use Rattle.node_steps.specs.Pens.{PenValue, after_one}
-use Rattle.replica_core.specs.declared.election.LeadWork.{LeadWork}
-use Rattle.replica_core.specs.declared.logging.LogWork.{LogWork}
 use Rattle.replica_core.specs.declared.logging.Said.{Said}
 use Rattle.replica_core.specs.declared.logging.Said.TheVariants.{Again, Anew, Entered}
 use Rattle.replica_core.specs.declared.parts.Parts.{Parts}

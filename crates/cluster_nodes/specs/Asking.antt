@@ -1,5 +1,5 @@
 -- What a client that is asked comes to, under the room of a pool.
-use Rattle.std.specs.Prelude.{◌≡◌, ◌≢◌, ℕ, ⊤, Bool, true, false, Option, Some, None, Result, Ok, Err}
+use Rattle.std.specs.Prelude.{◌≡◌, ◌≢◌, ℕ, ⊤, true, false, Option, Some, None, Result, Ok, Err}
 use Rattle.basil_types.specs.declared.memory.NoMemory.{NoMemory}
 use Rattle.certificates.specs.declared.fault.FrameFault.TheVariants as frames
 use Rattle.client_core.specs.Asks.{is_call, is_call_fault}

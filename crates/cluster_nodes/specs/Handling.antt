@@ -1,7 +1,6 @@
 -- What a node that is handed a frame comes to, under the room of a pool.
 use Rattle.std.specs.Prelude.{◌≡◌, ◌≤◌, ◌&&◌, ⊤, Bool, true, false, List, length, map, nat_le, Result, Ok, Err}
 use Rattle.basil_types.specs.declared.memory.NoMemory.{NoMemory}
-use Rattle.basil_types.specs.declared.outbox.Envelope.{Envelope}
 use Rattle.basil_types.specs.declared.outbox.Outbox.{Outbox}
 use Rattle.basil_types.specs.Words.{SignedWords, words_of}
 use Rattle.keyring.specs.declared.verifier.Verifier as verifiers

@@ -4,7 +4,7 @@ use Rattle.client_core.specs.declared.fault.CallFault.TheVariants as call
 use Rattle.cluster_run.proofs.Members.{any_of}
 use Rattle.std.proofs.Common.{◌≡◌, ℕ, Bool, true, false, cond, not, ◌&&◌, ◌||◌, List, [], ◌∷◌, ◌++◌, Option, Some, None, refl, sym, ap}
 use Rattle.std.proofs.Common.{subst, ◌∙◌, inl, inr, append-nil, append_assoc}
-use Rattle.std.specs.Prelude.{Contains, length, ◌==◌, find, option_map, option_and_then, Result, Ok, Err, slice_get, slice_set, is_some}
+use Rattle.std.specs.Prelude.{length, ◌==◌, find, option_map, option_and_then, Result, Ok, Err, slice_get, is_some}
 use Rattle.std.specs.Prelude.{nat_lt, ◌-◌}
 use Rattle.std.specs.List.{list_any}
 use Rattle.std.specs.Option.{option_map_or}
@@ -46,8 +46,8 @@ use Rattle.cluster_run.specs.Breaking.{BreachesAreReal, RunsUpToABreachAreSafe}
 use Rattle.cluster_run.specs.Safety.{AreEvents, RunsAreSafe}
 use Rattle.cluster_run.specs.Events as event
 use Rattle.cluster_run.specs.Events.{EventValue, called, at_client, by_client, begun_by, with_begun, begins_in, begins, set_begun, at_tx}
-use Rattle.cluster_run.specs.Events.{at_formed, reads_at, unless_formed, writes_at, put_claim, formed_version, claims_at, formed_in}
-use Rattle.cluster_run.specs.Events.{prepared_by, prepares_own, prepare_fault, prepares_lie, prepares_at, held_call, settles_at, invokes_at}
+use Rattle.cluster_run.specs.Events.{at_formed, reads_at, unless_formed, writes_at, put_claim, formed_version, claims_at}
+use Rattle.cluster_run.specs.Events.{prepared_by, prepares_own, prepare_fault, prepares_at, held_call, settles_at, invokes_at}
 use Rattle.cluster_run.specs.Events.{recovers_at, marked, at_message, lost, ticks, happens, kept, run}
 use Rattle.cluster_run.specs.Faulty.{LieValue, has_left, after_lie, lies, faulty_vote, faulty_reply, faulty_word, faulty_proposal}
 use Rattle.cluster_run.specs.Faulty.{faulty_second}

@@ -41,10 +41,10 @@ use Rattle.cluster_run.specs.declared.fault.WorldFault.{WorldFault}
 use Rattle.cluster_run.specs.declared.fault.WorldFault.TheVariants as fault
 use Rattle.cluster_run.specs.Certified.{IsProven, TestIsExact, CertifiedAreProven, ProvenAreCertified, CertifiedStay}
 use Rattle.cluster_run.specs.Events as event
-use Rattle.cluster_run.specs.Events.{EventValue, called, at_client, by_client, begun_by, with_begun, begins_in, begins}
-use Rattle.cluster_run.specs.Events.{set_begun, at_tx, at_formed, reads_at, unless_formed, writes_at, formed_version}
-use Rattle.cluster_run.specs.Events.{claims_at, formed_in, prepared_by, prepares_own, prepare_fault, prepares_lie}
-use Rattle.cluster_run.specs.Events.{prepares_at, held_call, settles_at, invokes_at, recovers_at, marked}
+use Rattle.cluster_run.specs.Events.{EventValue, called, at_client, by_client, begun_by, with_begun, begins_in}
+use Rattle.cluster_run.specs.Events.{at_tx, at_formed, reads_at, unless_formed, writes_at, formed_version}
+use Rattle.cluster_run.specs.Events.{claims_at, prepared_by, prepares_own, prepare_fault, prepares_lie}
+use Rattle.cluster_run.specs.Events.{prepares_at, settles_at, invokes_at, recovers_at, marked}
 use Rattle.cluster_run.specs.Events.{at_message, lost, ticks, happens, kept, run}
 use Rattle.cluster_run.specs.Faulty.{LieValue, has_left, after_lie, lies, faulty_vote, faulty_reply, faulty_word}
 use Rattle.cluster_run.specs.Faulty.{faulty_proposal, faulty_second}

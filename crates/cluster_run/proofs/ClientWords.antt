@@ -8,9 +8,9 @@ use Rattle.basil_types.specs.Transaction.{TransactionValue, id}
 use Rattle.basil_types.specs.Words.{AreWords, TransactionWords}
 use Rattle.client_core.specs.Answers.{on_message, on_read_frame}
 use Rattle.client_core.specs.Calls as calls
-use Rattle.client_core.specs.Calls.{at_slot, by_slot, call_begin, call_read, read_at, read_done, call_write, call_prepare, prepare_fault}
-use Rattle.client_core.specs.Calls.{prepare_done, call_settle, settle_by, call_recover, recover_held, recover_by, call_invoke, invoke_by}
-use Rattle.client_core.specs.Calls.{pursuit_done, formed}
+use Rattle.client_core.specs.Calls.{by_slot, read_at, read_done, prepare_fault}
+use Rattle.client_core.specs.Calls.{prepare_done, settle_by, recover_held, recover_by, invoke_by}
+use Rattle.client_core.specs.Calls.{formed}
 use Rattle.client_core.specs.Clients.{ClientSelf, ClientValue, ClientDone, SlotValue, AskedRead, quiet}
 use Rattle.client_recover.specs.Taken.{PursuitValue, TakenValue}
 use Rattle.client_core.specs.declared.fault.CallFault.{CallFault}

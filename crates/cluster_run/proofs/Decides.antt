@@ -41,7 +41,7 @@ use Rattle.agreement_laws.specs.Lists.{Named, replicas_of, ElectionOfList}
 use Rattle.cluster_run.specs.Settings.{Lookup, Finds, setting, word_as}
 use Rattle.law_joins.specs.Shown.{decision_of as decision_as}
 use Rattle.cluster_run.specs.Acting.{cell_in, node, Leads, FindsEach}
-use Rattle.cluster_run.proofs.Finding.{position-cons, true_false, entry_found, looked_found, none_parts, not_not, mapped_none}
+use Rattle.cluster_run.proofs.Finding.{entry_found, looked_found, none_parts, not_not, mapped_none}
 use Rattle.cluster_run.proofs.Steps.{words_append, unless_ok, unless_none, one_act}
 use Rattle.cluster_run.proofs.Votes.{same_node}
 use Rattle.cluster_run.proofs.Logs.{slots_known_put}

@@ -2,7 +2,7 @@
 use Rattle.node_steps.specs.Refusing.{unless_refused}
 use Rattle.std.proofs.Common.{◌≡◌, ℕ, Bool, true, false, cond, List, [], ◌∷◌, ◌++◌, Option, Some, None, refl, sym, ap, subst, ◌∙◌, inl, inr}
 use Rattle.std.proofs.Common.{arith}
-use Rattle.std.specs.Prelude.{Contains, Result, Ok, Err, slice_get, slice_set, nat_lt, option_and_then, ◌-◌}
+use Rattle.std.specs.Prelude.{Result, Ok, Err, slice_get, slice_set, option_and_then, ◌-◌}
 use Rattle.std.specs.Option.{option_map_or}
 use Rattle.std.proofs.lemmas.Bool.{cases_Bool}
 use Rattle.basil_types.specs.declared.party.Party.{Party}
@@ -13,7 +13,6 @@ use Rattle.basil_types.specs.Transaction.{id}
 use Rattle.basil_types.specs.Version.{genesis}
 use Rattle.client_core.specs.declared.fault.CallFault.TheVariants as call
 use Rattle.client_core.specs.declared.fault.CallFault.{CallFault}
-use Rattle.client_core.specs.declared.fault.CallFault.TheVariants.{NotPrepared}
 use Rattle.client_core.specs.Calls.{call_begin, call_read, call_write, call_prepare, call_settle, call_recover, call_invoke}
 use Rattle.client_core.specs.Clients.{ClientValue, ClientDone}
 use Rattle.client_core.specs.Slots.{slot_of_id}
@@ -24,7 +23,7 @@ use Rattle.cluster_run.specs.Acting.{node}
 use Rattle.cluster_run.specs.Answering.{AllWords, IsInOrder, IsSized}
 use Rattle.cluster_run.specs.Events as event
 use Rattle.cluster_run.specs.Events.{EventValue, called, at_client, by_client, begun_by, with_begun, begins_in, begins, set_begun, at_tx}
-use Rattle.cluster_run.specs.Events.{at_formed, reads_at, unless_formed, writes_at, formed_version, claims_at, formed_in, prepared_by}
+use Rattle.cluster_run.specs.Events.{at_formed, reads_at, unless_formed, writes_at, formed_version, claims_at, prepared_by}
 use Rattle.cluster_run.specs.Events.{prepares_own, prepare_fault, prepares_lie, prepares_at, held_call, settles_at, invokes_at, recovers_at}
 use Rattle.cluster_run.specs.Events.{marked, at_message, lost, ticks, happens}
 use Rattle.cluster_run.specs.Faulty.{LieValue, has_left, after_lie, lies, faulty_vote, faulty_reply, faulty_word, faulty_proposal}

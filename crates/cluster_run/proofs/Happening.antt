@@ -1,7 +1,7 @@
 -- Each event keeps what holds besides the invariant.
 use Rattle.node_steps.specs.Refusing.{unless_refused}
 use Rattle.std.proofs.Common.{◌≡◌, ℕ, Bool, true, false, cond, List, [], ◌∷◌, ◌++◌, Option, Some, None, refl, sym, ap, subst, ◌∙◌, inr}
-use Rattle.std.specs.Prelude.{Contains, Result, Ok, Err, slice_get, slice_set, ◌<◌, ◌^◌, nat_lt, option_and_then, ◌-◌}
+use Rattle.std.specs.Prelude.{Contains, Result, Ok, Err, slice_get, slice_set, ◌<◌, ◌^◌, option_and_then, ◌-◌}
 use Rattle.std.specs.Option.{option_map_or}
 use Rattle.basil_types.specs.declared.party.Party.{Party}
 use Rattle.basil_types.specs.declared.party.Party.TheVariants.{Replica, Client}
@@ -11,7 +11,6 @@ use Rattle.basil_types.specs.Transaction.{id}
 use Rattle.basil_types.specs.Version.{genesis}
 use Rattle.client_core.specs.declared.fault.CallFault.TheVariants as call
 use Rattle.client_core.specs.declared.fault.CallFault.{CallFault}
-use Rattle.client_core.specs.declared.fault.CallFault.TheVariants.{NotPrepared}
 use Rattle.client_core.specs.Calls.{call_begin, call_read, call_write, formed, call_prepare, call_settle, call_recover, call_invoke}
 use Rattle.client_core.specs.Clients.{ClientValue, ClientDone, SlotValue}
 use Rattle.client_core.specs.Slots.{slot_of_id}

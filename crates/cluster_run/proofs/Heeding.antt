@@ -39,7 +39,7 @@ use Rattle.replica_core.specs.FirstStage.{votes, vote_done, wait_done, by_verdic
 use Rattle.replica_core.specs.FirstStage.{unless_ended, tell_outcome}
 use Rattle.replica_core.specs.SecondStage.{reply_again, reply_anew, reply_by, reply_of, log_or_reply, unsigned, recover_by, logs_here}
 use Rattle.replica_core.specs.Writebacks.{release_entry, release_one, release_all, releases, outcome_done, with_outcome, end_unless_ended}
-use Rattle.replica_core.specs.Invokes.{invoke_logged, enter_view, enter_done}
+use Rattle.replica_core.specs.Invokes.{invoke_logged, enter_done}
 use Rattle.replica_core.specs.Reads.{answer_read, read_done, from_future}
 use Rattle.replica_core.specs.Elections.{word_of, collect, answer_elect, not_leader, not_adopted, bad_election, adopt_done, adopt_by}
 use Rattle.replica_core.specs.Refusals.{refused, subject}

@@ -17,9 +17,9 @@ use Rattle.basil_types.specs.Words.{SignedWords, TransactionWords}
 use Rattle.client_core.specs.Answers.{on_message}
 use Rattle.node_steps.specs.Pens.{PenValue, after_one}
 use Rattle.client_core.specs.Calls as calls
-use Rattle.client_core.specs.Calls.{at_slot, by_slot, begun_slot, call_begin, is_written, read_fault, call_read, read_at, read_done}
-use Rattle.client_core.specs.Calls.{write_fault, call_write, pending, pursued, call_prepare, prepare_fault, prepare_done, call_settle}
-use Rattle.client_core.specs.Calls.{settle_by, recovered_slot, call_recover, recover_held, recover_by, call_invoke, invoke_by, pursuit_done}
+use Rattle.client_core.specs.Calls.{at_slot, by_slot, begun_slot, call_begin, is_written, read_fault, read_at, read_done}
+use Rattle.client_core.specs.Calls.{write_fault, pending, pursued, prepare_fault, prepare_done}
+use Rattle.client_core.specs.Calls.{settle_by, recovered_slot, recover_held, recover_by, invoke_by, pursuit_done}
 use Rattle.client_core.specs.Calls.{formed}
 use Rattle.client_core.specs.Clients.{ClientSelf, ClientValue, ClientDone, SlotValue, AskedRead, quiet}
 use Rattle.client_recover.specs.Taken.{PursuitValue, TakenValue}

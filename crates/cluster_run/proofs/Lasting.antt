@@ -1,15 +1,13 @@
 -- What holds besides the invariant holds along every run without a breach.
 use Rattle.std.proofs.Common.{◌≡◌, ℕ, zero, suc, Bool, true, false, cond, List, [], ◌∷◌, Some, None, refl, sym, ap, subst, ◌∙◌, map, arith}
-use Rattle.std.specs.Prelude.{◌+◌, ◌<◌, ◌≤◌, length, Contains, Result, Ok, Err, find, replicate, slice_get, nat_le, ◌-◌}
+use Rattle.std.specs.Prelude.{◌+◌, ◌<◌, ◌≤◌, length, Result, Ok, Err, slice_get, nat_le, ◌-◌}
 use Rattle.basil_types.specs.declared.party.Party.TheVariants.{Client}
 use Rattle.client_core.specs.Clients.{ClientValue, SlotValue, empty_client}
 use Rattle.cluster_run.specs.States.{client_at, Setup, IsSetup, State, start}
 use Rattle.cluster_run.proofs.Finding.{ok_is}
 use Rattle.cluster_run.proofs.Heeding.{AreHeeded}
 use Rattle.cluster_run.proofs.Whole.{Whole, IsAsked, IsEnded}
-use Rattle.std.specs.List.{IsDistinct, flat_map, range_with_len}
-use Rattle.std.specs.Option.{option_map_or}
-use Rattle.std.specs.Str.{bytes_eq}
+use Rattle.std.specs.List.{range_with_len}
 use Rattle.agreement_laws.specs.Laws.{HoldsAtStart}
 use Rattle.cluster_run.specs.declared.fault.WorldFault.{WorldFault}
 use Rattle.cluster_run.specs.declared.fault.WorldFault.TheVariants as fault

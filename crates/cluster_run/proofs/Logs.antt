@@ -25,7 +25,7 @@ use Rattle.replica_core.specs.SecondStage.{recover_by, answer_recover}
 use Rattle.replica_core.specs.Invokes.{stale, enter_done, invoke_logged, answer_invoke, reported}
 use Rattle.agreement_laws.specs.Words as laws
 use Rattle.agreement_laws.specs.Replicas as acts
-use Rattle.agreement_laws.specs.Replicas.{Slot, May}
+use Rattle.agreement_laws.specs.Replicas.{Slot}
 use Rattle.agreement_laws.specs.Runs.{put_id, Node}
 use Rattle.agreement_laws.specs.Certificates.{Signed, Tallied}
 use Rattle.cluster_run.specs.Settings.{Lookup, Finds, setting, words_as}

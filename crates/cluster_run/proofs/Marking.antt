@@ -12,7 +12,7 @@ use Rattle.basil_types.specs.Decision.{is_abort}
 use Rattle.frame_views.specs.Signed.{SignedBy, signed_in, certificate_signed, committed_signed, body_signed, commit_signed, vote_signed}
 use Rattle.frame_views.specs.Signed.{reply_signed, word_signed, proposal_signed}
 use Rattle.frame_views.specs.Values as values
-use Rattle.frame_views.specs.Values.{BodyValue, CertificateValue, CommittedValue, MessageValue, Read, ReadReply, St1, Vote, St2, LogReply}
+use Rattle.frame_views.specs.Values.{BodyValue, CommittedValue, MessageValue, Read, ReadReply, St1, Vote, St2, LogReply}
 use Rattle.frame_views.specs.Values.{Writeback, Recover, Invoke, Elect, Decide, as_certificate}
 use Rattle.premise_watch.specs.Marks.{MarkValue, Signature, Text, as_marks, body_marks, part_marks, maybe_part, maybe_text, marks}
 use Rattle.frame_views.specs.Carried.{paired, rival_in, committed_pairs, maybe_one, transactions_in, pairs_from, pairs_in}

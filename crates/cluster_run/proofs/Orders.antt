@@ -28,7 +28,7 @@ use Rattle.replica_core.specs.FirstStage.{votes, vote_done, wait_done, by_verdic
 use Rattle.replica_core.specs.FirstStage.{unless_ended, tell_outcome}
 use Rattle.replica_core.specs.SecondStage.{reply_again, reply_anew, reply_by, reply_of, log_or_reply, unsigned, recover_by, logs_here}
 use Rattle.replica_core.specs.Writebacks.{release_entry, release_one, release_all, releases, outcome_done, with_outcome, end_unless_ended}
-use Rattle.replica_core.specs.Invokes.{invoke_logged, enter_view, enter_done}
+use Rattle.replica_core.specs.Invokes.{invoke_logged, enter_done}
 use Rattle.cluster_run.specs.Settings.{Lookup, Finds}
 use Rattle.cluster_run.specs.Acting.{FindsEach}
 use Rattle.cluster_run.proofs.Finding.{entry_found, looked_found, none_parts, ok_is, none_is}

@@ -1,7 +1,7 @@
 -- The parts of events keep what holds besides the invariant.
 use Rattle.std.proofs.Common.{◌≡◌, ℕ, Bool, true, false, cond, not, ◌||◌, List, [], ◌∷◌, ◌++◌, Option, Some, None, refl, ap, subst, ◌∙◌}
 use Rattle.std.proofs.Common.{map}
-use Rattle.std.specs.Prelude.{Contains, Result, Ok, Err, nat_lt, slice_index, slice_set, ◌-◌}
+use Rattle.std.specs.Prelude.{Result, Ok, Err, slice_set, ◌-◌}
 use Rattle.basil_types.specs.declared.party.Party.{Party}
 use Rattle.basil_types.specs.declared.party.Party.TheVariants.{Replica, Client}
 use Rattle.client_core.specs.Clients.{ClientValue, ClientDone}
@@ -18,8 +18,8 @@ use Rattle.replica_core.specs.Answers.{answer_message, answer_read_frame}
 use Rattle.replica_core.specs.Replicas.{Done}
 use Rattle.cluster_run.specs.declared.fault.WorldFault.{WorldFault}
 use Rattle.cluster_run.specs.Answering.{AllWords}
-use Rattle.cluster_run.specs.Parts.{are_bytes, read_frame, saw, unless_broken, see_message, see, Mail, posted, has_room, enter_all, enter}
-use Rattle.cluster_run.specs.Parts.{mail_of, replica_self, client_self, noted, send, refuse, replica_did, replica_handles, client_did}
+use Rattle.cluster_run.specs.Parts.{are_bytes, read_frame, saw, see_message, see, Mail, posted, has_room, enter_all, enter}
+use Rattle.cluster_run.specs.Parts.{mail_of, replica_self, client_self, send, refuse, replica_did, replica_handles, client_did}
 use Rattle.cluster_run.specs.Parts.{client_handles, handle_by, handle, hand}
 use Rattle.cluster_run.specs.States.{Setup, IsSetup, is_faulty, Standing, standing, client_at, State}
 use Rattle.cluster_run.proofs.Finding.{ok_is}

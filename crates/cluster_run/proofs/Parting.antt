@@ -2,7 +2,7 @@
 use Rattle.serial_laws.specs.Laws.{SettingsAreSane}
 use Rattle.std.proofs.Common.{◌≡◌, ℕ, zero, suc, ◌<◌, Bool, true, false, cond, not, ◌||◌, arith, List, [], ◌∷◌, ◌++◌, Option, Some, None}
 use Rattle.std.proofs.Common.{refl, sym, ap, subst, ◌∙◌, inl, inr, map}
-use Rattle.std.specs.Prelude.{Contains, Result, Ok, Err, nat_lt, slice_index}
+use Rattle.std.specs.Prelude.{Result, Ok, Err, nat_lt, slice_index}
 use Rattle.std.proofs.lemmas.Bool.{and_parts, ltb-true}
 use Rattle.std.proofs.lemmas.List.Elements.{Contains-append_cases}
 use Rattle.basil_types.specs.Steps.{◌>>=◌}

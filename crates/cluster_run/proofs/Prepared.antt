@@ -4,7 +4,7 @@ use Rattle.cluster_run.proofs.Members.{in_cases, in_head, in_rest}
 use Rattle.node_steps.specs.Refusing as refusing
 use Rattle.std.proofs.Common.{◌≡◌, ℕ, zero, suc, ◌+◌, ◌*◌, ◌<◌, ◌≤◌, ◌==◌, Bool, true, false, cond, ◌&&◌, List, [], ◌∷◌, ◌++◌, length, map}
 use Rattle.std.proofs.Common.{Some, None, refl, sym, ap, subst, ◌∙◌, inl, inr, arith}
-use Rattle.std.specs.Prelude.{Contains, Result, Ok, Err, slice_get, slice_set, is_some, ◌-◌, nat_le, sum, ◌%◌}
+use Rattle.std.specs.Prelude.{Contains, Result, Ok, Err, slice_get, is_some, ◌-◌, nat_le, sum}
 use Rattle.std.specs.List.{flat_map, list_any, range_with_len}
 use Rattle.std.specs.Ordering.{nat_cmp, is_lt}
 use Rattle.std.specs.Cmp.Lexicographic.{slice_cmp}
@@ -39,8 +39,8 @@ use Rattle.txn_meta.specs.Places.{shard_of, involves, members_from, involved}
 use Rattle.cluster_run.specs.declared.fault.WorldFault.TheVariants as fault
 use Rattle.cluster_run.specs.Holding.{AreAbove, AscendBy, IsWrite, IsSlot}
 use Rattle.client_core.specs.Frames.{read_asked}
-use Rattle.cluster_run.specs.Parts.{read_frame, saw, unless_broken, see_message, see, Mail, posted, has_room, enter_all, enter, mail_of}
-use Rattle.cluster_run.specs.Parts.{send, noted, client_self}
+use Rattle.cluster_run.specs.Parts.{read_frame, saw, see_message, see, Mail, posted, has_room, enter_all, enter, mail_of}
+use Rattle.cluster_run.specs.Parts.{client_self}
 use Rattle.cluster_run.specs.Safety.{AreSigned}
 use Rattle.cluster_run.specs.States.{Setup, IsSetup, is_faulty, client_at, State}
 use Rattle.frame_views.specs.Carried.{transactions_in}

@@ -3,7 +3,7 @@ use Rattle.serial_laws.specs.Laws.{SettingsAreSane}
 use Rattle.cluster_run.proofs.Members.{any_of, in_cases, in_head, in_rest}
 use Rattle.std.proofs.Common.{◌≡◌, ℕ, Bool, true, false, cond, not, ◌&&◌, ◌||◌, List, [], ◌∷◌, ◌++◌, Option, Some, None, refl, sym, ap}
 use Rattle.std.proofs.Common.{subst, ◌∙◌, inl, inr}
-use Rattle.std.specs.Prelude.{Contains, filter, find, option_map, is_none, Result, Ok, Err}
+use Rattle.std.specs.Prelude.{Contains, filter, find, is_none}
 use Rattle.std.specs.List.{list_any}
 use Rattle.std.specs.Str.{bytes_eq}
 use Rattle.std.proofs.lemmas.Bool.{cases_Bool, and_parts, and_from}

@@ -33,7 +33,7 @@ use Rattle.agreement_laws.specs.Invariants as agreement
 use Rattle.agreement_laws.specs.Laws as agreed
 use Rattle.agreement_laws.specs.Runs as runs
 use Rattle.agreement_laws.specs.Settings as settings
-use Rattle.serial_laws.specs.Bases.{Basis, IsOfCorrectClient, IsText}
+use Rattle.serial_laws.specs.Bases.{Basis}
 use Rattle.serial_laws.specs.Bases as bases
 use Rattle.serial_laws.specs.Invariants.{IsHeedful}
 use Rattle.serial_laws.specs.Invariants as serial_holds

@@ -3,7 +3,7 @@ use Rattle.cluster_run.proofs.Finding.{ok_is}
 use Rattle.cluster_run.proofs.Members.{in_cases}
 use Rattle.std.proofs.Common.{◌≡◌, ℕ, ◌<◌, ◌^◌, Bool, true, false, cond, List, [], ◌∷◌, ◌++◌, length, Option, Some, None, refl, ap, subst}
 use Rattle.std.proofs.Common.{◌∙◌, inl, inr, arith}
-use Rattle.std.specs.Prelude.{Contains, Result, Ok, Err, slice_get, slice_set}
+use Rattle.std.specs.Prelude.{Contains, Result, Ok, slice_get}
 use Rattle.std.specs.Option.{option_map_or}
 use Rattle.std.proofs.lemmas.List.Elements.{Contains-append_cases}
 use Rattle.basil_types.specs.Built.{or_else}

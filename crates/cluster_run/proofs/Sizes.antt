@@ -13,7 +13,7 @@ use Rattle.basil_types.specs.declared.version.Version.{Version}
 use Rattle.basil_types.specs.Transaction.{TransactionValue, IsTransaction, id, version_of}
 use Rattle.basil_types.specs.Version.{genesis}
 use Rattle.basil_types.specs.Words.{AreWords, FitsVersion}
-use Rattle.fallback_views.specs.Views.{raised, reached_by, greatest, next, caught_up}
+use Rattle.fallback_views.specs.Views.{raised, reached_by, greatest, next}
 use Rattle.frame_views.specs.declared.bounds.Bounds.{Bounds}
 use Rattle.frame_views.specs.Fitting.{FitsRead, FitsReply, after_reply}
 use Rattle.frame_views.specs.Signed.{committed_told, version_told}

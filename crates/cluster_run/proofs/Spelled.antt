@@ -1,7 +1,7 @@
 -- The first stage of a transaction is spelled in bytes, and fits a frame.
 use Rattle.cluster_run.proofs.Members.{in_cases, in_head, in_rest}
 use Rattle.std.proofs.Common.{◌≡◌, ℕ, zero, suc, ◌+◌, ◌*◌, ◌<◌, ◌≤◌, ◌==◌, Bool, true, false, cond, List, [], ◌∷◌, ◌++◌, length, refl, sym}
-use Rattle.std.proofs.Common.{ap, subst, ◌∙◌, ◌⊎◌, inl, inr, arith, length-append}
+use Rattle.std.proofs.Common.{ap, subst, ◌∙◌, inl, inr, arith, length-append}
 use Rattle.std.specs.Prelude.{Contains, nat_lt, slice_index, Ok}
 use Rattle.std.specs.Int.{to_be_bytes, bytes_high_first, byte_at, w64, w16, w32}
 use Rattle.std.specs.List.{flat_map}

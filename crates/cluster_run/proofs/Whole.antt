@@ -2,7 +2,7 @@
 use Rattle.cluster_run.proofs.Members.{any_of, in_head}
 use Rattle.std.proofs.Common.{◌≡◌, ℕ, ◌+◌, ◌==◌, Bool, true, false, cond, ◌&&◌, List, [], ◌∷◌, ◌++◌, Option, Some, None, refl, sym, ap}
 use Rattle.std.proofs.Common.{subst, ◌∙◌, ◌⊎◌, inl, inr, arith, append-nil, map}
-use Rattle.std.specs.Prelude.{◌≤◌, length, Contains, Result, Ok, Err, slice_get, slice_set, nat_le, ◌-◌, is_none, IfSome}
+use Rattle.std.specs.Prelude.{◌≤◌, length, Contains, Ok, slice_get, slice_set, nat_le, ◌-◌, is_none, IfSome}
 use Rattle.std.specs.List.{list_any}
 use Rattle.std.specs.Str.{bytes_eq}
 use Rattle.std.proofs.lemmas.Bool.{cases_Bool, cases_eq, and_parts, and_from, eqb-true, ne_eqb, leb-true}
@@ -23,7 +23,7 @@ use Rattle.certificates.specs.declared.refusal.CertRefusal.TheVariants.{Mixed}
 use Rattle.client_core.specs.Clients.{ClientSelf, ClientValue, ClientDone}
 use Rattle.client_reads.specs.Laws.{RepliesExactly}
 use Rattle.client_reads.specs.Replies.{IsValidReply, IsSeenCommitted, reply_fault}
-use Rattle.frame_views.specs.Signed.{SignedBy, client_signed, certificate_signed}
+use Rattle.frame_views.specs.Signed.{client_signed, certificate_signed}
 use Rattle.frame_views.specs.Values as values
 use Rattle.replica_core.specs.Refusals.{subject}
 use Rattle.frame_views.specs.Values.{MessageValue, CommittedValue, CertificateValue, ReadValue, ReadReplyValue, WritebackValue, ReadReply}

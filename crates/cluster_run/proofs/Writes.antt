@@ -14,7 +14,7 @@ use Rattle.frame_views.specs.Spelling.{certificate_bytes}
 use Rattle.frame_views.specs.Values.{CertificateValue, WritebackValue}
 use Rattle.txn_table.specs.declared.released.Home.{Home}
 use Rattle.txn_table.specs.declared.released.Supposed.{Supposed}
-use Rattle.txn_table.specs.Entries.{EntryValue, OutcomeValue, decision_of, decided}
+use Rattle.txn_table.specs.Entries.{EntryValue, OutcomeValue, decided}
 use Rattle.txn_table.specs.Released.{released_vote, released}
 use Rattle.txn_table.specs.Tables.{id_of, ids_of, place_of, changed, entry_with}
 use Rattle.replica_core.specs.Replicas.{ReplicaSelf, BookValue, Done, quiet}

@@ -1,6 +1,6 @@
 -- What a run tells of itself.
-use Rattle.std.specs.Prelude.{ℕ, ◌+◌, ◌-◌, List, Bool, true, false, Option, option_map}
-use Rattle.std.specs.Prelude.{option_and_then, drop, find, position, slice_get}
+use Rattle.std.specs.Prelude.{ℕ, List, Bool, Option, option_map}
+use Rattle.std.specs.Prelude.{option_and_then, find, slice_get}
 use Rattle.std.specs.Option.{option_map_or}
 use Rattle.std.specs.Str.{bytes_eq}
 use Rattle.basil_types.specs.declared.party.Decision.{Decision}

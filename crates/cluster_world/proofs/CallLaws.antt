@@ -84,7 +84,8 @@ module _ {V S : Type 0} (v : verifiers.Ghosts V) (g : signers.Ghosts S) (s : Set
   )
 
   -- what the call sends
-  pub call_goes : (old new : Engine V S v g) (out : Outbox) (r : Result (Unit {0}) WatchFault) → old.pool.posts ≡ st.pool → PoolIsSeen s st →
+  pub call_goes : (old new : Engine V S v g) (out : Outbox) (r : Result (Unit {0}) WatchFault) → old.pool.posts ≡ st.pool →
+      PoolIsSeen s st →
       Does s st place old.pool (by_call answer) old (did.Sent out) →
       ((now : State) (said : List SignedWords) (mail : List EnvelopeValue) → Shows s old now → Holds out mail said →
       Goes s (send s (Client number) said mail now) new r) → Goes s (called s number answer st) new r

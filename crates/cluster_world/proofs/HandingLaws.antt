@@ -178,12 +178,14 @@ not_seen_err v g s st pool from to frame core (Err x) w h e = not_seen v g s st 
 
 module _ {V S : Type 0} (v : verifiers.Ghosts V) (g : signers.Ghosts S) (s : Setup) (st : State) (pool : PoolValue) (handles : Handles)
     (message : ℕ) where
-  pub reacts_nothing : (core : Engine V S v g) → core.pool.posts ≡ st.pool → PoolIsSeen s st → Takes s st pool handles core (Ok tooks.Nothing) →
+  pub reacts_nothing : (core : Engine V S v g) → core.pool.posts ≡ st.pool → PoolIsSeen s st →
+      Takes s st pool handles core (Ok tooks.Nothing) →
       (after : State) × (handles message st ≡ Ok after) × Shows s core after
   reacts_nothing core posts seen t = (st, t.0 message, record { stands = t.1; posts = posts; seen = seen })
 
   pub reacts_refused : (old new : Engine V S v g) → new ≡ record old { refused = Some message } → old.pool.posts ≡ st.pool →
-      PoolIsSeen s st → Takes s st pool handles old (Ok tooks.Refused) → (after : State) × (handles message st ≡ Ok after) × Shows s new after
+      PoolIsSeen s st → Takes s st pool handles old (Ok tooks.Refused) →
+      (after : State) × (handles message st ≡ Ok after) × Shows s new after
   reacts_refused old new own posts seen t =
       let h = t.1 in (
         record st { refused = Some message },
@@ -447,6 +449,7 @@ loses v g s old new st message o parties some own limits set h =
       record {
         stands = stands_pooled v g s old new after own limits (stands_pool v g s old st after.pool h.stands);
         posts = set p.0 p.1 ∙ ap (λ q. slice_set q (message - 1) (record p.0 { fate = lost p.0.fate })) h.posts;
-        seen = pool_seen s st after (marked_grows s message (lost p.0.fate) p.0 st (ap (λ q. posted_at q message) (sym h.posts) ∙ p.1)) h.seen;
+        seen = pool_seen s st after (marked_grows s message (lost p.0.fate) p.0 st (ap (λ q. posted_at q message) (sym h.posts) ∙ p.1))
+            h.seen;
       },
     )

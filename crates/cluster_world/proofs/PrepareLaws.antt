@@ -153,7 +153,8 @@ module _ (s : Setup) (st : State) (tx slot client place : ℕ) (b : BegunValue) 
     refused_comes fault r is answered =
         let d = subst (λ x. Does s st place old.pool (by_call answer) mid x) is does in
         let f = call_err answer fault d.0 in
-        subst (λ x. Comes s st x new r) (ap (λ x. called s client x st) f.1 ∙ sym (prepares_by (Err f.0) f.1)) (answered posts_same h.seen d)
+        subst (λ x. Comes s st x new r) (ap (λ x. called s client x st) f.1 ∙ sym (prepares_by (Err f.0) f.1))
+        (answered posts_same h.seen d)
 
     -- there is no room for what is sent
     pub full_comes : (e : StepFault) → handled ≡ did.Full → HasEntry old.pool handled → e ≡ full_of mid.pool →
@@ -178,8 +179,8 @@ module _ (s : Setup) (st : State) (tx slot client place : ℕ) (b : BegunValue) 
     sent_comes out r is begun there go =
         let d = subst (λ x. Does s st place old.pool (by_call answer) mid x) is does in
         subst (λ x. Comes s st x new r) (sym (prepares_sent d.0 (call_ok answer d.0 d.1)))
-        (go (with_client place d.0.client st) d.0.client d.0.signed d.0.sent (record { stands = d.4; posts = posts_same; seen = h.seen }) begun
-        (set_at st.clients place c d.0.client there) d.3)
+        (go (with_client place d.0.client st) d.0.client d.0.signed d.0.sent (record { stands = d.4; posts = posts_same; seen = h.seen })
+        begun (set_at st.clients place c d.0.client there) d.3)
 
     pub sent_room : (out : Outbox) → handled ≡ did.Sent out → HasEntry old.pool handled → HasRoomFor mid.pool out.messages.items
     sent_room out is entry =
@@ -347,7 +348,8 @@ module _ {V S : Type 0} (v : verifiers.Ghosts V) (g : signers.Ghosts S) (s : Set
     same_posts = ap (λ (q : PoolValue). q.posts) same ∙ h.posts
 
     pub recover_comes : (handled : Handled AskFault) (r : Result (Unit {0}) StepFault) → asked ≡ Some handled →
-        ((answer : Result ClientDone CallFault) → mid.pool.posts ≡ st.pool → PoolIsSeen s st → Does s st place mid.pool (by_call answer) mid handled →
+        ((answer : Result ClientDone CallFault) → mid.pool.posts ≡ st.pool → PoolIsSeen s st →
+        Does s st place mid.pool (by_call answer) mid handled →
         Comes s st (called s client answer st) new r) → Comes s st (at_formed tx (recovers_at s client) st) new r
     recover_comes handled r is answered =
         let d = subst (λ x. Recovers s st tx place c old.pool mid (Ok x)) is did_so in

@@ -385,7 +385,8 @@ module _ {V S : Type 0} (v : verifiers.Ghosts V) (g : signers.Ghosts S) (s : Set
       Goes s (enter_all s (m ∷ []) st) new (Ok tt)
   entered m mid message was_seen own_mid own limits grown own_is looks h =
       let now = with_posted m st in
-      let k = looks s now h.stands.earlier h.stands.sight (λ e. seen_own s st old.pool.posts message m.frame h.posts h.seen (sym own_is ∙ e)) in
+      let k = looks s now h.stands.earlier h.stands.sight
+      (λ e. seen_own s st old.pool.posts message m.frame h.posts h.seen (sym own_is ∙ e)) in
       let only = see_only s m.frame now k.0 k.1 in (
         k.0,
         one_enters s m st (Ok k.0) k.1,

@@ -22,7 +22,7 @@ use Rattle.mvtso_check.specs.Book.{waits_or_commits}
 use Rattle.mvtso_check.specs.Laws.{IsLetStand, NothingConflicts}
 use Rattle.node_steps.specs.Refusing.{unless, unless_refused}
 use Rattle.txn_meta.specs.Conflicts.{ShardConflicts}
-use Rattle.txn_table.specs.Entries.{EntryValue, OutcomeValue, VoteValue, Unvoted, Waiting, Voted, arrived, asked, asked_vote, voted}
+use Rattle.txn_table.specs.Entries.{EntryValue, OutcomeValue, VoteValue, Unvoted, Waiting, Voted, asked, asked_vote, voted}
 use Rattle.txn_table.specs.Entries as entries
 use Rattle.txn_table.specs.Laws.{IdsTellPlaces, ReleasedAscend}
 use Rattle.txn_table.specs.Released.{is_aborted}

@@ -17,7 +17,7 @@ use Rattle.node_steps.specs.Lists.{by_number, firsts, firsts_after}
 use Rattle.quorum_laws.specs.Numbers.{abort_tally, commit_tally, log_quorum}
 use Rattle.txn_meta.specs.Places.{involved}
 use Rattle.cluster_run.specs.Faulty as faulty
-use Rattle.cluster_run.specs.Faulty.{as_listed, is_vote, is_word, message_of, names, pool_votes, pool_words, read_or_none}
+use Rattle.cluster_run.specs.Faulty.{as_listed, is_vote, is_word, message_of, names, pool_votes, read_or_none}
 use Rattle.cluster_run.specs.Faulty.{same_elector, same_voter, tallies_from, tally_from, vote_in, word_in, words_from}
 use Rattle.cluster_run.specs.States.{Posted, Setup, State}
 use Rattle.faulty_parties.specs.declared.question.Question.TheVariants.{Votes, Words}

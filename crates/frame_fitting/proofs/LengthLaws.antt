@@ -7,7 +7,7 @@ use Rattle.basil_types.specs.Lists.{AreItems}
 use Rattle.basil_types.specs.Setting.{Setting, IsSetting}
 use Rattle.basil_types.specs.Transaction as transactions
 use Rattle.basil_types.specs.Transaction.{TransactionValue, IsTransaction, canonical, short_text, long_text}
-use Rattle.basil_types.specs.Transaction.{version_bytes, read_bytes, written_bytes, write_bytes, key_of_read, key_of_write}
+use Rattle.basil_types.specs.Transaction.{read_bytes, written_bytes, write_bytes, key_of_read, key_of_write}
 use Rattle.basil_types.specs.Words.{decision_byte}
 use Rattle.basil_types.specs.declared.party.Decision.{Decision}
 use Rattle.basil_types.specs.declared.party.Decision.TheVariants as decision

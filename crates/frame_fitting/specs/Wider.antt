@@ -1,5 +1,5 @@
 -- What fits one cluster and what fits any.
-use Rattle.std.specs.Prelude.{ℕ, ◌≤◌, length}
+use Rattle.std.specs.Prelude.{◌≤◌, length}
 use Rattle.basil_types.specs.Setting.{Setting, IsSetting}
 use Rattle.frame_views.specs.declared.bounds.Bounds.{Bounds}
 use Rattle.frame_views.specs.Fitting.{bounds_of, widest, FitsMessage}

@@ -1,14 +1,14 @@
 -- Which messages of a pool wait.
 use Rattle.std.proofs.Common.{◌≡◌, ◌+◌, ◌≤◌, ◌<◌, ℕ, zero, suc, Bool, true, false, List, []}
 use Rattle.std.proofs.Common.{◌∷◌, Option, Some, None, length, refl, sym, ap, subst, ◌∙◌, arith}
-use Rattle.std.specs.Prelude.{◌-◌, ◌&&◌, cond, not, drop, map, take, option_map, position}
-use Rattle.std.specs.Prelude.{slice_get, slice_index_or, slice_set, sum, unwrap_or}
-use Rattle.std.specs.List.{list_all, position_from, sum_by}
+use Rattle.std.specs.Prelude.{◌-◌, ◌&&◌, cond, not, drop, option_map, position}
+use Rattle.std.specs.Prelude.{slice_get, slice_index_or, slice_set, unwrap_or}
+use Rattle.std.specs.List.{position_from, sum_by}
 use Rattle.std.proofs.lemmas.Iterator.Adapters.{position_from-zero}
 use Rattle.std.proofs.lemmas.List.Sums.{sum-map, sum_by-set}
 use Rattle.std.proofs.lemmas.Option.{get_or_from_slice_get, slice_get-get_or, slice_get_within}
 use Rattle.message_pool.specs.declared.posted.Posted.{Posted}
-use Rattle.message_pool.specs.Posts.{have_passed, is_waiting, next_waiting, pool_bytes, waiting_behind}
+use Rattle.message_pool.specs.Posts.{have_passed, is_waiting, pool_bytes, waiting_behind}
 
 abbrev pub waits : Posted → Bool
 waits p = is_waiting p.fate

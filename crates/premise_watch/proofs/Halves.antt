@@ -6,11 +6,11 @@ use Rattle.basil_types.specs.declared.party.Decision.TheVariants.{Abort}
 use Rattle.basil_types.specs.Transaction.{TransactionValue, id}
 use Rattle.frame_views.specs.Carried.{paired, rival_in, committed_pairs, maybe_one, transactions_in}
 use Rattle.frame_views.specs.Signed.{SignedBy, signed_in, body_signed, committed_signed, commit_signed, tally_signed}
-use Rattle.frame_views.specs.Signed.{reply_signed, vote_signed, word_signed, proposal_signed}
+use Rattle.frame_views.specs.Signed.{reply_signed, vote_signed, word_signed}
 use Rattle.frame_views.specs.Values.{MessageValue, Read, ReadReply, St1, Vote, St2, LogReply, Writeback, Recover, Invoke, Elect, Decide}
 use Rattle.frame_views.specs.Values.{BodyValue, Commits, FastAbort, ConflictAbort, CommittedValue}
 use Rattle.premise_watch.specs.Laws.{signature_of, text_of, MarksTellBoth}
-use Rattle.premise_watch.specs.Marks.{MarkValue, Signature, Text, as_marks, body_marks, maybe_part, maybe_text, marks}
+use Rattle.premise_watch.specs.Marks.{MarkValue, Signature, as_marks, body_marks, maybe_part, maybe_text, marks}
 
 abbrev signatures : List MarkValue → List SignedBy
 signatures ms = filter_map signature_of ms

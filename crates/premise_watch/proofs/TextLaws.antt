@@ -13,7 +13,6 @@ use Rattle.std.proofs.lemmas.Option.{same_Some}
 use Rattle.std.proofs.lemmas.Slice.Eq.{bytes_eq-Decides}
 use Rattle.basil_types.specs.Id.{id_of}
 use Rattle.basil_types.specs.Transaction.{TransactionValue, canonical, id}
-use Rattle.premise_watch.specs.declared.broken.Broken.{Broken}
 use Rattle.premise_watch.specs.declared.broken.Broken.TheVariants.{Collision}
 use Rattle.premise_watch.specs.Breaches.{WatchValue, collides, collision}
 use Rattle.premise_watch.specs.Texts.{has_id, first_text, AreApart, AreTexts}

@@ -1,8 +1,7 @@
 -- What looking at the parts of a frame tells, and what it does to a watch.
-use Rattle.std.specs.Prelude.{◌≡◌, ℕ, List, Option, None, Some, length, take, ⊤}
+use Rattle.std.specs.Prelude.{◌≡◌, List, None, length, take}
 use Rattle.basil_types.specs.declared.party.Party.{Party}
 use Rattle.certificates.specs.Accepted.{Accepted}
-use Rattle.premise_watch.specs.declared.broken.Broken.{Broken}
 use Rattle.premise_watch.specs.declared.broken.WatchFault.{WatchFault}
 use Rattle.premise_watch.specs.declared.broken.WatchFault.TheVariants as fault
 use Rattle.premise_watch.specs.declared.watch.Watch.{Watch}

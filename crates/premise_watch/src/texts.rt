@@ -14,14 +14,14 @@ use crate::broken::{Broken, WatchFault};
 use basil_types::bytes::Bytes;
 use basil_types::memory::NoMemory;
 use basil_types::transaction::TransactionView;
-use indexmap::IndexMap;
+use id_maps::map::{IdMap, empty_map};
 use std::alloc::Global;
 
 /// The first text of each id, in the order in which they came.
 #[derive(Drop)]
 pub(crate) struct Texts {
     alloc: Global,
-    first: IndexMap<[u8; 32], Bytes>,
+    first: IdMap<[u8; 32], Bytes>,
 }
 
 impl Texts {
@@ -31,7 +31,7 @@ impl Texts {
     {
         Texts {
             alloc,
-            first: IndexMap::new(alloc),
+            first: empty_map(alloc),
         }
     }
 

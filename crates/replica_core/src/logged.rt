@@ -10,7 +10,7 @@ ghost use Rattle.std.specs.Ordering.{nat_cmp};
 use crate::log::Log;
 use basil_types::memory::NoMemory;
 use basil_types::party::Party;
-use indexmap::IndexMap;
+use id_maps::map::{IdMap, empty_map};
 use std::alloc::Global;
 use std::marker::Model;
 
@@ -18,7 +18,7 @@ use std::marker::Model;
 /// beside it for how many more there is room.
 #[derive(Drop)]
 pub(crate) struct Logged {
-    logs: IndexMap<[u8; 32], Log>,
+    logs: IdMap<[u8; 32], Log>,
 }
 
 impl Model for Logged {
@@ -36,7 +36,7 @@ impl Logged {
         ensures { result.entries ≡ [] }
     {
         Logged {
-            logs: IndexMap::new(alloc),
+            logs: empty_map(alloc),
         }
     }
 

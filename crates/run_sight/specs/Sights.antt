@@ -27,7 +27,8 @@ pub record SightValue : Type 0 where
 abbrev pub sight_of : State → SightValue
 sight_of st = record { watch = st.watch; certified = st.certified }
 
--- to what `undo` goes back: what was seen earlier is that to which the watch goes back, or the watch tells of it as well
+-- to what `undo` goes back: what was seen earlier is that to which the watch goes back, or the watch tells of it as
+-- well
 abbrev pub GoesTo : (shown : Bool) → Watch → (now : WatchValue) → (back earlier : List TransactionValue) → Type 0
 GoesTo true watch now back earlier = earlier ≡ back
 GoesTo false watch now back earlier = Watches watch (record now { texts = earlier }) back

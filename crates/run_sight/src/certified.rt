@@ -21,7 +21,7 @@ use basil_types::transaction::{Transaction, TransactionView};
 use certificates::decision_of;
 use frame_views::carried::{PairItem, pairs};
 use frame_views::frames::MessageView;
-use indexmap::IndexMap;
+use id_maps::map::{IdMap, empty_map};
 use keyring::verifier::Verifier;
 use std::alloc::Global;
 
@@ -29,8 +29,8 @@ use std::alloc::Global;
 #[derive(Drop)]
 pub(crate) struct Certified {
     alloc: Global,
-    decisions: IndexMap<[u8; 32], Decision>,
-    commits: IndexMap<[u8; 32], Transaction>,
+    decisions: IdMap<[u8; 32], Decision>,
+    commits: IdMap<[u8; 32], Transaction>,
 }
 
 /// How many decisions and committed transactions there were.
@@ -51,8 +51,8 @@ impl Certified {
     {
         Certified {
             alloc,
-            decisions: IndexMap::new(alloc),
-            commits: IndexMap::new(alloc),
+            decisions: empty_map(alloc),
+            commits: empty_map(alloc),
         }
     }
 

@@ -20,14 +20,14 @@ use basil_types::party::Decision;
 use basil_types::version::Version;
 use client_core::ReadState;
 use hex::encode;
-use indexmap::IndexMap;
+use id_maps::map::{IdMap, empty_map};
 use itoa::Buffer;
 use schedule_text::writing::{spell_key, spell_value};
 use serial_audit::maps::{Pair, replay_map};
 use std::alloc::Global;
 
 /// The places of the first formed transactions of each id, from 0.
-type Places = IndexMap<[u8; 32], u32>;
+type Places = IdMap<[u8; 32], u32>;
 
 /// The report of what a course shows.
 pub(crate) fn text_of(course: &Course) -> Result<Vec<u8>, NoMemory>
@@ -137,7 +137,7 @@ impl Course {
     fn places(&self) -> Result<Places, NoMemory>
         ensures { IfOk result (λ places. (r : ReplayValue) → Stands self.now r → AreFirst places.entries r) }
     {
-        let mut places = IndexMap::new(self.alloc);
+        let mut places = empty_map(self.alloc);
         for place in 0..self.names.len() {
             self.place(&mut places, place as u32)?;
         }

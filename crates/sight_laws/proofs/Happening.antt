@@ -101,7 +101,8 @@ module _ (s : Setup) where
 
   handle_fine : (number : ℕ) (from to : Party) (frame : List ℕ) (st : State) → Fine s st (parts.handle s number from to frame st)
   handle_fine number from to frame st =
-      fine_if (is_faulty s to || not (parts.are_bytes frame)) st (Ok st) (parts.handle_by s number from to frame st) (grows_same s st) (by to)
+      fine_if (is_faulty s to || not (parts.are_bytes frame)) st (Ok st) (parts.handle_by s number from to frame st) (grows_same s st)
+      (by to)
     where
       by : (to : Party) → Fine s st (parts.handle_by s number from to frame st)
       by (Replica shard index) = replica_fine number from frame (standing st shard index) st
@@ -261,7 +262,8 @@ module _ (s : Setup) where
   happens_fine (event.Claim tx key None) st =
       at_tx_fine tx (event.claims_at tx key (Some genesis)) st (λ b. claims_fine tx key (Some genesis) b st)
   happens_fine (event.Claim tx key (Some writer)) st =
-      at_tx_fine tx (event.claims_at tx key (event.formed_version st writer)) st (λ b. claims_fine tx key (event.formed_version st writer) b st)
+      at_tx_fine tx (event.claims_at tx key (event.formed_version st writer)) st
+      (λ b. claims_fine tx key (event.formed_version st writer) b st)
   happens_fine (event.Prepare tx) st = at_tx_fine tx (event.prepares_at s tx) st (λ b. prepares_fine tx b st)
   happens_fine (event.Settle tx client) st =
       at_formed_fine tx (event.settles_at s client) st

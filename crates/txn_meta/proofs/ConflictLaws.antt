@@ -1,19 +1,19 @@
 -- Conflicts of two transactions, and on the keys of one shard.
-use Rattle.std.proofs.Common.{◌≡◌, ℕ, Bool, true, false, ◌⊎◌, inl, inr, ◌<◌, ◌%◌, List, refl, sym, ap, ◌∙◌, subst, cond, arith}
-use Rattle.std.specs.Prelude.{not, ◌&&◌, ◌||◌, ◌==◌, ◌↔◌, sum}
+use Rattle.std.proofs.Common.{◌≡◌, ℕ, Bool, true, false, inl, inr, ◌<◌, List, refl, sym, ap, ◌∙◌, arith}
+use Rattle.std.specs.Prelude.{not, ◌&&◌, ◌||◌, ◌==◌, sum}
 use Rattle.std.specs.List.{list_any, Contains}
 use Rattle.std.specs.Str.{bytes_eq}
 use Rattle.std.specs.Cmp.Lexicographic.{bytes_decides}
 use Rattle.std.proofs.Math.Nat.{mod-lt}
-use Rattle.std.proofs.lemmas.Bool.{cases_Bool, and_parts, and_from, or_cases, or_left, or_right, eqb-true, eq-eqb, not-false}
+use Rattle.std.proofs.lemmas.Bool.{cases_Bool, and_parts, and_from, or_cases, or_left, or_right, eq-eqb}
 use Rattle.basil_types.specs.declared.transaction.parts.ReadPart.{ReadPart}
 use Rattle.basil_types.specs.declared.transaction.parts.WritePart.{WritePart}
 use Rattle.basil_types.specs.Setting.{Setting, IsSetting}
 use Rattle.basil_types.specs.Transaction.{TransactionValue, IsTransaction, canonical, version_of, writes_key}
 use Rattle.basil_types.specs.Version.{is_between, below}
-use Rattle.basil_types.proofs.MemberLaws.{hit_of, hit_from, in_none}
+use Rattle.basil_types.proofs.MemberLaws.{hit_of, hit_from}
 use Rattle.basil_types.proofs.TransactionLaws.{canonical-is}
-use Rattle.basil_types.proofs.VersionLaws.{below_itself, below_trans}
+use Rattle.basil_types.proofs.VersionLaws.{below_itself}
 use Rattle.txn_meta.specs.Conflicts.{differ, crosses, is_crossed, conflict, crosses_in}
 use Rattle.txn_meta.specs.Conflicts.{is_crossed_in, conflict_in, ShardConflicts, ConflictsAreOfShards}
 use Rattle.txn_meta.specs.Places.{shard_of, involves}

@@ -19,7 +19,7 @@ use basil_types::list::List;
 use basil_types::memory::NoMemory;
 use basil_types::party::{Decision, Party};
 use basil_types::transaction::{Transaction, TransactionView};
-use indexmap::IndexMap;
+use id_maps::map::{IdMap, empty_map};
 use std::alloc::Global;
 use std::marker::Model;
 use std::mem;
@@ -28,7 +28,7 @@ use std::mem;
 /// entries, and beside it the transaction for which room was made and not used since.
 #[derive(Drop)]
 pub struct Table {
-    entries: IndexMap<[u8; 32], Entry>,
+    entries: IdMap<[u8; 32], Entry>,
     // The list of askers of the next entry.
     askers: List<Party>,
     room: Option<[u8; 32]>,
@@ -53,7 +53,7 @@ impl Table {
         ensures { result ≡ record { entries = []; room = None } }
     {
         Table {
-            entries: IndexMap::new(alloc),
+            entries: empty_map(alloc),
             askers: List::new(alloc),
             room: None,
             waiters: Waiters::new(alloc),
@@ -237,7 +237,7 @@ impl Table {
 
 /// Makes room for one more entry, and for one asker in the list of its askers.
 fn room_for_entry(
-    entries: &mut IndexMap<[u8; 32], Entry>,
+    entries: &mut IdMap<[u8; 32], Entry>,
     askers: &mut List<Party>,
 ) -> Result<(), NoMemory>
     requires { length entries.old.entries < 2 ^ 32 }

@@ -8,13 +8,13 @@ ghost use Rattle.txn_table.specs.Waiters.{listed, ends_with, with_place, waits_o
 use basil_types::memory::NoMemory;
 use basil_types::transaction::TransactionView;
 use basil_types::transaction::parts::ReadItem;
-use indexmap::IndexMap;
+use id_maps::map::{IdMap, empty_map};
 use std::alloc::Global;
 
 /// For each id the places of the transactions that depend on it, ascending. An id may have an empty list.
 #[derive(Drop)]
 pub(crate) struct Waiters {
-    lists: IndexMap<[u8; 32], Vec<u32>>,
+    lists: IdMap<[u8; 32], Vec<u32>>,
     // Whether each place is listed: cleared where memory was wanting for one.
     whole: bool,
     alloc: Global,
@@ -26,7 +26,7 @@ impl Waiters {
         ensures { (id : List ℕ) → listed result id ≡ [] }
     {
         Waiters {
-            lists: IndexMap::new(alloc),
+            lists: empty_map(alloc),
             whole: true,
             alloc,
         }

@@ -6,6 +6,8 @@ mod clusters;
 #[cfg(test)]
 mod forms;
 #[cfg(test)]
+mod ids;
+#[cfg(test)]
 mod links;
 #[cfg(test)]
 mod outside;

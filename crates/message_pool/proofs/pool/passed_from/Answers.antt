@@ -1,4 +1,4 @@
-use Rattle.std.proofs.Common.{sym, ◌∙◌, length}
+use Rattle.std.proofs.Common.{sym, ◌∙◌}
 use Rattle.std.specs.Prelude.{drop}
 use Rattle.message_pool.proofs.PoolLaws.{found_from, passed_all, passed_to}
 use Rattle.message_pool.proofs.pool.passed_from.Goals as goal

@@ -1,6 +1,4 @@
 use Rattle.std.proofs.Common.{refl}
-use Rattle.message_pool.specs.declared.posted.Posted.{Posted}
-use Rattle.std.specs.Prelude.{slice_index_or}
 use Rattle.message_pool.proofs.PoolLaws.{bytes_kept_at, passes_kept}
 use Rattle.message_pool.proofs.pool.set_fate.Goals as goal
 

@@ -1,4 +1,4 @@
-use Rattle.std.proofs.Common.{◌≡◌, ◌∙◌, List, All, length, suc, subst, ap, arith}
+use Rattle.std.proofs.Common.{◌∙◌, List, All, length, suc, subst, ap, arith}
 use Rattle.node_steps.specs.declared.pending.Unsigned.{Unsigned}
 use Rattle.node_steps.specs.Pendings.{HasRoomFor}
 use Rattle.node_steps.proofs.Sending.{next_sent}

@@ -2,7 +2,7 @@ use Rattle.std.proofs.Common.{◌≡◌, ◌∷◌, sym, ap, ◌∙◌}
 use Rattle.std.specs.Prelude.{option_map}
 use Rattle.frame_views.specs.Shown.{committed_of, message_of, voted_of}
 use Rattle.frame_views.specs.Signed.{SignedBy, signed_in, vote_signed}
-use Rattle.frame_views.specs.Values.{MessageValue, Vote}
+use Rattle.frame_views.specs.Values.{Vote}
 use Rattle.premise_watch.specs.Marks.{Text, marks}
 use Rattle.premise_watch.specs.Parts.{around, rival_of}
 use Rattle.premise_watch.proofs.PartLaws.{of_vote}

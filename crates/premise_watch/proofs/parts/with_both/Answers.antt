@@ -1,4 +1,4 @@
-use Rattle.std.proofs.Common.{◌≡◌, ◌∷◌, ap, ◌∙◌}
+use Rattle.std.proofs.Common.{◌∷◌, ap, ◌∙◌}
 use Rattle.frame_views.specs.Shown.{committed_of, read_reply_of}
 use Rattle.frame_views.specs.Signed.{reply_signed}
 use Rattle.premise_watch.specs.Marks.{Text}

@@ -1,7 +1,7 @@
-use Rattle.std.proofs.Common.{◌≡◌, ℕ, ◌<◌, false, refl, ap, ◌∙◌, arith}
+use Rattle.std.proofs.Common.{ap, ◌∙◌, arith}
 use Rattle.std.specs.Prelude.{◌||◌}
 use Rattle.basil_types.specs.Shown.{transaction_of}
-use Rattle.txn_meta.specs.Places.{involves, reads_of, writes_of, is_marked}
+use Rattle.txn_meta.specs.Places.{involves, reads_of, writes_of}
 use Rattle.txn_meta.proofs.MarkLaws.{marks_are, both, unmarked}
 use Rattle.txn_meta.proofs.shards.involved.Goals as goal
 

@@ -1,4 +1,4 @@
-use Rattle.std.proofs.Common.{Some, arith}
+use Rattle.std.proofs.Common.{Some}
 use Rattle.std.proofs.Math.Logic.{∥∥₁_map}
 use Rattle.keyring.specs.contracts.plain.PlainKeysVerifier.TheImpl as keys
 use Rattle.keyring_lms.specs.contracts.pen.LmsPenSigner.TheImpl as pens

@@ -1,4 +1,4 @@
-use Rattle.std.proofs.Common.{[], true, false}
+use Rattle.std.proofs.Common.{[], true}
 use Rattle.client_core.specs.Clients.{quiet}
 use Rattle.cluster_nodes.proofs.Clients.{write_lacks}
 use Rattle.cluster_nodes.proofs.calling.StandingClient.delete.Goals as goal

@@ -1,4 +1,4 @@
-use Rattle.std.proofs.Common.{refl, ◌∙◌, ap}
+use Rattle.std.proofs.Common.{◌∙◌, ap}
 use Rattle.client_core.specs.Asks.{answer_to}
 use Rattle.cluster_run.specs.Parts.{client_self}
 use Rattle.cluster_nodes.proofs.Clients.{full_by, planned_here, sent_by, still_holds}

@@ -1,4 +1,4 @@
-use Rattle.std.proofs.Common.{[], true, false}
+use Rattle.std.proofs.Common.{true, false}
 use Rattle.client_core.specs.Clients.{quiet}
 use Rattle.cluster_nodes.proofs.Clients.{write_lacks}
 use Rattle.cluster_nodes.proofs.calling.StandingClient.write.Goals as goal

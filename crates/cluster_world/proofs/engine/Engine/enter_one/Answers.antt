@@ -18,7 +18,8 @@ returns-clause-goes g c = λ s st h.
     let old = c.args.self.now in
     let mid = record old { sight = c.look.new.self } in
     let m : Mail = record { from = c.args.from; to = c.args.to; frame = c.args.frame } in
-    entered g.V.Verifier g.S.Signer s old (record mid { pool = c.enter.new.self }) st m mid c.len.result c.has_frame-was_seen.result refl refl
+    entered g.V.Verifier g.S.Signer s old (record mid { pool = c.enter.new.self }) st m mid c.len.result
+    c.has_frame-was_seen.result refl refl
     c.in_ok-enter.ensures.limits c.in_ok-enter.ensures.posts
     (c.has_frame-was_seen.ensures ∙ ap (has_frame_at old.pool.posts c.len.result) c.as_slice-shown.ensures)
     (subst (λ f. Looks g.V.Verifier old.sight c.look.new.self f c.has_frame-was_seen.result) c.as_slice-shown.ensures

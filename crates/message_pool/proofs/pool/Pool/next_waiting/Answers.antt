@@ -1,4 +1,4 @@
-use Rattle.std.proofs.Common.{ap, sym, ◌∙◌, arith}
+use Rattle.std.proofs.Common.{ap, ◌∙◌, arith}
 use Rattle.std.specs.Prelude.{◌-◌}
 use Rattle.message_pool.specs.Posts.{PoolValue, waiting_behind}
 use Rattle.message_pool.proofs.PoolLaws.{behind_same}

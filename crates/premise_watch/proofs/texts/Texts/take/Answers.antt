@@ -11,14 +11,16 @@ use Rattle.premise_watch.proofs.texts.Texts.take.Goals as goal
 pub returns-then-eq-clause-texts : goal.returns-then-eq-clause-texts
 returns-then-eq-clause-texts c texts h =
     seen_same c.args.self.now.first.entries (transaction_of c.args.t) c.bytes-bytes.result.now
-    c.id-id.result (c.id-id.ensures ∙ ap id_of (sym c.bytes-bytes.ensures.spelled)) c.bytes-bytes.ensures.spelled texts c.in-Some.first.now (sym c.get.ensures.value
+    c.id-id.result (c.id-id.ensures ∙ ap id_of (sym c.bytes-bytes.ensures.spelled)) c.bytes-bytes.ensures.spelled texts c.in-Some.first.now
+    (sym c.get.ensures.value
     ∙ ap option_copied c.in-Some.is)
     (ap (λ b. bytes_eq b c.bytes-bytes.result.now) (sym c.as_slice.ensures) ∙ sym c.eq.ensures ∙ c.if-eq.true) h
 
 pub returns-then-eq-clause-apart : goal.returns-then-eq-clause-apart
 returns-then-eq-clause-apart c w h =
     let kept = seen_same c.args.self.now.first.entries (transaction_of c.args.t) c.bytes-bytes.result.now
-    c.id-id.result (c.id-id.ensures ∙ ap id_of (sym c.bytes-bytes.ensures.spelled)) c.bytes-bytes.ensures.spelled w.texts c.in-Some.first.now (sym c.get.ensures.value
+    c.id-id.result (c.id-id.ensures ∙ ap id_of (sym c.bytes-bytes.ensures.spelled)) c.bytes-bytes.ensures.spelled w.texts
+    c.in-Some.first.now (sym c.get.ensures.value
     ∙ ap option_copied c.in-Some.is)
     (ap (λ b. bytes_eq b c.bytes-bytes.result.now) (sym c.as_slice.ensures) ∙ sym c.eq.ensures ∙ c.if-eq.true) h in
     sound w (transaction_of c.args.t) kept.apart
@@ -27,7 +29,8 @@ pub returns-else-eq-clause-breach : goal.returns-else-eq-clause-breach
 returns-else-eq-clause-breach c w h =
     told_same c.collision.result _ _
     (seen_other c.args.self.now.first.entries (transaction_of c.args.t) c.bytes-bytes.result.now c.id-id.result
-    (c.id-id.ensures ∙ ap id_of (sym c.bytes-bytes.ensures.spelled)) c.bytes-bytes.ensures.spelled w c.in-Some.first.now c.bytes-bytes.result.now refl (sym c.get.ensures.value
+    (c.id-id.ensures ∙ ap id_of (sym c.bytes-bytes.ensures.spelled)) c.bytes-bytes.ensures.spelled w c.in-Some.first.now
+    c.bytes-bytes.result.now refl (sym c.get.ensures.value
     ∙ ap option_copied c.in-Some.is)
     (ap (λ b. bytes_eq b c.bytes-bytes.result.now) (sym c.as_slice.ensures) ∙ sym c.eq.ensures ∙ c.if-eq.false) h
     ∙ ap (λ first. Some (Collision first c.bytes-bytes.result.now)) (sym c.as_slice-else-eq.ensures)) c.collision.ensures
@@ -35,12 +38,14 @@ returns-else-eq-clause-breach c w h =
 pub returns-in-Ok-clause-texts : goal.returns-in-Ok-clause-texts
 returns-in-Ok-clause-texts c texts h =
     seen_new c.args.self.now.first.entries (transaction_of c.args.t) c.bytes-bytes.result.now
-    c.id-id.result (c.id-id.ensures ∙ ap id_of (sym c.bytes-bytes.ensures.spelled)) c.bytes-bytes.ensures.spelled c.keep.new.self.first.entries texts (sym c.get.ensures.value
+    c.id-id.result (c.id-id.ensures ∙ ap id_of (sym c.bytes-bytes.ensures.spelled)) c.bytes-bytes.ensures.spelled
+    c.keep.new.self.first.entries texts (sym c.get.ensures.value
     ∙ ap option_copied c.in-None.is) c.in-Ok.ensures.kept h
 
 pub returns-in-Ok-clause-apart : goal.returns-in-Ok-clause-apart
 returns-in-Ok-clause-apart c w h =
     let kept = seen_new c.args.self.now.first.entries (transaction_of c.args.t) c.bytes-bytes.result.now
-    c.id-id.result (c.id-id.ensures ∙ ap id_of (sym c.bytes-bytes.ensures.spelled)) c.bytes-bytes.ensures.spelled c.keep.new.self.first.entries w.texts (sym c.get.ensures.value
+    c.id-id.result (c.id-id.ensures ∙ ap id_of (sym c.bytes-bytes.ensures.spelled)) c.bytes-bytes.ensures.spelled
+    c.keep.new.self.first.entries w.texts (sym c.get.ensures.value
     ∙ ap option_copied c.in-None.is) c.in-Ok.ensures.kept h in
     sound w (transaction_of c.args.t) kept.apart

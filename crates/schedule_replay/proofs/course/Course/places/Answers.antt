@@ -6,7 +6,7 @@ pub overflow_cast-place : goal.overflow_cast-place
 overflow_cast-place c = omega (arith, c.len-place-end.ensures.few)
 
 pub loop-place-init : goal.loop-place-init
-loop-place-init c = λ r s. none_placed r c.new-places.result.entries c.new-places.ensures.empty
+loop-place-init c = λ r s. none_placed r c.empty_map-places.result.entries c.empty_map-places.ensures.empty
 
 pub loop-place-preserved : goal.loop-place-preserved
 loop-place-preserved c = λ r s.

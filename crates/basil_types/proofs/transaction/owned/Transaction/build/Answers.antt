@@ -12,8 +12,11 @@ invariant_of-result c =
     let t = built c.args.time c.args.client c.args.reads.now c.args.writes.now in
     let is : IsTransaction t =
     built-is c.args.time c.args.client c.args.reads.now c.args.writes.now
-    (sym c.in-None.ensures.first) c.spell.ensures.time c.in_ok-bytes-in-None.ensures.reads c.in_ok-bytes-in-None.ensures.writes in
-    (ap spells_transaction c.in_ok-bytes-in-None.ensures.spelled ∙ (again-spells t is).0, c.id_of-id.ensures ∙ ap id_of c.as_slice.ensures.value)
+    (sym c.in-None.ensures.first) c.spell.ensures.time c.in_ok-bytes-in-None.ensures.reads c.in_ok-bytes-in-None.ensures.writes in (
+      ap spells_transaction c.in_ok-bytes-in-None.ensures.spelled ∙ (again-spells t is).0,
+      c.id_of-id.ensures
+          ∙ ap id_of c.as_slice.ensures.value,
+    )
 
 pub returns-in_ok-bytes-in-None-clause-value : goal.returns-in_ok-bytes-in-None-clause-value
 returns-in_ok-bytes-in-None-clause-value c =

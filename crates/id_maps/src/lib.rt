@@ -1,0 +1,5 @@
+//! Maps whose keys are ids, or hold one.
+#![tactic(auto)]
+
+pub mod hasher;
+pub mod map;
