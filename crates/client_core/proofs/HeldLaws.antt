@@ -2,7 +2,7 @@
 use Rattle.std.proofs.Common.{◌≡◌, ◌∙◌, ℕ, zero, suc, ◌<◌, ◌≤◌, List, [], ◌∷◌, ◌++◌}
 use Rattle.std.proofs.Common.{length, length-append, map, refl, sym, ap, subst, arith}
 use Rattle.std.specs.Prelude.{Option, Some, None, option_map, slice_get, slice_set, slice_index_or}
-use Rattle.std.proofs.lemmas.List.{length-set}
+use Rattle.std.proofs.lemmas.List.{length-set, map-append}
 use Rattle.std.proofs.lemmas.Option.{same_Some}
 use Rattle.basil_types.specs.declared.transaction.parts.WritePart.{WritePart}
 use Rattle.basil_types.specs.Setting.{Setting}
@@ -19,6 +19,7 @@ use Rattle.client_core.specs.Calls.{begun_slot, begin_done, by_slot, call_read, 
 use Rattle.client_core.specs.Clients.{AskedRead, SlotValue, ClientSelf, ClientValue, quiet}
 use Rattle.client_core.specs.Kept.{KeptRead, kept_read, shown_read}
 use Rattle.client_core.specs.Clusters.{AreOf, IsOf}
+use Rattle.client_core.specs.Finding.{AreIds, id_formed, id_in}
 use Rattle.client_core.specs.Showing.{KeepsReads, SameHeld, ShowsFormed, ShowsSlot, ShowsSlots, ShowsHeld, slot_value}
 use Rattle.client_core.specs.Slots.{most_slots, put_read, with_pursuit}
 use Rattle.client_core.specs.Forming.{started}
@@ -134,6 +135,43 @@ none_of c o none f e = let z : None ≡ Some f = sym none ∙ e in absurd cc
 
 pub some_of : (c : Setting) (f : Formed) → f.pursuit.cluster ≡ c → IsOf c (Some f)
 some_of c f is g e = subst (λ (x : Formed). x.pursuit.cluster ≡ c) (same_Some f g e) is
+
+-- ---- the ids
+
+ids_kept : (slots : List Slot) (i : ℕ) (slot changed : Slot) → slice_get slots i ≡ Some slot → id_in changed ≡ id_in slot →
+    map id_in (slice_set slots i changed) ≡ map id_in slots
+ids_kept [] i slot changed at same = absurd cc
+ids_kept (x ∷ xs) zero slot changed at same =
+    ap (λ (o : Option (List ℕ)). o ∷ map id_in xs) (same ∙ ap id_in (sym (same_Some x slot at)))
+ids_kept (x ∷ xs) (suc i) slot changed at same = ap (λ l. id_in x ∷ l) (ids_kept xs i slot changed at same)
+
+ids_changed : (slots : List Slot) (i : ℕ) (changed : Slot) →
+    slice_set (map id_in slots) i (id_in changed) ≡ map id_in (slice_set slots i changed)
+ids_changed [] i changed = refl
+ids_changed (x ∷ xs) zero changed = refl
+ids_changed (x ∷ xs) (suc i) changed = ap (λ l. id_in x ∷ l) (ids_changed xs i changed)
+
+-- of a slot that keeps its id
+pub set_ids : (ids : List (Option (List ℕ))) (slots : List Slot) (i : ℕ) (slot changed : Slot) → slice_get slots i ≡ Some slot →
+    id_in changed ≡ id_in slot → AreIds ids slots → AreIds ids (slice_set slots i changed)
+set_ids ids slots i slot changed at same h = h ∙ sym (ids_kept slots i slot changed at same)
+
+-- of one that has another
+pub placed_ids : (ids : List (Option (List ℕ))) (slots : List Slot) (i : ℕ) (changed : Slot) → AreIds ids slots →
+    AreIds (slice_set ids i (id_in changed)) (slice_set slots i changed)
+placed_ids ids slots i changed h = ap (λ l. slice_set l i (id_in changed)) h ∙ ids_changed slots i changed
+
+-- of one slot more
+pub pushed_ids : (ids : List (Option (List ℕ))) (slots : List Slot) (slot : Slot) → AreIds ids slots →
+    AreIds (ids ++ id_in slot ∷ []) (slots ++ slot ∷ [])
+pushed_ids ids slots slot h = ap (λ l. l ++ id_in slot ∷ []) h ∙ sym (map-append id_in slots (slot ∷ []))
+
+started_id : (o : Option Formed) → id_formed (option_map started o) ≡ id_formed o
+started_id None = refl
+started_id (Some f) = refl
+
+pub started_keeps : (slot new : Slot) → new ≡ record slot { formed = option_map started slot.formed } → id_in new ≡ id_in slot
+started_keeps slot new same = ap id_in same ∙ started_id slot.formed
 
 -- ---- how many
 

@@ -142,7 +142,9 @@ abbrev pub HasReadRoom : Slot → Type 0
 HasReadRoom s = vec_len s.reads < vec_capacity s.reads
 
 abbrev pub HasSlotRoom : Held → Type 0
-HasSlotRoom held = (vec_len held.slots < vec_capacity held.slots) × (length held.slots.items < most_slots)
+HasSlotRoom held =
+    (vec_len held.slots < vec_capacity held.slots) × (length held.slots.items < most_slots)
+    × (vec_len held.ids < vec_capacity held.ids)
 
 abbrev pub CanWork : (size left : ℕ) → Held → Outbox → Work → Type 0
 CanWork size left held out Nothing = ⊤

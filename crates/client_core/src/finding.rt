@@ -2,22 +2,39 @@
 
 ghost use Rattle.std.specs.Prelude.{◌≡◌, ◌<◌, IfSome, length, position};
 ghost use Rattle.client_core.specs.Clients.{ClientValue};
-ghost use Rattle.client_core.specs.Finding.{is_named};
+ghost use Rattle.client_core.specs.Finding.{id_in, is_id, is_named};
 ghost use Rattle.client_core.specs.Showing.{ShowsHeld};
 ghost use Rattle.client_core.specs.Slots as slots;
 
 use crate::held::{Held, Slot};
 
 impl Slot {
-    /// Whether it is formed, and its transaction has this id.
-    fn is_named(&self, id: &[u8; 32]) -> bool
-        ensures { result ≡ is_named id.now self.now }
+    /// The id of its transaction, if it is formed.
+    pub(crate) fn id(&self) -> Option<[u8; 32]>
+        ensures { result ≡ id_in self.now }
     {
         match &self.formed {
-            Some(formed) => id.as_slice() == formed.pursuit.id().as_slice(),
-            None => false,
+            Some(formed) => Some(*formed.pursuit.id()),
+            None => None,
         }
     }
+}
+
+/// Whether an id that a slot may have is this one.
+fn is_same(own: &Option<[u8; 32]>, id: &[u8; 32]) -> bool
+    ensures { result ≡ is_id id.now own.now }
+{
+    match own {
+        Some(own) => id.as_slice() == own.as_slice(),
+        None => false,
+    }
+}
+
+/// The place of the first of these ids that is this one.
+fn place_among(ids: &[Option<[u8; 32]>], id: &[u8; 32]) -> Option<usize>
+    ensures { result ≡ position (is_id id.now) ids.now }
+{
+    ids.iter().position(|own| is_same(own, id))
 }
 
 impl Held {
@@ -25,7 +42,7 @@ impl Held {
     fn place_of(&self, id: &[u8; 32]) -> Option<usize>
         ensures { result ≡ position (is_named id.now) self.now.slots.items }
     {
-        self.slots.iter().position(|slot| slot.is_named(id))
+        place_among(self.ids.as_slice(), id)
     }
 
     /// The first slot whose transaction is formed and has this id.

@@ -7,6 +7,7 @@ ghost use Rattle.basil_types.specs.Setting.{Setting};
 ghost use Rattle.certificates.specs.declared.fault.FrameFault.TheVariants as faults;
 ghost use Rattle.client_core.specs.Clients.{ClientValue, SlotValue};
 ghost use Rattle.client_core.specs.Clusters.{IsOf};
+ghost use Rattle.client_core.specs.Finding.{id_in};
 ghost use Rattle.client_core.specs.declared.held.Formed.{Formed};
 ghost use Rattle.client_core.specs.declared.held.Slot.{Slot};
 ghost use Rattle.client_core.specs.Showing.{ShowsHeld, ShowsPursuit, ShowsSlot};
@@ -64,6 +65,7 @@ impl Formed {
         ensures shown { (p : PursuitValue) → ShowsPursuit self.old p → ShowsPursuit self.new p }
         ensures none { self.new.held_back ≡ false }
         ensures cluster { self.new.pursuit.cluster ≡ self.old.pursuit.cluster }
+        ensures transaction { self.new.pursuit.transaction ≡ self.old.pursuit.transaction }
         ensures second { self.new.second ≡ self.old.second }
     {
         if !self.held_back {
@@ -88,6 +90,7 @@ impl Formed {
             taken_of (V.accepted keys.now) self.old.pursuit.cluster p.transaction (message_of m.now) ≡ Err e) }
         ensures shown { (p : PursuitValue) → ShowsPursuit self.old p → ShowsPursuit self.new p }
         ensures cluster { self.new.pursuit.cluster ≡ self.old.pursuit.cluster }
+        ensures transaction { self.new.pursuit.transaction ≡ self.old.pursuit.transaction }
         ensures second { self.new.second ≡ self.old.second }
     {
         match add_frame(&mut self.pursuit, keys, m) {
@@ -103,6 +106,7 @@ impl Formed {
     fn take(&mut self, starts: bool)
         ensures shown { (p : PursuitValue) → WillStand starts p (Some self.old) → ShowsPursuit self.new p }
         ensures cluster { self.new.pursuit.cluster ≡ self.old.pursuit.cluster }
+        ensures transaction { self.new.pursuit.transaction ≡ self.old.pursuit.transaction }
     {
         self.held_back = false;
         self.second = starts || self.second;
@@ -146,6 +150,7 @@ impl Slot {
         ensures shown { (s : SlotValue) → ShowsSlot self.old s → ShowsSlot self.new s }
         ensures none { ForSome self.new.formed (λ (f : Formed). f.held_back ≡ false) }
         ensures cluster { (k : Setting) → IsOf k self.old.formed → IsOf k self.new.formed }
+        ensures id { id_in self.new ≡ id_in self.old }
     {
         match &mut self.formed {
             Some(formed) => formed.let_go(),
@@ -158,6 +163,7 @@ impl Slot {
         ensures shown { (s : SlotValue) (p : PursuitValue) → ShowsSlot self.old s →
             WillStand starts p self.old.formed → ShowsSlot self.new (with_pursuit s p) }
         ensures cluster { (k : Setting) → IsOf k self.old.formed → IsOf k self.new.formed }
+        ensures id { id_in self.new ≡ id_in self.old }
     {
         match &mut self.formed {
             Some(formed) => formed.take(starts),

@@ -2,6 +2,7 @@
 
 ghost use Rattle.std.specs.Prelude.{◌≡◌, ◌≤◌, Option, length, option_map};
 ghost use Rattle.client_core.specs.Clusters.{AreOf};
+ghost use Rattle.client_core.specs.Finding.{AreIds};
 ghost use Rattle.client_core.specs.Keeping.{told_state};
 ghost use Rattle.client_core.specs.Slots as slots;
 ghost use Rattle.client_core.specs.Slots.{most_slots};
@@ -44,8 +45,11 @@ pub struct Held {
     pub cluster: Cluster,
     pub last: u64,
     pub slots: Vec<Slot>,
+    /// The ids of those that are formed, by slot, side by side for the search of one.
+    pub(crate) ids: Vec<Option<[u8; 32]>>,
     ghost clusters: { AreOf cluster slots.items },
     ghost most: { length slots.items ≤ most_slots },
+    ghost named: { AreIds ids.items slots.items },
 }
 
 /// The most slots that a client holds.
@@ -188,6 +192,7 @@ impl Held {
             cluster,
             last: 0,
             slots: Vec::new(alloc),
+            ids: Vec::new(alloc),
         }
     }
 
@@ -206,6 +211,7 @@ impl Held {
         }
         let slot = self.room_for_slot()?;
         self.slots.push_reserved(Slot::begun(alloc, time));
+        self.ids.push_reserved(None);
         self.last = time;
         Ok(slot)
     }
@@ -221,6 +227,7 @@ impl Held {
             return Err(NoMemory);
         }
         self.slots.reserve(1)?;
+        self.ids.reserve(1)?;
         Ok(place as u32)
     }
 }
@@ -328,6 +335,7 @@ impl Held {
         ensures cluster { self.new.cluster ≡ self.old.cluster }
     {
         let pursuit = Pursuit::new(alloc, formed, signature, self.cluster);
+        self.ids[slot] = Some(*pursuit.id());
         let slot = &mut self.slots[slot];
         slot.formed = Some(Formed {
             pursuit,
@@ -355,6 +363,8 @@ impl Held {
             ShowsHeld self.new after }
         ensures cluster { self.new.cluster ≡ self.old.cluster }
     {
+        let id = recovered.id();
         self.slots.push_reserved(recovered);
+        self.ids.push_reserved(id);
     }
 }

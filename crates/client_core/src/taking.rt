@@ -56,6 +56,7 @@ fn plan_formed<V: Verifier>(
     ensures shown { (p : PursuitValue) → ShowsPursuit formed.old p → ShowsPursuit formed.new p }
     ensures slot { IfOk result (λ plan. plan.slot ≡ None) }
     ensures cluster { formed.new.pursuit.cluster ≡ formed.old.pursuit.cluster }
+    ensures transaction { formed.new.pursuit.transaction ≡ formed.old.pursuit.transaction }
 {
     formed.let_go();
     let decided = formed.is_decided();

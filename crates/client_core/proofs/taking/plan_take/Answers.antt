@@ -3,8 +3,10 @@ use Rattle.std.proofs.lemmas.Option.{same_Some}
 use Rattle.client_core.specs.declared.held.Formed.{Formed}
 use Rattle.frame_views.specs.Shown.{message_of}
 use Rattle.client_core.specs.declared.held.Slot.{Slot}
+use Rattle.client_core.specs.Finding.{id_formed}
 use Rattle.client_core.specs.Seats.{self_at}
-use Rattle.client_core.proofs.HeldLaws.{are_set, got, most_set}
+use Rattle.basil_types.specs.Transaction.{id}
+use Rattle.client_core.proofs.HeldLaws.{are_set, got, most_set, set_ids}
 use Rattle.client_core.proofs.ReadingLaws.{shown_at}
 use Rattle.client_core.proofs.TakingLaws.{not_formed, taken_planned, taken_shows}
 use Rattle.client_core.proofs.taking.plan_take.Goals as goal
@@ -60,4 +62,19 @@ invariant_of-held g c =
           (λ of f e. sym (ap (λ (g : Formed). g.pursuit.cluster) (same_Some _ _ e)) ∙ c.plan_formed.ensures.cluster
           ∙ of c.in-Some.formed c.in-Some.is) old.clusters;
       most = most_set old.slots.items c.args.slot _ old.most;
+      named =
+          set_ids old.ids.items old.slots.items c.args.slot x _
+          (got old.slots.items c.args.slot x c.requires.held c.index_mut-place.ensures.value)
+          (ap (λ t. Some (id t)) c.plan_formed.ensures.transaction ∙ sym (ap id_formed c.in-Some.is)) old.named;
     }
+
+pub invariant_of-held-in-None-clause-named : goal.invariant_of-held-in-None-clause-named
+invariant_of-held-in-None-clause-named g c =
+    let old = c.args.held.now in
+    let x = c.index_mut-place.result.now in
+    set_ids old.ids.items old.slots.items c.args.slot x _
+    (got old.slots.items c.args.slot x c.requires.held c.index_mut-place.ensures.value) refl old.named
+
+pub invariant_of-held-in-None-clause-most : goal.invariant_of-held-in-None-clause-most
+invariant_of-held-in-None-clause-most g c =
+    let old = c.args.held.now in most_set old.slots.items c.args.slot _ old.most

@@ -4,7 +4,7 @@ use Rattle.client_core.specs.Clients.{AskedRead}
 use Rattle.client_core.specs.Showing.{KeepsReads}
 use Rattle.client_core.specs.Slots.{put_read}
 use Rattle.client_core.specs.Works.{asks}
-use Rattle.client_core.proofs.HeldLaws.{are_set, got, held_changes, most_set, put_keeps, slot_reads}
+use Rattle.client_core.proofs.HeldLaws.{are_set, got, held_changes, most_set, put_keeps, set_ids, slot_reads}
 use Rattle.client_core.proofs.held.Held.ask.Goals as goal
 
 pub returns-clause-shown : goal.returns-clause-shown
@@ -28,4 +28,6 @@ invariant_of-self c =
           are_set held.cluster held.slots.items c.args.slot x _
           (got held.slots.items c.args.slot x c.requires.held c.index_mut-slot.ensures.value) (λ of. of) held.clusters;
       most = most_set held.slots.items c.args.slot _ held.most;
+      named = set_ids held.ids.items held.slots.items c.args.slot x _
+          (got held.slots.items c.args.slot x c.requires.held c.index_mut-slot.ensures.value) refl held.named;
     }

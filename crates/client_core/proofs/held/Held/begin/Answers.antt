@@ -1,7 +1,8 @@
-use Rattle.std.proofs.Common.{◌∙◌, List, [], ◌∷◌, ◌++◌, refl, sym, ap, subst}
+use Rattle.std.proofs.Common.{◌∙◌, ℕ, Option, List, [], ◌∷◌, ◌++◌, map, refl, sym, ap, subst}
 use Rattle.client_core.specs.declared.held.Slot.{Slot}
 use Rattle.client_core.specs.Clusters.{AreOf}
-use Rattle.client_core.proofs.HeldLaws.{are_pushed, begun_shows, most_pushed, none_of}
+use Rattle.client_core.specs.Finding.{id_formed, id_in}
+use Rattle.client_core.proofs.HeldLaws.{are_pushed, begun_shows, most_pushed, none_of, pushed_ids}
 use Rattle.client_core.proofs.ShowingLaws.{slots_count}
 use Rattle.client_core.proofs.held.Held.begin.Goals as goal
 
@@ -23,4 +24,9 @@ invariant_of-self c =
           (are_pushed held.cluster held.slots.items c.begun.result held.clusters
           (none_of held.cluster c.begun.result.formed c.begun.ensures.formed));
       most = most_pushed held.slots.items _ c.begun.result c.in_ok-slot.ensures.room.1 c.push_reserved.ensures.items;
+      named =
+          c.push_reserved-2.ensures.items
+          ∙ ap (λ (o : Option (List ℕ)). held.ids.items ++ o ∷ []) (sym (ap id_formed c.begun.ensures.formed))
+          ∙ pushed_ids held.ids.items held.slots.items c.begun.result held.named
+          ∙ ap (map id_in) (sym c.push_reserved.ensures.items);
     }

@@ -2,7 +2,7 @@ use Rattle.std.proofs.Common.{◌≡◌, false, refl, sym, subst}
 use Rattle.std.specs.Option.{ForSome}
 use Rattle.client_core.specs.declared.held.Formed.{Formed}
 use Rattle.client_core.specs.declared.held.Slot.{Slot}
-use Rattle.client_core.proofs.HeldLaws.{are_set, got, held_same, most_set, set_got}
+use Rattle.client_core.proofs.HeldLaws.{are_set, got, held_same, most_set, set_got, set_ids}
 use Rattle.client_core.proofs.held.Held.let_go.Goals as goal
 
 pub returns-clause-shown : goal.returns-clause-shown
@@ -27,4 +27,6 @@ invariant_of-self c =
           (got held.slots.items c.args.slot x c.requires c.index_mut-slot.ensures.value)
           (c.let_go.ensures.cluster held.cluster) held.clusters;
       most = most_set held.slots.items c.args.slot _ held.most;
+      named = set_ids held.ids.items held.slots.items c.args.slot x _
+          (got held.slots.items c.args.slot x c.requires c.index_mut-slot.ensures.value) c.let_go.ensures.id held.named;
     }

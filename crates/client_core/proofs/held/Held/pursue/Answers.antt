@@ -1,7 +1,8 @@
-use Rattle.std.proofs.Common.{refl, false}
+use Rattle.std.proofs.Common.{◌∙◌, ℕ, List, Some, refl, ap, false}
+use Rattle.std.specs.Prelude.{slice_set}
 use Rattle.client_core.specs.Calls.{pursued}
 use Rattle.client_core.specs.Works.{pursues}
-use Rattle.client_core.proofs.HeldLaws.{are_set, got, held_changes, most_set, slot_pursues, some_of}
+use Rattle.client_core.proofs.HeldLaws.{are_set, got, held_changes, most_set, placed_ids, slot_pursues, some_of}
 use Rattle.client_core.proofs.held.Held.pursue.Goals as goal
 
 pub returns-clause-shown : goal.returns-clause-shown
@@ -24,4 +25,7 @@ invariant_of-self c =
           (got held.slots.items c.args.slot x c.requires.held c.index_mut-slot.ensures.value)
           (λ of. some_of held.cluster _ c.new-pursuit.ensures.cluster) held.clusters;
       most = most_set held.slots.items c.args.slot _ held.most;
+      named =
+          ap (λ (l : List ℕ). slice_set held.ids.items c.args.slot (Some l)) c.id.ensures
+          ∙ placed_ids held.ids.items held.slots.items c.args.slot _ held.named;
     }

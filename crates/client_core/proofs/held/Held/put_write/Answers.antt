@@ -2,7 +2,7 @@ use Rattle.std.proofs.Common.{◌∙◌, refl, sym, ap}
 use Rattle.client_core.specs.Clients.{SlotValue}
 use Rattle.client_core.specs.Slots.{put_write}
 use Rattle.client_core.specs.Works.{writes}
-use Rattle.client_core.proofs.HeldLaws.{are_set, got, held_changes, held_same, most_set, slot_writes}
+use Rattle.client_core.proofs.HeldLaws.{are_set, got, held_changes, held_same, most_set, set_ids, slot_writes}
 use Rattle.client_core.proofs.held.Held.put_write.Goals as goal
 
 pub returns-in-Ok-clause-kept : goal.returns-in-Ok-clause-kept
@@ -33,4 +33,6 @@ invariant_of-self c =
           are_set held.cluster held.slots.items c.args.slot x _
           (got held.slots.items c.args.slot x c.requires c.index_mut-slot.ensures.value) (λ of. of) held.clusters;
       most = most_set held.slots.items c.args.slot _ held.most;
+      named = set_ids held.ids.items held.slots.items c.args.slot x _
+          (got held.slots.items c.args.slot x c.requires c.index_mut-slot.ensures.value) refl held.named;
     }

@@ -1,10 +1,11 @@
-use Rattle.std.proofs.Common.{refl, sym, subst}
+use Rattle.std.proofs.Common.{refl, sym, subst, ap}
 use Rattle.std.specs.Prelude.{Option}
 use Rattle.client_core.specs.declared.held.Formed.{Formed}
 use Rattle.client_core.specs.Clusters.{IsOf}
+use Rattle.client_core.specs.Finding.{id_formed}
 use Rattle.client_core.specs.Clients.{SlotValue}
 use Rattle.client_core.specs.Slots.{put_read}
-use Rattle.client_core.proofs.HeldLaws.{are_set, got, held_changes, most_set}
+use Rattle.client_core.proofs.HeldLaws.{are_set, got, held_changes, most_set, set_ids}
 use Rattle.client_core.proofs.held.Held.reply.Goals as goal
 
 pub reply-requires : goal.reply-requires
@@ -32,4 +33,7 @@ invariant_of-self c =
           (got held.slots.items c.args.slot x c.requires.held c.index_mut-slot.ensures.value)
           (λ of. subst (λ (o : Option Formed). IsOf held.cluster o) (sym c.reply.ensures.formed) of) held.clusters;
       most = most_set held.slots.items c.args.slot _ held.most;
+      named = set_ids held.ids.items held.slots.items c.args.slot x _
+          (got held.slots.items c.args.slot x c.requires.held c.index_mut-slot.ensures.value) (ap id_formed c.reply.ensures.formed)
+          held.named;
     }

@@ -2,7 +2,7 @@ use Rattle.std.proofs.Common.{rules, ◌<◌, List, refl, sym, subst, vec_len, v
 use Rattle.client_core.specs.declared.asking.Asking.{Asking}
 use Rattle.client_core.specs.Showing.{KeepsReads}
 use Rattle.client_core.specs.Works.{HasReadRoom}
-use Rattle.client_core.proofs.HeldLaws.{are_set, got, held_same, most_set, set_got, slot_reads}
+use Rattle.client_core.proofs.HeldLaws.{are_set, got, held_same, most_set, set_got, set_ids, slot_reads}
 use Rattle.client_core.proofs.held.Held.room_for_read.Goals as goal
 
 pub returns-in_err-reserve-clause-shown : goal.returns-in_err-reserve-clause-shown
@@ -37,4 +37,6 @@ invariant_of-self c =
           are_set held.cluster held.slots.items c.args.slot x _
           (got held.slots.items c.args.slot x c.requires c.index_mut-slot.ensures.value) (λ of. of) held.clusters;
       most = most_set held.slots.items c.args.slot _ held.most;
+      named = set_ids held.ids.items held.slots.items c.args.slot x _
+          (got held.slots.items c.args.slot x c.requires c.index_mut-slot.ensures.value) refl held.named;
     }

@@ -1,9 +1,10 @@
-use Rattle.std.proofs.Common.{refl, sym, subst}
+use Rattle.std.proofs.Common.{refl, sym, subst, ap}
 use Rattle.std.specs.Prelude.{Option}
 use Rattle.client_core.specs.declared.held.Formed.{Formed}
 use Rattle.client_core.specs.Clusters.{IsOf}
+use Rattle.client_core.specs.Finding.{id_formed}
 use Rattle.client_core.specs.Replying.{HasReplyRoomAt}
-use Rattle.client_core.proofs.HeldLaws.{are_set, got, held_same, most_set, set_got}
+use Rattle.client_core.proofs.HeldLaws.{are_set, got, held_same, most_set, set_got, set_ids}
 use Rattle.client_core.proofs.held.Held.room_for_reply.Goals as goal
 
 pub room_for_reply-requires : goal.room_for_reply-requires
@@ -39,4 +40,7 @@ invariant_of-self c =
           (got held.slots.items c.args.slot x c.requires.held c.index_mut-slot.ensures.value)
           (λ of. subst (λ (o : Option Formed). IsOf held.cluster o) (sym c.room_for_reply.ensures.formed) of) held.clusters;
       most = most_set held.slots.items c.args.slot _ held.most;
+      named = set_ids held.ids.items held.slots.items c.args.slot x _
+          (got held.slots.items c.args.slot x c.requires.held c.index_mut-slot.ensures.value)
+          (ap id_formed c.room_for_reply.ensures.formed) held.named;
     }

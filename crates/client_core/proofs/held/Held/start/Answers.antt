@@ -1,6 +1,6 @@
 use Rattle.std.proofs.Common.{refl}
 use Rattle.client_core.specs.Works.{starts}
-use Rattle.client_core.proofs.HeldLaws.{are_set, got, held_changes, most_set, slot_starts, started_of}
+use Rattle.client_core.proofs.HeldLaws.{are_set, got, held_changes, most_set, set_ids, slot_starts, started_keeps, started_of}
 use Rattle.client_core.proofs.held.Held.start.Goals as goal
 
 pub returns-clause-shown : goal.returns-clause-shown
@@ -22,4 +22,6 @@ invariant_of-self c =
           (got held.slots.items c.args.slot x c.requires c.index_mut-slot.ensures.value)
           (started_of held.cluster x _ c.start.ensures) held.clusters;
       most = most_set held.slots.items c.args.slot _ held.most;
+      named = set_ids held.ids.items held.slots.items c.args.slot x _
+          (got held.slots.items c.args.slot x c.requires c.index_mut-slot.ensures.value) (started_keeps x _ c.start.ensures) held.named;
     }

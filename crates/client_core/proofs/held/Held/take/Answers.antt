@@ -1,7 +1,7 @@
 use Rattle.std.proofs.Common.{refl}
 use Rattle.client_core.specs.Clients.{SlotValue}
 use Rattle.client_core.specs.Slots.{with_pursuit}
-use Rattle.client_core.proofs.HeldLaws.{are_set, got, held_changes, most_set}
+use Rattle.client_core.proofs.HeldLaws.{are_set, got, held_changes, most_set, set_ids}
 use Rattle.client_core.proofs.held.Held.take.Goals as goal
 
 pub returns-clause-shown : goal.returns-clause-shown
@@ -24,4 +24,6 @@ invariant_of-self c =
           (got held.slots.items c.args.slot x c.requires c.index_mut-slot.ensures.value)
           (c.take.ensures.cluster held.cluster) held.clusters;
       most = most_set held.slots.items c.args.slot _ held.most;
+      named = set_ids held.ids.items held.slots.items c.args.slot x _
+          (got held.slots.items c.args.slot x c.requires c.index_mut-slot.ensures.value) c.take.ensures.id held.named;
     }

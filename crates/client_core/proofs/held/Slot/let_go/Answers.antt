@@ -1,4 +1,6 @@
 use Rattle.std.proofs.Common.{◌≡◌, Option, Some, refl, sym, ap, subst, ◌∙◌}
+use Rattle.basil_types.specs.Transaction.{id}
+use Rattle.client_core.specs.Finding.{id_formed}
 use Rattle.std.proofs.lemmas.Option.{same_Some}
 use Rattle.client_recover.specs.Taken.{PursuitValue}
 use Rattle.client_core.specs.declared.held.Formed.{Formed}
@@ -26,3 +28,6 @@ returns-in-Some-clause-none c = λ f e. sym (ap (λ (g : Formed). g.held_back) (
 pub returns-in-Some-clause-cluster : goal.returns-in-Some-clause-cluster
 returns-in-Some-clause-cluster c = λ k of f e.
     sym (ap (λ (g : Formed). g.pursuit.cluster) (same_Some _ _ e)) ∙ c.let_go.ensures.cluster ∙ of c.in-Some.formed c.in-Some.is
+
+pub returns-in-Some-clause-id : goal.returns-in-Some-clause-id
+returns-in-Some-clause-id c = ap (λ t. Some (id t)) c.let_go.ensures.transaction ∙ sym (ap id_formed c.in-Some.is)
