@@ -1,7 +1,8 @@
-//! The program: it hands its arguments, standard input, standard output and the sockets of this machine to the top
-//! call.
+//! The program: it hands its arguments, standard input, standard output, and the sockets and the clock of this machine
+//! to the top call.
 #![tactic(auto)]
 
+mod clock;
 mod input;
 mod output;
 mod sockets;
@@ -9,15 +10,15 @@ mod sockets;
 mod tests;
 
 use basil_cli::run::run;
-use basil_types::clock::MemClock;
+use clock::SystemClock;
 use input::Input;
 use output::Output;
 use sockets::SocketLinks;
 use std::process::ExitCode;
 use std::{env, io};
 
-/// The arguments behind the program's own name. None of them is handed on where one isn't UTF-8. None at all where memory
-/// is wanting.
+/// The arguments behind the program's own name. None of them is handed on where one isn't UTF-8. None at all where
+/// memory is wanting.
 fn arguments_of(rt: &HostRuntime) -> Option<Vec<String>> {
     let mut arguments = Vec::new(rt.alloc());
     match env::args(rt) {
@@ -45,7 +46,7 @@ fn main(rt: HostRuntime) -> ExitCode {
     let mut source = Input::new(rt.stdin());
     let mut sink = Output::new(io::writer(&rt));
     let mut links = SocketLinks::new(&rt, alloc);
-    let mut clock = MemClock::new(Vec::new(alloc));
+    let mut clock = SystemClock::new(&rt);
     let status = run(
         alloc,
         &arguments,

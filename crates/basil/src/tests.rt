@@ -1,6 +1,8 @@
-//! Tests of the adapters, over the sockets of this machine.
+//! Tests of the adapters, over the sockets and the clock of this machine.
 
+use crate::clock::SystemClock;
 use crate::sockets::SocketLinks;
+use basil_types::clock::Clock;
 use basil_types::links::{LinkFail, Links};
 use std::test::Fail;
 
@@ -27,5 +29,14 @@ fn calls_without_a_peer_fail(rt: HostRuntime) -> Result<(), Fail> {
     assert!(rt; links.accept() == Err(LinkFail::Failed));
     assert!(rt; links.write(b"a") == Err(LinkFail::Failed));
     assert!(rt; links.read(&mut [0u8; 1]) == Err(LinkFail::Failed));
+    Ok(())
+}
+
+/// The clock stands behind the year 2020 and before the year 2200.
+#[test]
+fn the_clock_gives_milliseconds(rt: HostRuntime) -> Result<(), Fail> {
+    let mut clock = SystemClock::new(&rt);
+    let now = clock.now();
+    assert!(rt; now > 1_577_836_800_000 && now < 7_258_118_400_000);
     Ok(())
 }

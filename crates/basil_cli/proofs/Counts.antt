@@ -1,5 +1,5 @@
--- COUNT is a small number.
-use Rattle.std.proofs.Common.{◌≡◌, ℕ, ◌≤◌, Bool, true, false, Fits, w32, Result, Ok, Err, refl, arith}
+-- Arguments that are small numbers.
+use Rattle.std.proofs.Common.{◌≡◌, ℕ, ◌≤◌, Bool, true, false, Fits, w8, w32, Result, Ok, Err, refl, arith}
 use Rattle.std.specs.Prelude.{◌&&◌, nat_le, if◌then◌else◌}
 use Rattle.std.proofs.lemmas.Grind.{common_steps}
 use Rattle.schedule_text.specs.Fields.{in_range, number, number_in}
@@ -10,15 +10,25 @@ use Rattle.schedule_text.specs.declared.complaint.Complaint.TheVariants.{OutOfRa
 le-of : (m n : ℕ) → nat_le m n ≡ true → m ≤ n
 le-of m n e = grind (arith, common_steps)
 
-most : (r : Result ℕ Complaint) (n : ℕ) → in_range 1 2000 r ≡ Ok n → n ≤ 2000
-most (Err c) n e = absurd cc
-most (Ok m) n e = by (nat_le 1 m) (nat_le m 2000) refl e
+most : (least bound : ℕ) (r : Result ℕ Complaint) (n : ℕ) → in_range least bound r ≡ Ok n → n ≤ bound
+most least bound (Err c) n e = absurd cc
+most least bound (Ok m) n e = by (nat_le least m) (nat_le m bound) refl e
   where
-    by : (a b : Bool) → nat_le m 2000 ≡ b → (if a && b then Ok m else Err OutOfRange) ≡ Ok n → n ≤ 2000
-    by true true f e = let same : m ≤ 2000 = le-of m 2000 f in let is : m ≡ n = cc in omega (arith, same, is)
+    by : (a b : Bool) → nat_le m bound ≡ b → (if a && b then Ok m else Err OutOfRange) ≡ Ok n → n ≤ bound
+    by true true f e = let same : m ≤ bound = le-of m bound f in let is : m ≡ n = cc in omega (arith, same, is)
     by true false f e = absurd cc
     by false b f e = absurd cc
 
-pub count_fits : (argument : Token) (n : ℕ) → number_in 1 2000 argument ≡ Ok n → Fits w32 n
+-- a number in a range is at most its end
+pub in_bound : (least bound : ℕ) (argument : Token) (n : ℕ) → number_in least bound argument ≡ Ok n → n ≤ bound
 unfolding number_in
-count_fits argument n e = let small : n ≤ 2000 = most (number argument) n e in omega (arith, small)
+in_bound least bound argument n e = most least bound (number argument) n e
+
+pub count_fits : (argument : Token) (n : ℕ) → number_in 1 2000 argument ≡ Ok n → Fits w32 n
+count_fits argument n e = let small : n ≤ 2000 = in_bound 1 2000 argument n e in omega (arith, small)
+
+pub byte_fits : (argument : Token) (n : ℕ) → number_in 0 255 argument ≡ Ok n → Fits w8 n
+byte_fits argument n e = let small : n ≤ 255 = in_bound 0 255 argument n e in omega (arith, small)
+
+pub leaf_fits : (argument : Token) (n : ℕ) → number_in 0 1024 argument ≡ Ok n → Fits w32 n
+leaf_fits argument n e = let small : n ≤ 1024 = in_bound 0 1024 argument n e in omega (arith, small)

@@ -6,3 +6,4 @@ pub mod NeedLaws
 pub mod Ends
 pub mod Counts
 pub mod Arguments
+pub mod NodeLaws

@@ -9,3 +9,4 @@ pub mod Reading
 pub mod Parts
 pub mod Behind
 pub mod Linked
+pub mod Nodes

@@ -75,7 +75,7 @@ fn read_hex(alloc: Global, argument: &str) -> Result<Option<Bytes>, NoMemory>
 }
 
 /// Thirty-two bytes in hex.
-fn read_seed(alloc: Global, argument: &str) -> Result<Option<[u8; 32]>, NoMemory>
+pub(crate) fn read_seed(alloc: Global, argument: &str) -> Result<Option<[u8; 32]>, NoMemory>
     ensures { IfOk result (λ seed. seed ≡ hex_of 32 argument.now) }
 {
     let Some(bytes) = read_hex(alloc, argument)? else {

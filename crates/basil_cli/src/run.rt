@@ -1,22 +1,26 @@
 //! The top call: all that the program does.
 
 ghost use Rattle.std.specs.Prelude.{◌≡◌, ◌⊎◌, ◌<◌, ℕ, List, Bool, true, false};
-ghost use Rattle.std.specs.Prelude.{Some, None, [], IfSome, IfOk, map, string_bytes};
+ghost use Rattle.std.specs.Prelude.{Some, None, Ok, [], IfSome, IfOk, IfErr, map, string_bytes};
 ghost use Rattle.std.specs.Result.{IsErrOf};
-ghost use Rattle.basil_types.specs.Causes.{Rose, TookPrefix};
+ghost use Rattle.basil_types.specs.Causes.{Rose};
+ghost use Rattle.node_link.specs.Connections.{Node};
+ghost use Rattle.party_seat.specs.Serving.{Begins, HasStopped, serves_at};
+ghost use Rattle.party_seat.specs.Stations.{Station};
 ghost use Rattle.schedule_replay.specs.Outcomes as schedules;
 ghost use Rattle.schedule_replay.specs.Roads.{Direct, Uses};
-ghost use Rattle.basil_cli.specs.Answers.{Answers, Counts, IsBrokenEnd, IsTold};
+ghost use Rattle.basil_cli.specs.Answers.{Answers, IsBrokenEnd, IsTold};
 ghost use Rattle.basil_cli.specs.Answers.{LoadedSafely, TookFault, WroteSafely, WroteSome};
-ghost use Rattle.basil_cli.specs.Answers.{counted, is_outcomes, status_of};
-ghost use Rattle.basil_cli.specs.Commands as commands;
+ghost use Rattle.basil_cli.specs.Answers.{counted, is_outcomes};
 ghost use Rattle.basil_cli.specs.Commands.{command_of, is_carried, runs, arguments_carried};
 ghost use Rattle.basil_cli.specs.Commands.{arguments_read, reads, HasLeaf};
 ghost use Rattle.basil_cli.specs.Linked.{ByRoads, ByArguments};
-ghost use Rattle.basil_cli.specs.Outcome.{text_of, Usage, BadLine, Refused};
+ghost use Rattle.basil_cli.specs.Nodes.{HasWritten, IsNodeTold, WroteAt, WroteServed, node_of, station_of};
+ghost use Rattle.basil_cli.specs.Outcome.{is_too_long};
 ghost use Rattle.basil_cli.specs.Output.{load_text, outcome_of, output_of};
 ghost use Rattle.basil_cli.specs.Parts.{is_link_fail, outcome_is};
 ghost use Rattle.basil_cli.specs.declared.command.LoadSize.{LoadSize};
+ghost use Rattle.basil_cli.specs.declared.node.NodeCall.{NodeCall};
 ghost use Rattle.basil_cli.specs.Reading.{IsReadFor, IsReadThrough, StopsSoon, StopsSoonFor, is_enough};
 
 use crate::audit::audit;
@@ -24,10 +28,11 @@ use crate::check::check;
 use crate::command::{Command, read_command};
 use crate::ending::Ending;
 use crate::input::{InputFail, Whole, read_whole};
+use crate::node::{read_node, run_node};
 use crate::replay::{generate, load, replay};
 use crate::signatures::{keys, sign, verify};
 use crate::status::Status;
-use crate::texts::{status_of_ending, text_of_ending};
+use crate::writing::{write_ending, write_usage};
 use basil_types::clock::Clock;
 use basil_types::links::Links;
 use basil_types::memory::NoMemory;
@@ -35,40 +40,6 @@ use basil_types::sink::Sink;
 use basil_types::source::Source;
 use schedule_replay::laws::{breaks_are_real, reports_are_safe};
 use std::alloc::Global;
-
-/// Writes the text of an ending, and tells its status.
-fn write_ending<K: Sink>(alloc: Global, ending: &Ending, sink: &mut K) -> Status
-    ensures answers { (counts : Counts) →
-        Answers result (outcome_is ending.now) counts (K.taken sink.old) (K.taken sink.new) }
-    ensures complete { (Rose (K.faults sink.old) (K.faults sink.new) → ⊥) → IsTold result (outcome_is ending.now) }
-    ensures arguments { result ≡ Status.BadWords → ⊥ }
-    ensures cause { result ≡ Status.WriteFault → Rose (K.faults sink.old) (K.faults sink.new) }
-    ensures told { K.faults sink.old < K.faults sink.new → result ≡ Status.WriteFault }
-    ensures no_read { result ≡ Status.ReadFault → ⊥ }
-    ensures no_link { result ≡ Status.LinkFault → ⊥ }
-{
-    let Ok(text) = text_of_ending(alloc, ending) else {
-        return Status::NoMemory;
-    };
-    match sink.write(&text) {
-        Ok(()) => status_of_ending(ending),
-        Err(_) => Status::WriteFault,
-    }
-}
-
-/// Writes that the arguments are no command.
-fn write_usage<K: Sink>(sink: &mut K) -> Status
-    ensures answers { (counts : Counts) → Answers result Usage counts (K.taken sink.old) (K.taken sink.new) }
-    ensures complete { (Rose (K.faults sink.old) (K.faults sink.new) → ⊥) → result ≡ Status.BadWords }
-    ensures cause { result ≡ Status.WriteFault → Rose (K.faults sink.old) (K.faults sink.new) }
-    ensures told { K.faults sink.old < K.faults sink.new → result ≡ Status.WriteFault }
-    ensures either { (result ≡ Status.BadWords) ⊎ (result ≡ Status.WriteFault) }
-{
-    match sink.write(b"usage\n") {
-        Ok(()) => Status::BadWords,
-        Err(_) => Status::WriteFault,
-    }
-}
 
 /// What a command leads to that runs no schedule.
 fn ending_alone<S: Source>(
@@ -206,6 +177,78 @@ fn run_command<S: Source, K: Sink, L: Links>(
     }
 }
 
+/// The same for arguments that call no node.
+fn run_alone<S: Source, K: Sink, L: Links>(
+    alloc: Global,
+    arguments: &[String],
+    source: &mut S,
+    sink: &mut K,
+    links: &mut L,
+) -> Status
+    ensures answers { let command = command_of (map string_bytes arguments.now) in let counts =
+        counted (S.faults source.old) (S.faults source.new) (L.faults links.old) (L.faults links.new) in
+        IfSome (S.left source.old) (λ bytes. ByArguments command (L.told links.old) (L.told links.new) (λ coming.
+        Answers result (outcome_of (map string_bytes arguments.now) coming bytes) counts
+        (K.taken sink.old) (K.taken sink.new))) }
+    ensures safe { (carried : Bool) → command_of (map string_bytes arguments.now) ≡ Some (Command.Replay carried) →
+        result ≡ Status.Done → IfSome (S.left source.old) (λ bytes.
+        ByRoads carried (L.told links.old) (L.told links.new) (λ road.
+        WroteSafely road bytes (K.taken sink.old) (K.taken sink.new))) }
+    ensures safe_in_part { let counts =
+        counted (S.faults source.old) (S.faults source.new) (L.faults links.old) (L.faults links.new) in
+        (carried : Bool) → command_of (map string_bytes arguments.now) ≡ Some (Command.Replay carried) →
+        result ≡ Status.WriteFault → IfSome (S.left source.old) (λ bytes.
+        ByRoads carried (L.told links.old) (L.told links.new) (λ road.
+        WroteSome (schedules.outcome_on road bytes) road bytes (K.taken sink.old) (K.taken sink.new)
+        ⊎ TookFault counts (K.taken sink.old) (K.taken sink.new))) }
+    ensures broken { (carried : Bool) → command_of (map string_bytes arguments.now) ≡ Some (Command.Replay carried) →
+        result ≡ Status.Broken → IfSome (S.left source.old) (λ bytes.
+        ByRoads carried (L.told links.old) (L.told links.new) (λ road.
+        IsBrokenEnd road bytes (K.taken sink.old) (K.taken sink.new))) }
+    ensures load_safe { (size : LoadSize) → command_of (map string_bytes arguments.now) ≡ Some (Command.Load size) →
+        result ≡ Status.Done → LoadedSafely size (K.taken sink.old) (K.taken sink.new) }
+    ensures load_broken { (size : LoadSize) → command_of (map string_bytes arguments.now) ≡ Some (Command.Load size) →
+        result ≡ Status.Broken → IsBrokenEnd Direct (load_text size) (K.taken sink.old) (K.taken sink.new) }
+    ensures complete { let command = command_of (map string_bytes arguments.now) in
+        (Rose (S.faults source.old) (S.faults source.new) → ⊥) →
+        (Rose (K.faults sink.old) (K.faults sink.new) → ⊥) → (Rose (L.faults links.old) (L.faults links.new) → ⊥) →
+        IfSome (S.left source.old) (λ bytes. ByArguments command (L.told links.old) (L.told links.new) (λ coming.
+        IsTold result (outcome_of (map string_bytes arguments.now) coming bytes))) }
+    ensures alone { let counts =
+        counted (S.faults source.old) (S.faults source.new) (L.faults links.old) (L.faults links.new) in
+        arguments_read (command_of (map string_bytes arguments.now)) ≡ false →
+        Answers result (outcome_of (map string_bytes arguments.now) [] []) counts
+        (K.taken sink.old) (K.taken sink.new) }
+    ensures unread { arguments_read (command_of (map string_bytes arguments.now)) ≡ false → source.new ≡ source.old }
+    ensures through { let command = command_of (map string_bytes arguments.now) in
+        arguments_read command ≡ true → is_outcomes result ≡ true → IfSome (S.left source.old) (λ bytes.
+        ByArguments command (L.told links.old) (L.told links.new) (λ coming.
+        IsReadFor command coming bytes (S.left source.new))) }
+    ensures soon { let command = command_of (map string_bytes arguments.now) in
+        IfSome (S.left source.old) (λ bytes. ByArguments command (L.told links.old) (L.told links.new) (λ coming.
+        StopsSoonFor command coming bytes (S.left source.new))) }
+    ensures arguments { result ≡ Status.BadWords → command_of (map string_bytes arguments.now) ≡ None }
+    ensures other_arguments { command_of (map string_bytes arguments.now) ≡ None →
+        (result ≡ Status.BadWords) ⊎ ((result ≡ Status.WriteFault) ⊎ (result ≡ Status.NoMemory)) }
+    ensures read { result ≡ Status.ReadFault → Rose (S.faults source.old) (S.faults source.new) }
+    ensures write { result ≡ Status.WriteFault → Rose (K.faults sink.old) (K.faults sink.new) }
+    ensures link { result ≡ Status.LinkFault → Rose (L.faults links.old) (L.faults links.new) }
+    ensures read_told { S.faults source.old < S.faults source.new →
+        (result ≡ Status.ReadFault) ⊎ (result ≡ Status.WriteFault) }
+    ensures link_told { L.faults links.old < L.faults links.new →
+        (result ≡ Status.LinkFault) ⊎ (result ≡ Status.WriteFault) }
+    ensures write_told { K.faults sink.old < K.faults sink.new → result ≡ Status.WriteFault }
+    ensures links { arguments_carried (command_of (map string_bytes arguments.now)) ≡ false → links.new ≡ links.old }
+{
+    reports_are_safe();
+    breaks_are_real();
+    match read_command(alloc, arguments) {
+        Ok(Some(command)) => run_command(alloc, &command, source, sink, links),
+        Ok(None) => write_usage(sink),
+        Err(NoMemory) => Status::NoMemory,
+    }
+}
+
 /// All that the program does, with the arguments behind its own name. Every text goes to the sink.
 ///
 /// - `replay` reads a schedule from the source and writes the report of the run that its lines describe.
@@ -220,6 +263,9 @@ fn run_command<S: Source, K: Sink, L: Links>(
 ///   it, else `refused R`.
 /// - `audit` reads transactions with their reads and writes and writes `serial` where each read is of the version that
 ///   the serial order gives it, else the first that isn't, as `stray NAME KEY FOUND EXPECTED`.
+/// - `node S R SEED LEAF CONNECTIONS` reads a cluster's file, serves so many connections as replica R of shard S, whose
+///   key it makes of its SEED and uses from that leaf on, and writes `served F`, the number of frames that the replica
+///   was handed.
 pub fn run<S: Source, K: Sink, L: Links, C: Clock>(
     alloc: Global,
     arguments: &[String],
@@ -229,10 +275,11 @@ pub fn run<S: Source, K: Sink, L: Links, C: Clock>(
     clock: &mut C,
 ) -> Status
     // Where the source tells its bytes, the status and what was written are those of the arguments, the bytes, and what
-    // the links gave. After a fault of the sink it is some of that text, or, where another count rose, some of the text
-    // of its fault.
+    // the links gave, for every command but `node`. After a fault of the sink it is some of that text, or, where
+    // another count rose, some of the text of its fault.
     ensures answers { let command = command_of (map string_bytes arguments.now) in let counts =
         counted (S.faults source.old) (S.faults source.new) (L.faults links.old) (L.faults links.new) in
+        node_of (map string_bytes arguments.now) ≡ None →
         IfSome (S.left source.old) (λ bytes. ByArguments command (L.told links.old) (L.told links.new) (λ coming.
         Answers result (outcome_of (map string_bytes arguments.now) coming bytes) counts
         (K.taken sink.old) (K.taken sink.new))) }
@@ -269,6 +316,7 @@ pub fn run<S: Source, K: Sink, L: Links, C: Clock>(
     // Where no count rose, the status is that of the arguments, the bytes, and what the links gave, or memory is
     // wanting: a valid schedule gives its whole report, and every other command its output or its refusal.
     ensures complete { let command = command_of (map string_bytes arguments.now) in
+        node_of (map string_bytes arguments.now) ≡ None →
         (Rose (S.faults source.old) (S.faults source.new) → ⊥) →
         (Rose (K.faults sink.old) (K.faults sink.new) → ⊥) → (Rose (L.faults links.old) (L.faults links.new) → ⊥) →
         IfSome (S.left source.old) (λ bytes. ByArguments command (L.told links.old) (L.told links.new) (λ coming.
@@ -276,10 +324,12 @@ pub fn run<S: Source, K: Sink, L: Links, C: Clock>(
     // Arguments that aren't a command with an input decide alone, and nothing is read.
     ensures alone { let counts =
         counted (S.faults source.old) (S.faults source.new) (L.faults links.old) (L.faults links.new) in
+        node_of (map string_bytes arguments.now) ≡ None →
         arguments_read (command_of (map string_bytes arguments.now)) ≡ false →
         Answers result (outcome_of (map string_bytes arguments.now) [] []) counts
         (K.taken sink.old) (K.taken sink.new) }
-    ensures unread { arguments_read (command_of (map string_bytes arguments.now)) ≡ false → source.new ≡ source.old }
+    ensures unread { node_of (map string_bytes arguments.now) ≡ None →
+        arguments_read (command_of (map string_bytes arguments.now)) ≡ false → source.new ≡ source.old }
     // The status of an outcome is answered when the input was read to its end, or as far as it decides.
     ensures through { let command = command_of (map string_bytes arguments.now) in
         arguments_read command ≡ true → is_outcomes result ≡ true → IfSome (S.left source.old) (λ bytes.
@@ -287,11 +337,14 @@ pub fn run<S: Source, K: Sink, L: Links, C: Clock>(
         IsReadFor command coming bytes (S.left source.new))) }
     // Whatever is answered, fewer than a piece of the source's bytes were taken beyond those that decide.
     ensures soon { let command = command_of (map string_bytes arguments.now) in
+        node_of (map string_bytes arguments.now) ≡ None →
         IfSome (S.left source.old) (λ bytes. ByArguments command (L.told links.old) (L.told links.new) (λ coming.
         StopsSoonFor command coming bytes (S.left source.new))) }
     // The arguments alone decide on this answer.
     ensures arguments { result ≡ Status.BadWords → command_of (map string_bytes arguments.now) ≡ None }
-    ensures other_arguments { command_of (map string_bytes arguments.now) ≡ None →
+    ensures no_node { result ≡ Status.BadWords → node_of (map string_bytes arguments.now) ≡ None }
+    ensures other_arguments { node_of (map string_bytes arguments.now) ≡ None →
+        command_of (map string_bytes arguments.now) ≡ None →
         (result ≡ Status.BadWords) ⊎ ((result ≡ Status.WriteFault) ⊎ (result ≡ Status.NoMemory)) }
     // A fault has its cause.
     ensures read { result ≡ Status.ReadFault → Rose (S.faults source.old) (S.faults source.new) }
@@ -300,18 +353,65 @@ pub fn run<S: Source, K: Sink, L: Links, C: Clock>(
     // A fault is told.
     ensures read_told { S.faults source.old < S.faults source.new →
         (result ≡ Status.ReadFault) ⊎ (result ≡ Status.WriteFault) }
-    ensures link_told { L.faults links.old < L.faults links.new →
+    ensures link_told { node_of (map string_bytes arguments.now) ≡ None → L.faults links.old < L.faults links.new →
         (result ≡ Status.LinkFault) ⊎ (result ≡ Status.WriteFault) }
     ensures write_told { K.faults sink.old < K.faults sink.new → result ≡ Status.WriteFault }
-    // No command but `loopback` uses the links, and none the clock.
-    ensures links { arguments_carried (command_of (map string_bytes arguments.now)) ≡ false → links.new ≡ links.old }
-    ensures clock { clock.new ≡ clock.old }
+    // No command but `loopback` and `node` uses the links, and `node` alone the clock.
+    ensures links { node_of (map string_bytes arguments.now) ≡ None →
+        arguments_carried (command_of (map string_bytes arguments.now)) ≡ false → links.new ≡ links.old }
+    ensures clock { node_of (map string_bytes arguments.now) ≡ None → clock.new ≡ clock.old }
+    // A node whose file or seat is refused answers that, as a node does whose file is too long to be read.
+    ensures node_refused { let counts =
+        counted (S.faults source.old) (S.faults source.new) (L.faults links.old) (L.faults links.new) in
+        (call : NodeCall) → node_of (map string_bytes arguments.now) ≡ Some call →
+        IfSome (S.left source.old) (λ bytes. IfErr (station_of call.seat bytes) (λ refusal.
+        Answers result refusal counts (K.taken sink.old) (K.taken sink.new))) }
+    // It neither listens nor looks at the clock.
+    ensures node_idle { (call : NodeCall) → node_of (map string_bytes arguments.now) ≡ Some call →
+        IfSome (S.left source.old) (λ bytes. IfErr (station_of call.seat bytes) (λ _. links.new ≡ links.old)) }
+    ensures node_still { (call : NodeCall) → node_of (map string_bytes arguments.now) ≡ Some call →
+        IfSome (S.left source.old) (λ bytes. IfErr (station_of call.seat bytes) (λ _. clock.new ≡ clock.old)) }
+    // A node that is done has written how many frames its replica was handed.
+    ensures node_written { (call : NodeCall) → node_of (map string_bytes arguments.now) ≡ Some call →
+        result ≡ Status.Done → IfSome (S.left source.old) (λ bytes.
+        IfOk (station_of call.seat bytes) (λ _. HasWritten (K.taken sink.old) (K.taken sink.new))) }
+    // It has served so many connections, one after another: of the envelopes that each held, to the first place where
+    // the rules end it, it handled all, or, where a read or write of it failed, some from the front; each at the
+    // clock's next moment, by the replica's rule of answer. It wrote each answer, and in the end how many there were.
+    ensures node_served { (call : NodeCall) (s : Station) (n : Node) →
+        node_of (map string_bytes arguments.now) ≡ Some call → result ≡ Status.Done →
+        IfSome (S.left source.old) (λ bytes.
+        station_of call.seat bytes ≡ Ok s → Begins s (C.moments clock.old) (L.told links.old) n →
+        WroteServed s call.connections n (C.moments clock.new) (L.told links.new)
+        (K.taken sink.old) (K.taken sink.new)) }
+    // Where the links' count didn't rise it handled all of them.
+    ensures node_whole { (call : NodeCall) (s : Station) (n : Node) →
+        node_of (map string_bytes arguments.now) ≡ Some call →
+        (Rose (L.faults links.old) (L.faults links.new) → ⊥) → result ≡ Status.Done →
+        IfSome (S.left source.old) (λ bytes.
+        station_of call.seat bytes ≡ Ok s → Begins s (C.moments clock.old) (L.told links.old) n →
+        WroteAt (serves_at s call.connections n) (C.moments clock.new) (L.told links.new)
+        (K.taken sink.old) (K.taken sink.new)) }
+    // Whatever is answered, the links and the clock are as after at most so many connections.
+    ensures node_stands { (call : NodeCall) (s : Station) (n : Node) →
+        node_of (map string_bytes arguments.now) ≡ Some call → IfSome (S.left source.old) (λ bytes.
+        station_of call.seat bytes ≡ Ok s → Begins s (C.moments clock.old) (L.told links.old) n →
+        HasStopped s call.connections n (C.moments clock.new) (L.told links.new)) }
+    // Where no count rose a node is done that gets its seat, and another tells its refusal, or memory is wanting.
+    ensures node_complete { (call : NodeCall) → node_of (map string_bytes arguments.now) ≡ Some call →
+        (Rose (S.faults source.old) (S.faults source.new) → ⊥) →
+        (Rose (K.faults sink.old) (K.faults sink.new) → ⊥) → (Rose (L.faults links.old) (L.faults links.new) → ⊥) →
+        IfSome (S.left source.old) (λ bytes. IsNodeTold result (station_of call.seat bytes)) }
+    // Its file is read to the end, or until it is too long, and hardly further.
+    ensures node_through { (call : NodeCall) → node_of (map string_bytes arguments.now) ≡ Some call →
+        is_outcomes result ≡ true → IfSome (S.left source.old) (λ bytes.
+        IsReadThrough is_too_long bytes (S.left source.new)) }
+    ensures node_soon { (call : NodeCall) → node_of (map string_bytes arguments.now) ≡ Some call →
+        IfSome (S.left source.old) (λ bytes. StopsSoon is_too_long bytes (S.left source.new)) }
 {
-    reports_are_safe();
-    breaks_are_real();
-    match read_command(alloc, arguments) {
-        Ok(Some(command)) => run_command(alloc, &command, source, sink, links),
-        Ok(None) => write_usage(sink),
+    match read_node(alloc, arguments) {
+        Ok(Some(call)) => run_node(alloc, &call, source, sink, links, clock),
+        Ok(None) => run_alone(alloc, arguments, source, sink, links),
         Err(NoMemory) => Status::NoMemory,
     }
 }

@@ -1,78 +1,86 @@
-use Rattle.std.proofs.Common.{rules, ◌≡◌, Option, Some, map, string_bytes, subst, sym}
+-- A node's arguments are no other command.
+use Rattle.std.proofs.Common.{rules, ◌≡◌, Some, None, Ok, map, string_bytes, refl, subst}
 use Rattle.std.specs.Prelude.{IfSome}
-use Rattle.basil_cli.specs.Answers.{Answers, IsTold, counted}
+use Rattle.party_seat.specs.Serving.{Begins, HasStopped, serves_at}
 use Rattle.basil_cli.specs.Commands.{command_of}
-use Rattle.basil_cli.specs.Linked.{ByArguments}
-use Rattle.basil_cli.specs.Output.{outcome_with}
-use Rattle.basil_cli.specs.Reading.{IsReadFor, StopsSoonFor}
-use Rattle.basil_cli.specs.declared.command.Command.{Command}
-use Rattle.basil_cli.proofs.Ends.{broken_ends, load_breaks, load_ends, safe_ends, safe_in_part}
+use Rattle.basil_cli.specs.Nodes.{WroteAt, WroteServed, node_of, station_of}
+use Rattle.basil_cli.specs.Outcome.{is_too_long}
+use Rattle.basil_cli.specs.declared.node.NodeCall.{NodeCall}
 use Rattle.basil_cli.proofs.Arguments.{untaken_arguments}
+use Rattle.basil_cli.proofs.NodeLaws.{node_is_none, node_wanting, not_begun, not_read, refused_any, same_call, some_any}
+use Rattle.basil_cli.proofs.Stopping.{untaken}
 use Rattle.basil_cli.proofs.run.run.Goals as goal
-
-pub returns-in-Ok-Some-clause-answers : goal.returns-in-Ok-Some-clause-answers
-returns-in-Ok-Some-clause-answers g c =
-    let said : command_of (map string_bytes c.args.arguments.now) ≡ Some c.in-Ok-Some.command = search rules in
-    let counts = counted (g.S.Source.faults c.args.source.now) (g.S.Source.faults c.run_command.new.source)
-    (g.L.Links.faults c.args.links.now) (g.L.Links.faults c.run_command.new.links) in
-    subst
-    (λ (o : Option Command). IfSome (g.S.Source.left c.args.source.now) (λ bytes. ByArguments o (g.L.Links.told c.args.links.now)
-    (g.L.Links.told c.run_command.new.links) (λ coming. Answers c.run_command.result (outcome_with o coming bytes) counts
-    (g.K.Sink.taken c.args.sink.now) (g.K.Sink.taken c.run_command.new.sink)))) (sym said) c.run_command.ensures.answers
 
 pub returns-in-Ok-Some-clause-safe : goal.returns-in-Ok-Some-clause-safe
 returns-in-Ok-Some-clause-safe g c = λ carried e f.
-    let said : command_of (map string_bytes c.args.arguments.now) ≡ Some c.in-Ok-Some.command = search rules in
-    safe_ends c.run_command.result _ c.in-Ok-Some.command _ _ _ _ _ (g.S.Source.left c.args.source.now) said c.run_command.ensures.answers
-    c.reports_are_safe.ensures carried e f
-
-pub returns-in-Ok-Some-clause-safe_in_part : goal.returns-in-Ok-Some-clause-safe_in_part
-returns-in-Ok-Some-clause-safe_in_part g c = λ carried e f.
-    let said : command_of (map string_bytes c.args.arguments.now) ≡ Some c.in-Ok-Some.command = search rules in
-    safe_in_part c.run_command.result _ c.in-Ok-Some.command _ _ _ _ _ (g.S.Source.left c.args.source.now) said
-    c.run_command.ensures.answers c.reports_are_safe.ensures carried e f
+    let said : node_of (map string_bytes c.args.arguments.now) ≡ Some c.in-Ok-Some.call = search rules in
+    let none : command_of (map string_bytes c.args.arguments.now) ≡ None =
+    node_is_none (map string_bytes c.args.arguments.now) c.in-Ok-Some.call said in
+    absurd cc
 
 pub returns-in-Ok-Some-clause-broken : goal.returns-in-Ok-Some-clause-broken
 returns-in-Ok-Some-clause-broken g c = λ carried e f.
-    let said : command_of (map string_bytes c.args.arguments.now) ≡ Some c.in-Ok-Some.command = search rules in
-    broken_ends c.run_command.result _ c.in-Ok-Some.command _ _ _ _ _ (g.S.Source.left c.args.source.now) said
-    c.run_command.ensures.answers c.breaks_are_real.ensures carried e f
-
-pub returns-in-Ok-Some-clause-load_safe : goal.returns-in-Ok-Some-clause-load_safe
-returns-in-Ok-Some-clause-load_safe g c = λ size e f.
-    let said : command_of (map string_bytes c.args.arguments.now) ≡ Some c.in-Ok-Some.command = search rules in
-    load_ends c.run_command.result _ c.in-Ok-Some.command _ _ _ said c.run_command.ensures.alone c.reports_are_safe.ensures size e f
-
-pub returns-in-Ok-Some-clause-load_broken : goal.returns-in-Ok-Some-clause-load_broken
-returns-in-Ok-Some-clause-load_broken g c = λ size e f.
-    let said : command_of (map string_bytes c.args.arguments.now) ≡ Some c.in-Ok-Some.command = search rules in
-    load_breaks c.run_command.result _ c.in-Ok-Some.command _ _ _ said c.run_command.ensures.alone c.breaks_are_real.ensures size e f
-
-pub returns-in-Ok-Some-clause-complete : goal.returns-in-Ok-Some-clause-complete
-returns-in-Ok-Some-clause-complete g c = λ read write link.
-    let said : command_of (map string_bytes c.args.arguments.now) ≡ Some c.in-Ok-Some.command = search rules in
-    subst
-    (λ (o : Option Command). IfSome (g.S.Source.left c.args.source.now) (λ bytes. ByArguments o (g.L.Links.told c.args.links.now)
-    (g.L.Links.told c.run_command.new.links) (λ coming. IsTold c.run_command.result (outcome_with o coming bytes)))) (sym said)
-    (c.run_command.ensures.complete read write link)
+    let said : node_of (map string_bytes c.args.arguments.now) ≡ Some c.in-Ok-Some.call = search rules in
+    let none : command_of (map string_bytes c.args.arguments.now) ≡ None =
+    node_is_none (map string_bytes c.args.arguments.now) c.in-Ok-Some.call said in
+    absurd cc
 
 pub returns-in-Ok-Some-clause-through : goal.returns-in-Ok-Some-clause-through
-returns-in-Ok-Some-clause-through g c = λ reads ended.
-    let said : command_of (map string_bytes c.args.arguments.now) ≡ Some c.in-Ok-Some.command = search rules in
-    subst
-    (λ (o : Option Command). IfSome (g.S.Source.left c.args.source.now) (λ bytes. ByArguments o (g.L.Links.told c.args.links.now)
-    (g.L.Links.told c.run_command.new.links) (λ coming. IsReadFor o coming bytes (g.S.Source.left c.run_command.new.source)))) (sym said)
-    (c.run_command.ensures.through (search rules) ended)
+returns-in-Ok-Some-clause-through g c = λ e f.
+    let said : node_of (map string_bytes c.args.arguments.now) ≡ Some c.in-Ok-Some.call = search rules in
+    not_read (command_of (map string_bytes c.args.arguments.now))
+    (node_is_none (map string_bytes c.args.arguments.now) c.in-Ok-Some.call said) e _
 
-pub returns-in-Ok-Some-clause-soon : goal.returns-in-Ok-Some-clause-soon
-returns-in-Ok-Some-clause-soon g c =
-    let said : command_of (map string_bytes c.args.arguments.now) ≡ Some c.in-Ok-Some.command = search rules in
+pub returns-in-Ok-Some-clause-node_served : goal.returns-in-Ok-Some-clause-node_served
+returns-in-Ok-Some-clause-node_served g c = λ call s n e done.
+    let said : node_of (map string_bytes c.args.arguments.now) ≡ Some c.in-Ok-Some.call = search rules in
     subst
-    (λ (o : Option Command). IfSome (g.S.Source.left c.args.source.now) (λ bytes. ByArguments o (g.L.Links.told c.args.links.now)
-    (g.L.Links.told c.run_command.new.links) (λ coming. StopsSoonFor o coming bytes (g.S.Source.left c.run_command.new.source))))
-    (sym said) c.run_command.ensures.soon
+    (λ (x : NodeCall). IfSome (g.S.Source.left c.args.source.now) (λ bytes. station_of x.seat bytes ≡ Ok s →
+    Begins s (g.C.Clock.moments c.args.clock.now) (g.L.Links.told c.args.links.now) n →
+    WroteServed s x.connections n (g.C.Clock.moments c.run_node.new.clock) (g.L.Links.told c.run_node.new.links)
+    (g.K.Sink.taken c.args.sink.now) (g.K.Sink.taken c.run_node.new.sink)))
+    (same_call (map string_bytes c.args.arguments.now) c.in-Ok-Some.call call said e) (c.run_node.ensures.served s n done)
+
+pub returns-in-Ok-Some-clause-node_whole : goal.returns-in-Ok-Some-clause-node_whole
+returns-in-Ok-Some-clause-node_whole g c = λ call s n e still done.
+    let said : node_of (map string_bytes c.args.arguments.now) ≡ Some c.in-Ok-Some.call = search rules in
+    subst
+    (λ (x : NodeCall). IfSome (g.S.Source.left c.args.source.now) (λ bytes. station_of x.seat bytes ≡ Ok s →
+    Begins s (g.C.Clock.moments c.args.clock.now) (g.L.Links.told c.args.links.now) n →
+    WroteAt (serves_at s x.connections n) (g.C.Clock.moments c.run_node.new.clock) (g.L.Links.told c.run_node.new.links)
+    (g.K.Sink.taken c.args.sink.now) (g.K.Sink.taken c.run_node.new.sink)))
+    (same_call (map string_bytes c.args.arguments.now) c.in-Ok-Some.call call said e) (c.run_node.ensures.whole s n still done)
+
+pub returns-in-Ok-Some-clause-node_stands : goal.returns-in-Ok-Some-clause-node_stands
+returns-in-Ok-Some-clause-node_stands g c = λ call s n e.
+    let said : node_of (map string_bytes c.args.arguments.now) ≡ Some c.in-Ok-Some.call = search rules in
+    subst
+    (λ (x : NodeCall). IfSome (g.S.Source.left c.args.source.now) (λ bytes. station_of x.seat bytes ≡ Ok s →
+    Begins s (g.C.Clock.moments c.args.clock.now) (g.L.Links.told c.args.links.now) n →
+    HasStopped s x.connections n (g.C.Clock.moments c.run_node.new.clock) (g.L.Links.told c.run_node.new.links)))
+    (same_call (map string_bytes c.args.arguments.now) c.in-Ok-Some.call call said e) (c.run_node.ensures.stands s n)
 
 pub returns-in-Err-clause-soon : goal.returns-in-Err-clause-soon
-returns-in-Err-clause-soon g c =
+returns-in-Err-clause-soon g c = λ none.
     untaken_arguments (command_of (map string_bytes c.args.arguments.now))
     (g.L.Links.told c.args.links.now) (g.S.Source.left c.args.source.now)
+
+pub returns-in-Err-clause-node_refused : goal.returns-in-Err-clause-node_refused
+returns-in-Err-clause-node_refused g c = λ call e. refused_any (g.S.Source.left c.args.source.now) call.seat _ (λ o. refl)
+
+pub returns-in-Err-clause-node_idle : goal.returns-in-Err-clause-node_idle
+returns-in-Err-clause-node_idle g c = λ call e. refused_any (g.S.Source.left c.args.source.now) call.seat _ (λ o. refl)
+
+pub returns-in-Err-clause-node_still : goal.returns-in-Err-clause-node_still
+returns-in-Err-clause-node_still g c = λ call e. refused_any (g.S.Source.left c.args.source.now) call.seat _ (λ o. refl)
+
+pub returns-in-Err-clause-node_stands : goal.returns-in-Err-clause-node_stands
+returns-in-Err-clause-node_stands g c = λ call s n e.
+    some_any (g.S.Source.left c.args.source.now) _ (λ bytes at b. not_begun s _ _ _ n b)
+
+pub returns-in-Err-clause-node_complete : goal.returns-in-Err-clause-node_complete
+returns-in-Err-clause-node_complete g c = λ call e read write link.
+    some_any (g.S.Source.left c.args.source.now) _ (λ bytes. node_wanting (station_of call.seat bytes))
+
+pub returns-in-Err-clause-node_soon : goal.returns-in-Err-clause-node_soon
+returns-in-Err-clause-node_soon g c = λ call e. untaken is_too_long (g.S.Source.left c.args.source.now)

@@ -1,0 +1,234 @@
+-- What holds of a node's arguments, of its station, and of what it writes.
+use Rattle.std.proofs.Common.{◌≡◌, ◌≤◌, ℕ, ◌∷◌, [], List, length, Bool, true, false, Option, Some, None, Result, Ok, Err}
+use Rattle.std.proofs.Common.{refl, sym, ap, subst, ◌∙◌, inl, inr, codes, arith}
+use Rattle.std.specs.Prelude.{IfSome, IfOk, IfErr, if◌then◌else◌, nat_lt}
+use Rattle.std.specs.Str.{bytes_eq}
+use Rattle.std.proofs.lemmas.Grind.{common_steps}
+use Rattle.std.proofs.lemmas.Slice.Eq.{bytes_eq-Decides}
+use Rattle.basil_types.specs.Causes.{TookAll}
+use Rattle.basil_types.specs.Links.{LinkState}
+use Rattle.cluster_file.specs.Listing.{Listing}
+use Rattle.cluster_file.specs.Text.{cluster_in}
+use Rattle.node_link.specs.Connections.{Node, ServesParts}
+use Rattle.party_seat.specs.Serving.{Begins, HasStopped, IsOutside, Refuses, ServesAt, serves_at}
+use Rattle.party_seat.specs.Stations.{Station, station_in}
+use Rattle.party_seat.specs.declared.fault.NodeFault.{NodeFault}
+use Rattle.party_seat.specs.declared.fault.NodeFault.TheVariants.{WrongKey, WrongLeaf, LinkFault, NoMemory}
+use Rattle.party_seat.specs.declared.fault.SeatFault.{SeatFault}
+use Rattle.party_seat.specs.declared.station.NodeSeat.{NodeSeat}
+use Rattle.schedule_text.specs.Tokens.{Token}
+use Rattle.basil_cli.specs.Answers.{Answers, Counts, IsTold}
+use Rattle.basil_cli.specs.Commands.{arguments_read, command_of}
+use Rattle.basil_cli.specs.Nodes.{EndsAt, EndsServed, HasWritten, IsNodeTold, IsServed, TellsServed, WroteAt, WroteServed}
+use Rattle.basil_cli.specs.Nodes.{call_of, node_of, seated_at, seated_in, served_text, station_of}
+use Rattle.basil_cli.specs.Outcome.{Outcome, Written, is_too_long, longest_input, text_of, TooLong}
+use Rattle.basil_cli.specs.Parts.{IsWhole, outcome_is}
+use Rattle.basil_cli.specs.declared.command.Command.{Command}
+use Rattle.basil_cli.specs.declared.ending.Ending.{Ending}
+use Rattle.basil_cli.specs.declared.input.InputFail.{InputFail}
+use Rattle.basil_cli.specs.declared.input.Whole.TheVariants as whole
+use Rattle.basil_cli.specs.declared.node.NodeCall.{NodeCall}
+use Rattle.basil_cli.specs.declared.status.Status.{Status}
+use Rattle.basil_cli.specs.declared.status.Status.TheVariants as ends
+
+-- ---- arguments
+
+-- those of a node are no command of another name
+pub node_is_none : (arguments : List Token) (call : NodeCall) → node_of arguments ≡ Some call → command_of arguments ≡ None
+node_is_none [] call e = absurd cc
+node_is_none (name ∷ arguments) call e = by (bytes_eq name (codes "node")) refl e
+  where
+    by : (b : Bool) → bytes_eq name (codes "node") ≡ b → (if b then call_of arguments else None) ≡ Some call →
+        command_of (name ∷ arguments) ≡ None
+    by false f e = absurd cc
+    by true f e =
+        subst (λ (n : Token). command_of (n ∷ arguments) ≡ None) (sym ((bytes_eq-Decides name (codes "node")).0 f)) refl
+
+-- what is no command has no input
+pub not_read : (command : Option Command) → command ≡ None → arguments_read command ≡ true → (P : Type 0) → P
+not_read None e h P = absurd cc
+not_read (Some command) e h P = absurd cc
+
+-- they call one
+pub same_call : (arguments : List Token) (first second : NodeCall) → node_of arguments ≡ Some first → node_of arguments ≡ Some second →
+    first ≡ second
+same_call arguments first second e f = by (sym e ∙ f)
+  where
+    by : Some first ≡ Some second → first ≡ second
+    by h = cc
+
+-- ---- bytes, where they are told
+
+pub some_any : (left : Option (List ℕ)) (P : List ℕ → Type 0) → ((bytes : List ℕ) → P bytes) → IfSome left P
+some_any None P h = tt
+some_any (Some bytes) P h = h bytes
+
+pub some_map : (left : Option (List ℕ)) (P Q : List ℕ → Type 0) → ((bytes : List ℕ) → P bytes → Q bytes) → IfSome left P →
+    IfSome left Q
+some_map None P Q turn h = tt
+some_map (Some bytes) P Q turn h = turn bytes h
+
+pub some_both : (left : Option (List ℕ)) (P Q R : List ℕ → Type 0) → ((bytes : List ℕ) → P bytes → Q bytes → R bytes) →
+    IfSome left P → IfSome left Q → IfSome left R
+some_both None P Q R turn h k = tt
+some_both (Some bytes) P Q R turn h k = turn bytes h k
+
+pub err_any : (r : Result Station Outcome) (P : Outcome → Type 0) → ((refusal : Outcome) → P refusal) → IfErr r P
+err_any (Ok s) P h = tt
+err_any (Err refusal) P h = h refusal
+
+pub ok_map : (r : Result Station Outcome) (P Q : Type 0) → (P → Q) → IfOk r (λ _. P) → IfOk r (λ _. Q)
+ok_map (Ok s) P Q turn h = turn h
+ok_map (Err refusal) P Q turn h = tt
+
+pub refused_any : (left : Option (List ℕ)) (seat : NodeSeat) (P : Outcome → Type 0) → ((refusal : Outcome) → P refusal) →
+    IfSome left (λ bytes. IfErr (station_of seat bytes) P)
+refused_any left seat P h = some_any left (λ bytes. IfErr (station_of seat bytes) P) (λ bytes. err_any (station_of seat bytes) P h)
+
+-- ---- a node that didn't begin
+
+pub not_begun : (s : Station) (connections : ℕ) (ticks : Option (List ℕ)) (told : Option LinkState) (n : Node) →
+    Begins s ticks told n → HasStopped s connections n ticks told
+unfolding ServesParts
+not_begun s connections ticks told n b =
+    record {
+      start = n;
+      listened = inl refl;
+      done = 0;
+      within = omega arith;
+      new = n;
+      served = refl;
+      is = record { moments = b.outside.moments; links = b.outside.links; frames = refl };
+    }
+
+-- ---- its seat and its file
+
+pub seated_ok : (answer : Result Station SeatFault) (s : Station) → seated_at answer ≡ Ok s → answer ≡ Ok s
+seated_ok (Ok t) s e = cc
+seated_ok (Err fault) s e = absurd cc
+
+module _ (seat : NodeSeat) where
+  pub idle_in : (read : Result Listing ℕ) (l : Listing) → read ≡ Ok l → (P : Type 0) →
+      IfErr (seated_at (station_in l seat)) (λ _. P) → IfErr (seated_in read seat) (λ _. P)
+  idle_in read l found P h = subst (λ (r : Result Listing ℕ). IfErr (seated_in r seat) (λ _. P)) (sym found) h
+
+  pub in_file : (read : Result Listing ℕ) (l : Listing) → read ≡ Ok l → (s : Station) → seated_in read seat ≡ Ok s →
+      seated_at (station_in l seat) ≡ Ok s
+  in_file read l found s e = subst (λ (r : Result Listing ℕ). seated_in r seat ≡ Ok s) found e
+
+  not_longer : (m n : ℕ) → n ≤ m → nat_lt m n ≡ false
+  not_longer m n h = grind (arith, common_steps)
+
+  -- a file that was read whole
+  whole_is : (all bytes : List ℕ) → IsWhole (whole.Bytes all) bytes → station_of seat bytes ≡ seated_in (cluster_in all) seat
+  whole_is all bytes h =
+      let short : is_too_long bytes ≡ false = not_longer longest_input (length bytes) h.1 in
+      let same : all ≡ bytes = h.0 in
+      subst (λ (x : List ℕ). station_of seat bytes ≡ seated_in (cluster_in x) seat) (sym same) (by (is_too_long bytes) short)
+    where
+      by : (b : Bool) → b ≡ false → (if b then Err TooLong else seated_in (cluster_in bytes) seat) ≡ seated_in (cluster_in bytes) seat
+      by false e = refl
+      by true e = absurd cc
+
+  pub idle_whole : (all : List ℕ) (left : Option (List ℕ)) (P : Type 0) → IfSome left (λ bytes. IsWhole (whole.Bytes all) bytes) →
+      IfErr (seated_in (cluster_in all) seat) (λ _. P) → IfSome left (λ bytes. IfErr (station_of seat bytes) (λ _. P))
+  idle_whole all left P read h =
+      some_map left (λ bytes. IsWhole (whole.Bytes all) bytes) (λ bytes. IfErr (station_of seat bytes) (λ _. P))
+      (λ bytes w. subst (λ (r : Result Station Outcome). IfErr r (λ _. P)) (sym (whole_is all bytes w)) h) read
+
+  pub ok_whole : (all : List ℕ) (left : Option (List ℕ)) (P : Type 0) → IfSome left (λ bytes. IsWhole (whole.Bytes all) bytes) →
+      IfOk (seated_in (cluster_in all) seat) (λ _. P) → IfSome left (λ bytes. IfOk (station_of seat bytes) (λ _. P))
+  ok_whole all left P read h =
+      some_map left (λ bytes. IsWhole (whole.Bytes all) bytes) (λ bytes. IfOk (station_of seat bytes) (λ _. P))
+      (λ bytes w. subst (λ (r : Result Station Outcome). IfOk r (λ _. P)) (sym (whole_is all bytes w)) h) read
+
+  pub served_whole : (all : List ℕ) (left : Option (List ℕ)) (s : Station) (B P : Type 0) →
+      IfSome left (λ bytes. IsWhole (whole.Bytes all) bytes) → (seated_in (cluster_in all) seat ≡ Ok s → B → P) →
+      IfSome left (λ bytes. station_of seat bytes ≡ Ok s → B → P)
+  served_whole all left s B P read h =
+      some_map left (λ bytes. IsWhole (whole.Bytes all) bytes) (λ bytes. station_of seat bytes ≡ Ok s → B → P)
+      (λ bytes w e b. h (sym (whole_is all bytes w) ∙ e) b) read
+
+-- ---- what it comes to
+
+module _ (s : Station) (connections : ℕ) (n : Node) (ticks : Option (List ℕ)) (told : Option LinkState)
+    (answer : Result Station SeatFault) (seated : answer ≡ Ok s) where
+  pub ends_served : (served : Result ℕ NodeFault) (result : Result Ending InputFail) → TellsServed served result →
+      IfErr served (λ fault. Refuses fault answer) →
+      IfOk served (λ count. (m : Node) × ServesAt s connections n m × IsOutside ticks told count m) →
+      IfOk result (λ e. EndsServed s connections n ticks told (outcome_is e))
+  ends_served (Ok count) (Ok e) t r h =
+      let o = h.2 in
+      record {
+        new = h.0;
+        served = h.1;
+        is = record { moments = o.moments; links = o.links; frames = refl };
+        written = t ∙ ap (λ (f : ℕ). Written (served_text f)) o.frames;
+      }
+  ends_served (Ok count) (Err f) t r h = tt
+  ends_served (Err WrongKey) result t r h = absurd cc
+  ends_served (Err WrongLeaf) result t r h = absurd cc
+  ends_served (Err LinkFault) (Ok e) t r h = absurd cc
+  ends_served (Err LinkFault) (Err f) t r h = tt
+  ends_served (Err NoMemory) (Ok e) t r h = absurd cc
+  ends_served (Err NoMemory) (Err f) t r h = tt
+
+  pub ends_at : (served : Result ℕ NodeFault) (result : Result Ending InputFail) → TellsServed served result →
+      IfErr served (λ fault. Refuses fault answer) →
+      IfOk served (λ count. IsOutside ticks told count (serves_at s connections n)) →
+      IfOk result (λ e. EndsAt (serves_at s connections n) ticks told (outcome_is e))
+  ends_at (Ok count) (Ok e) t r h =
+      record {
+        is = record { moments = h.moments; links = h.links; frames = refl };
+        written = t ∙ ap (λ (f : ℕ). Written (served_text f)) h.frames;
+      }
+  ends_at (Ok count) (Err f) t r h = tt
+  ends_at (Err WrongKey) result t r h = absurd cc
+  ends_at (Err WrongLeaf) result t r h = absurd cc
+  ends_at (Err LinkFault) (Ok e) t r h = absurd cc
+  ends_at (Err LinkFault) (Err f) t r h = tt
+  ends_at (Err NoMemory) (Ok e) t r h = absurd cc
+  ends_at (Err NoMemory) (Err f) t r h = tt
+
+-- ---- what it writes
+
+module _ (status : Status) (outcome : Outcome) (counts : Counts) (before after : Option (List ℕ)) where
+  -- an outcome that was written to the end
+  pub done_text : status ≡ ends.Done → Answers status outcome counts before after → TookAll before after (text_of outcome)
+  done_text e answers = (subst (λ (x : Status). Answers x outcome counts before after) e answers).text
+
+  pub wrote : status ≡ ends.Done → Answers status outcome counts before after → IsServed outcome → HasWritten before after
+  wrote e answers served =
+      record {
+        frames = served.frames;
+        written = subst (λ (o : Outcome). TookAll before after (text_of o)) served.written (done_text e answers);
+      }
+
+  pub wrote_served : status ≡ ends.Done → Answers status outcome counts before after → (s : Station) (connections : ℕ) (n : Node)
+      (ticks : Option (List ℕ)) (told : Option LinkState) → EndsServed s connections n ticks told outcome →
+      WroteServed s connections n ticks told before after
+  wrote_served e answers s connections n ticks told served =
+      record {
+        new = served.new;
+        served = served.served;
+        is = served.is;
+        written = subst (λ (o : Outcome). TookAll before after (text_of o)) served.written (done_text e answers);
+      }
+
+  pub wrote_at : status ≡ ends.Done → Answers status outcome counts before after → (new : Node)
+      (ticks : Option (List ℕ)) (told : Option LinkState) → EndsAt new ticks told outcome → WroteAt new ticks told before after
+  wrote_at e answers new ticks told at =
+      record {
+        is = at.is;
+        written = subst (λ (o : Outcome). TookAll before after (text_of o)) at.written (done_text e answers);
+      }
+
+  pub node_told : (r : Result Station Outcome) → IfErr r (λ refusal. outcome ≡ refusal) → IfOk r (λ _. IsServed outcome) →
+      IsTold status outcome → IsNodeTold status r
+  node_told (Ok s) refused served told = subst (λ (o : Outcome). IsTold status o) served.written told
+  node_told (Err refusal) refused served told = subst (λ (o : Outcome). IsTold status o) refused told
+
+-- want of memory says nothing
+pub node_wanting : (r : Result Station Outcome) → IsNodeTold ends.NoMemory r
+node_wanting (Ok s) = inr refl
+node_wanting (Err refusal) = inr refl

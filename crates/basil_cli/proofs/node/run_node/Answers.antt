@@ -1,0 +1,68 @@
+-- What was served is written.
+use Rattle.std.proofs.Common.{rules, inl, inr}
+use Rattle.basil_types.specs.Causes.{Rose, TookAll, TookPrefix}
+use Rattle.basil_cli.specs.Answers.{counted}
+use Rattle.basil_cli.specs.Nodes.{station_of}
+use Rattle.basil_cli.specs.Outcome.{link_fault_text, read_fault_text}
+use Rattle.basil_cli.specs.Parts.{outcome_is}
+use Rattle.basil_cli.proofs.NodeLaws.{node_told, ok_map, refused_any, some_both, some_map, wrote, wrote_at, wrote_served}
+use Rattle.basil_cli.proofs.node.run_node.Goals as goal
+
+pub returns-in-Ok-clause-seated : goal.returns-in-Ok-clause-seated
+returns-in-Ok-clause-seated g c = λ done.
+    let counts = counted (g.S.Source.faults c.args.source.now) (g.S.Source.faults c.serve_source.new.source)
+    (g.L.Links.faults c.args.links.now) (g.L.Links.faults c.serve_source.new.links) in
+    some_map (g.S.Source.left c.args.source.now) _ _
+    (λ bytes. ok_map (station_of c.args.call.now.seat bytes) _ _
+    (wrote c.write_ending.result (outcome_is c.in-Ok.ending) counts _ _ done (c.write_ending.ensures.answers counts)))
+    c.in-Ok.ensures.seated
+
+pub returns-in-Ok-clause-served : goal.returns-in-Ok-clause-served
+returns-in-Ok-clause-served g c = λ s n done.
+    let counts = counted (g.S.Source.faults c.args.source.now) (g.S.Source.faults c.serve_source.new.source)
+    (g.L.Links.faults c.args.links.now) (g.L.Links.faults c.serve_source.new.links) in
+    some_map (g.S.Source.left c.args.source.now) _ _
+    (λ bytes so e b. wrote_served c.write_ending.result (outcome_is c.in-Ok.ending) counts _ _ done
+    (c.write_ending.ensures.answers counts) s c.args.call.now.connections n _ _ (so e b))
+    (c.in-Ok.ensures.served s n)
+
+pub returns-in-Ok-clause-whole : goal.returns-in-Ok-clause-whole
+returns-in-Ok-clause-whole g c = λ s n still done.
+    let counts = counted (g.S.Source.faults c.args.source.now) (g.S.Source.faults c.serve_source.new.source)
+    (g.L.Links.faults c.args.links.now) (g.L.Links.faults c.serve_source.new.links) in
+    some_map (g.S.Source.left c.args.source.now) _ _
+    (λ bytes so e b. wrote_at c.write_ending.result (outcome_is c.in-Ok.ending) counts _ _ done
+    (c.write_ending.ensures.answers counts) _ _ _ (so e b))
+    (c.in-Ok.ensures.whole s n still)
+
+pub returns-in-Ok-clause-complete : goal.returns-in-Ok-clause-complete
+returns-in-Ok-clause-complete g c = λ read write link.
+    let counts = counted (g.S.Source.faults c.args.source.now) (g.S.Source.faults c.serve_source.new.source)
+    (g.L.Links.faults c.args.links.now) (g.L.Links.faults c.serve_source.new.links) in
+    some_both (g.S.Source.left c.args.source.now) _ _ _
+    (λ bytes refused seated. node_told c.write_ending.result (outcome_is c.in-Ok.ending) counts (g.K.Sink.taken c.args.sink.now)
+    (g.K.Sink.taken c.write_ending.new.sink) (station_of c.args.call.now.seat bytes) refused seated
+    (c.write_ending.ensures.complete write))
+    c.in-Ok.ensures.refused c.in-Ok.ensures.seated
+
+pub returns-in-Ok-write-clause-refused : goal.returns-in-Ok-write-clause-refused
+returns-in-Ok-write-clause-refused g c =
+    let all : TookAll (g.K.Sink.taken c.args.sink.now) (g.K.Sink.taken c.write.new.self) read_fault_text = search rules in
+    refused_any (g.S.Source.left c.args.source.now) c.args.call.now.seat _ (λ o. all)
+
+pub returns-in-Err-clause-refused : goal.returns-in-Err-clause-refused
+returns-in-Err-clause-refused g c =
+    let rose : Rose (g.S.Source.faults c.args.source.now) (g.S.Source.faults c.serve_source.new.source) = search rules in
+    let prefix : TookPrefix (g.K.Sink.taken c.args.sink.now) (g.K.Sink.taken c.write.new.self) read_fault_text = search rules in
+    refused_any (g.S.Source.left c.args.source.now) c.args.call.now.seat _ (λ o. inr (inl (record { rose = rose; prefix = prefix })))
+
+pub returns-in-Ok-write-2-clause-refused : goal.returns-in-Ok-write-2-clause-refused
+returns-in-Ok-write-2-clause-refused g c =
+    let all : TookAll (g.K.Sink.taken c.args.sink.now) (g.K.Sink.taken c.write-in-Err-Link.new.self) link_fault_text = search rules in
+    refused_any (g.S.Source.left c.args.source.now) c.args.call.now.seat _ (λ o. all)
+
+pub returns-in-Err-write-clause-refused : goal.returns-in-Err-write-clause-refused
+returns-in-Err-write-clause-refused g c =
+    let rose : Rose (g.L.Links.faults c.args.links.now) (g.L.Links.faults c.serve_source.new.links) = search rules in
+    let prefix : TookPrefix (g.K.Sink.taken c.args.sink.now) (g.K.Sink.taken c.write-in-Err-Link.new.self) link_fault_text = search rules in
+    refused_any (g.S.Source.left c.args.source.now) c.args.call.now.seat _ (λ o. inr (inr (record { rose = rose; prefix = prefix })))

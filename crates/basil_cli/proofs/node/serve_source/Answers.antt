@@ -1,0 +1,46 @@
+use Rattle.std.proofs.Common.{rules}
+use Rattle.std.specs.Prelude.{IfSome}
+use Rattle.basil_cli.specs.Parts.{IsWhole}
+use Rattle.basil_cli.specs.declared.input.Whole.TheVariants as whole
+use Rattle.basil_cli.proofs.NodeLaws.{idle_whole, not_begun, ok_whole, served_whole, some_any}
+use Rattle.basil_cli.proofs.node.serve_source.Goals as goal
+
+pub returns-in_err-bytes-clause-stands : goal.returns-in_err-bytes-clause-stands
+returns-in_err-bytes-clause-stands g c s n =
+    some_any (g.S.Source.left c.args.source.now) _ (λ bytes e b. not_begun s _ _ _ n b)
+
+pub returns-in-Bytes-clause-idle : goal.returns-in-Bytes-clause-idle
+returns-in-Bytes-clause-idle g c =
+    let read : IfSome (g.S.Source.left c.args.source.now) (λ bytes. IsWhole (whole.Bytes c.as_slice.result.now) bytes) = search rules in
+    idle_whole c.args.call.now.seat c.as_slice.result.now (g.S.Source.left c.args.source.now) _ read
+    c.serve_file.ensures.idle
+
+pub returns-in-Bytes-clause-still : goal.returns-in-Bytes-clause-still
+returns-in-Bytes-clause-still g c =
+    let read : IfSome (g.S.Source.left c.args.source.now) (λ bytes. IsWhole (whole.Bytes c.as_slice.result.now) bytes) = search rules in
+    idle_whole c.args.call.now.seat c.as_slice.result.now (g.S.Source.left c.args.source.now) _ read
+    c.serve_file.ensures.still
+
+pub returns-in-Bytes-clause-seated : goal.returns-in-Bytes-clause-seated
+returns-in-Bytes-clause-seated g c =
+    let read : IfSome (g.S.Source.left c.args.source.now) (λ bytes. IsWhole (whole.Bytes c.as_slice.result.now) bytes) = search rules in
+    ok_whole c.args.call.now.seat c.as_slice.result.now (g.S.Source.left c.args.source.now) _ read
+    c.serve_file.ensures.seated
+
+pub returns-in-Bytes-clause-served : goal.returns-in-Bytes-clause-served
+returns-in-Bytes-clause-served g c s n =
+    let read : IfSome (g.S.Source.left c.args.source.now) (λ bytes. IsWhole (whole.Bytes c.as_slice.result.now) bytes) = search rules in
+    served_whole c.args.call.now.seat c.as_slice.result.now (g.S.Source.left c.args.source.now) s _ _ read
+    (c.serve_file.ensures.served s n)
+
+pub returns-in-Bytes-clause-stands : goal.returns-in-Bytes-clause-stands
+returns-in-Bytes-clause-stands g c s n =
+    let read : IfSome (g.S.Source.left c.args.source.now) (λ bytes. IsWhole (whole.Bytes c.as_slice.result.now) bytes) = search rules in
+    served_whole c.args.call.now.seat c.as_slice.result.now (g.S.Source.left c.args.source.now) s _ _ read
+    (c.serve_file.ensures.stands s n)
+
+pub returns-in-Bytes-clause-whole : goal.returns-in-Bytes-clause-whole
+returns-in-Bytes-clause-whole g c s n still =
+    let read : IfSome (g.S.Source.left c.args.source.now) (λ bytes. IsWhole (whole.Bytes c.as_slice.result.now) bytes) = search rules in
+    served_whole c.args.call.now.seat c.as_slice.result.now (g.S.Source.left c.args.source.now) s _ _ read
+    (λ e b. c.serve_file.ensures.whole s n e b still)

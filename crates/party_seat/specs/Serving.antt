@@ -1,0 +1,55 @@
+-- A node by its file.
+use Rattle.std.specs.Prelude.{◌≡◌, ⊤, ℕ, ◌≤◌, List, Bool, true, false, Option, Some, Result, Ok, Err}
+use Rattle.basil_types.specs.Links.{LinkState}
+use Rattle.node_link.specs.Connections.{Node, HasListened, ServesParts, listening, serves_connections}
+use Rattle.party_seat.specs.Stations.{Station}
+use Rattle.party_seat.specs.declared.fault.NodeFault.{NodeFault}
+use Rattle.party_seat.specs.declared.fault.NodeFault.TheVariants.{WrongKey, WrongLeaf, LinkFault, NoMemory}
+use Rattle.party_seat.specs.declared.fault.SeatFault.{SeatFault}
+use Rattle.party_seat.specs.declared.fault.SeatFault.TheVariants as seats
+
+-- a clock, links and a count tell what a node has but for its book
+pub record IsOutside (ticks : Option (List ℕ)) (told : Option LinkState) (count : ℕ) (n : Node) : Type 0 where
+  pub moments : ticks ≡ Some n.moments
+  pub links : told ≡ Some n.links
+  pub frames : count ≡ n.frames
+
+-- so it begins at a station
+pub record Begins (s : Station) (ticks : Option (List ℕ)) (told : Option LinkState) (n : Node) : Type 0 where
+  pub book : n.book ≡ s.seated.book
+  pub outside : IsOutside ticks told 0 n
+
+-- behind so many connections
+abbrev pub serves_at : Station → (connections : ℕ) → Node → Node
+serves_at s connections n =
+    serves_connections connections s.seated.me.home.cluster s.seated.me (listening s.address n)
+
+-- the same, where some of the envelopes of each are handled
+abbrev pub ServesAt : Station → (connections : ℕ) → (old new : Node) → Type 0
+ServesAt s connections old new =
+    ServesParts connections s.seated.me.home.cluster s.seated.me (listening s.address old) new
+
+-- it listened, or that failed; and at most so many connections were served, as far as that went
+pub record HasStopped (s : Station) (connections : ℕ) (old : Node) (ticks : Option (List ℕ)) (told : Option LinkState) :
+    Type 0 where
+  pub start : Node
+  pub listened : HasListened s.address old start
+  pub done : ℕ
+  pub within : done ≤ connections
+  pub new : Node
+  pub served : ServesParts done s.seated.me.home.cluster s.seated.me start new
+  pub is : IsOutside ticks told new.frames new
+
+-- a node that doesn't get its seat has the definition's fault, and one whose links failed has its seat
+abbrev pub Refuses : NodeFault → Result Station SeatFault → Type 0
+Refuses WrongKey answer = answer ≡ Err seats.WrongKey
+Refuses WrongLeaf answer = answer ≡ Err seats.WrongLeaf
+Refuses LinkFault answer = (s : Station) × (answer ≡ Ok s)
+Refuses NoMemory answer = ⊤
+
+-- whether a node didn't get its seat
+abbrev pub is_seatless : NodeFault → Bool
+is_seatless WrongKey = true
+is_seatless WrongLeaf = true
+is_seatless LinkFault = false
+is_seatless NoMemory = false

@@ -1,0 +1,13 @@
+//! Tests of the commands that speak over links with other processes, through the top call over memory.
+#![tactic(auto)]
+
+#[cfg(test)]
+mod arguments;
+#[cfg(test)]
+mod frames;
+#[cfg(test)]
+mod refused;
+#[cfg(test)]
+mod served;
+#[cfg(test)]
+mod support;

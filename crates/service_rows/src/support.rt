@@ -1,0 +1,114 @@
+//! The top call over memory, whose links and clock tell what they give.
+
+use basil_cli::run::run;
+use basil_cli::status::Status;
+use basil_types::clock::MemClock;
+use basil_types::links::MemLinks;
+use basil_types::memory::NoMemory;
+use basil_types::sink::MemSink;
+use basil_types::source::MemSource;
+use std::alloc::Global;
+use std::test::Fail;
+
+/// Bytes that are given one after another, in hex.
+pub(crate) type Hex = &'static [&'static str];
+
+/// What the outside gives: the connections of links, and which of the calls of the source, the sink and the links fail,
+/// counted from 1 for each.
+#[derive(Clone, Copy)]
+pub(crate) struct Given {
+    pub connections: &'static [Hex],
+    pub failing_reads: &'static [u64],
+    pub failing_writes: &'static [u64],
+    pub failing_links: &'static [u64],
+}
+
+impl Given {
+    /// No connection, and nothing fails.
+    pub const NOTHING: Given = Given {
+        connections: &[],
+        failing_reads: &[],
+        failing_writes: &[],
+        failing_links: &[],
+    };
+}
+
+/// What a call ended with, and what it wrote to its sink and to its links.
+#[derive(Drop)]
+pub(crate) struct Answer {
+    pub status: Status,
+    pub text: Vec<u8>,
+    pub sent: Vec<u8>,
+}
+
+/// The arguments of a command.
+fn given_arguments(alloc: Global, arguments: &[&str]) -> Result<Vec<String>, NoMemory> {
+    let mut given = Vec::new(alloc);
+    for argument in arguments {
+        given.push(String::from_str(alloc, argument)?)?;
+    }
+    Ok(given)
+}
+
+/// The bytes of texts in hex, one after another.
+pub(crate) fn joined(alloc: Global, texts: &[&str]) -> Result<Vec<u8>, Fail> {
+    let mut all = Vec::new(alloc);
+    for text in texts {
+        let bytes = hex::decode(alloc, *text)?;
+        all.extend_from_slice(&bytes)?;
+    }
+    Ok(all)
+}
+
+/// The connections of links.
+fn connections_of(alloc: Global, connections: &[Hex]) -> Result<Vec<Vec<u8>>, Fail> {
+    let mut all = Vec::new(alloc);
+    for connection in connections {
+        all.push(joined(alloc, connection)?)?;
+    }
+    Ok(all)
+}
+
+/// Runs arguments over what is owned here, which is let go in one place. The clock stands at 10, then at 11, and then at
+/// 0.
+fn run_owned(
+    alloc: Global,
+    arguments: &[String],
+    mut source: MemSource,
+    mut sink: MemSink,
+    mut links: MemLinks,
+    moments: Vec<u64>,
+) -> Result<Answer, NoMemory> {
+    let mut clock = MemClock::new(moments);
+    let status = run(
+        alloc,
+        arguments,
+        &mut source,
+        &mut sink,
+        &mut links,
+        &mut clock,
+    );
+    let text = Vec::from_slice(alloc, sink.bytes())?;
+    let sent = Vec::from_slice(alloc, links.written())?;
+    Ok(Answer { status, text, sent })
+}
+
+/// Runs arguments over an input and what the outside gives.
+pub(crate) fn run_given(
+    alloc: Global,
+    arguments: &[&str],
+    input: &[u8],
+    given: &Given,
+) -> Result<Answer, Fail> {
+    let arguments = given_arguments(alloc, arguments)?;
+    let input = Vec::from_slice(alloc, input)?;
+    let connections = connections_of(alloc, given.connections)?;
+    let failing_reads = Vec::from_slice(alloc, given.failing_reads)?;
+    let failing_writes = Vec::from_slice(alloc, given.failing_writes)?;
+    let failing_links = Vec::from_slice(alloc, given.failing_links)?;
+    let moments = Vec::from_slice(alloc, &[10u64, 11])?;
+    let sink = MemSink::new(alloc, 1000, failing_writes)?;
+    let source = MemSource::new(input, 100, failing_reads);
+    let links = MemLinks::new(alloc, connections, Vec::new(alloc), failing_links);
+    Ok(run_owned(alloc, &arguments, source, sink, links, moments)?)
+}
