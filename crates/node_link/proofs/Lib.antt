@@ -9,3 +9,4 @@ pub mod WaitingLaws
 pub mod TalkingLaws
 pub mod ClosingLaws
 pub mod ServeLaws
+pub mod AskingLaws

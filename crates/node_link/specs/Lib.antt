@@ -3,6 +3,7 @@ pub mod Answering
 pub mod Dialogue
 pub mod Finding
 pub mod Standing
+pub mod Asking
 pub mod Faults
 pub mod Serving
 pub mod Connections

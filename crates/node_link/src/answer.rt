@@ -35,7 +35,7 @@ pub(crate) fn answer_room(alloc: Global, messages: u64, bytes: u64) -> Result<Ve
 }
 
 /// The three bytes of a party.
-fn party_bytes(party: Party) -> [u8; 3]
+pub(crate) fn party_bytes(party: Party) -> [u8; 3]
     ensures { result ≡ answers.party_bytes party }
 {
     match party {
@@ -45,7 +45,7 @@ fn party_bytes(party: Party) -> [u8; 3]
 }
 
 /// Appends bytes for which there is room.
-fn put(out: &mut Vec<u8>, bytes: &[u8])
+pub(crate) fn put(out: &mut Vec<u8>, bytes: &[u8])
     requires { vec_len out.old + length bytes.now ≤ vec_capacity out.old }
     ensures appended { out.new.items ≡ out.old.items ++ bytes.now }
     ensures room { vec_capacity out.old ≤ vec_capacity out.new }
@@ -54,7 +54,7 @@ fn put(out: &mut Vec<u8>, bytes: &[u8])
 }
 
 /// Appends a count in four bytes, for which there is room.
-fn put_count(out: &mut Vec<u8>, count: usize)
+pub(crate) fn put_count(out: &mut Vec<u8>, count: usize)
     requires few { count < 2 ^ 32 }
     requires room { vec_len out.old + 4 ≤ vec_capacity out.old }
     ensures appended { out.new.items ≡ out.old.items ++ to_be_bytes w32 count }

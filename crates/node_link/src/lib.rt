@@ -3,6 +3,7 @@
 #![tactic(auto)]
 
 mod answer;
+mod asking;
 pub mod cause;
 mod connection;
 mod envelope;
@@ -12,6 +13,7 @@ mod node;
 pub mod reader;
 mod turns;
 
+pub use asking::{ANSWER_ENVELOPES, ask};
 pub use cause::EndCause;
 pub use fault::ServeFault;
 pub use reader::FrameReader;

@@ -2,6 +2,7 @@
 
 ghost use Rattle.std.specs.Prelude.{◌≡◌, ◌++◌, ◌-◌, ◌≤◌, ℕ, List, [], IfOk, MatchOption, OnErr, OnOk, drop, length};
 ghost use Rattle.std.specs.Prelude.{slice_get};
+ghost use Rattle.node_link.specs.Asking.{so_many};
 ghost use Rattle.node_link.specs.Dialogue.{dialogue_of, or_connection, spoken_in};
 ghost use Rattle.node_link.specs.Standing.{Adds, Stands, and_taken};
 
@@ -139,10 +140,31 @@ impl FrameReader {
 
     /// Why the rules ended the connection, if they did.
     pub fn ended(&self) -> Option<EndCause>
-        ensures { (bytes : List ℕ) (taken : ℕ) → Stands self.now bytes taken →
+        ensures kept { result ≡ self.now.ended }
+        ensures told { (bytes : List ℕ) (taken : ℕ) → Stands self.now bytes taken →
             result ≡ (dialogue_of self.now.cluster bytes).ended }
     {
         self.ended
+    }
+
+    /// How many whole envelopes weren't taken.
+    pub fn waits(&self) -> usize
+        ensures { result ≡ length self.now.waiting }
+    {
+        self.waiting.len()
+    }
+
+    /// The first whole envelopes that weren't taken, so many; none where there are fewer.
+    pub(crate) fn into_first(self, count: usize) -> VecDeque<Envelope>
+        ensures { result.items ≡ so_many count self.waiting }
+    {
+        let mut first = self.waiting;
+        if first.len() < count {
+            first.clear();
+        } else {
+            first.truncate(count);
+        }
+        first
     }
 
     /// The next whole envelope that wasn't taken, if there is one.

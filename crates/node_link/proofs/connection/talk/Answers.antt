@@ -62,12 +62,12 @@ returns-in_err-answer_waiting-clause-some g c state whole s rest start =
 
 pub returns-clause-all : goal.returns-clause-all
 returns-clause-all g c state whole s rest start =
-    (talked_by_rules _ _ _ _ _ _ _ _ _ _ _ _ state whole s _ _ rest start c.loop-alloc.invariant c.ended.ensures c.is_none.ensures
+    (talked_by_rules _ _ _ _ _ _ _ _ _ _ _ _ state whole s _ _ rest start c.loop-alloc.invariant c.ended.ensures.told c.is_none.ensures
     c.loop-alloc-test.false).served
 
 pub returns-clause-counted : goal.returns-clause-counted
 returns-clause-counted g c state whole s rest start =
-    (talked_by_rules _ _ _ _ _ _ _ _ _ _ _ _ state whole s _ _ rest start c.loop-alloc.invariant c.ended.ensures c.is_none.ensures
+    (talked_by_rules _ _ _ _ _ _ _ _ _ _ _ _ state whole s _ _ rest start c.loop-alloc.invariant c.ended.ensures.told c.is_none.ensures
     c.loop-alloc-test.false).counted
 
 pub returns-clause-few : goal.returns-clause-few
