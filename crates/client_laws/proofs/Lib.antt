@@ -6,3 +6,4 @@ mod Placing
 mod Settling
 mod Handing
 mod Gathering
+mod SayingLaws

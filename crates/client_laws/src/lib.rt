@@ -6,3 +6,4 @@
 pub mod decisions;
 pub mod reads;
 pub mod signing;
+pub mod speaking;

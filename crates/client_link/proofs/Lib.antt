@@ -1,0 +1,3 @@
+mod TalkLaws
+mod AskLaws
+mod TurnLaws

@@ -1,0 +1,4 @@
+pub mod Talking
+pub mod Running
+pub mod Stages
+pub mod Having
