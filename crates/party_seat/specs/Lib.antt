@@ -1,4 +1,5 @@
 pub mod Faults
 pub mod Keys
 pub mod Stations
+pub mod Clients
 pub mod Serving

@@ -2,11 +2,13 @@
 //! replica that serves with it.
 #![tactic(auto)]
 
+mod client;
 mod fault;
 mod pen;
 mod serving;
 mod station;
 
+pub use client::{ClientSeat, client_of};
 pub use fault::{NodeFault, SeatFault};
 pub use pen::pen_of;
 pub use serving::serve_seat;
