@@ -19,6 +19,20 @@ most least bound (Ok m) n e = by (nat_le least m) (nat_le m bound) refl e
     by true false f e = absurd cc
     by false b f e = absurd cc
 
+least_of : (least bound : ℕ) (r : Result ℕ Complaint) (n : ℕ) → in_range least bound r ≡ Ok n → least ≤ n
+least_of least bound (Err c) n e = absurd cc
+least_of least bound (Ok m) n e = by (nat_le least m) (nat_le m bound) refl e
+  where
+    by : (a b : Bool) → nat_le least m ≡ a → (if a && b then Ok m else Err OutOfRange) ≡ Ok n → least ≤ n
+    by true true f e = let low : least ≤ m = le-of least m f in let is : m ≡ n = cc in omega (arith, low, is)
+    by true false f e = absurd cc
+    by false b f e = absurd cc
+
+-- and at least its beginning
+pub in_least : (least bound : ℕ) (argument : Token) (n : ℕ) → number_in least bound argument ≡ Ok n → least ≤ n
+unfolding number_in
+in_least least bound argument n e = least_of least bound (number argument) n e
+
 -- a number in a range is at most its end
 pub in_bound : (least bound : ℕ) (argument : Token) (n : ℕ) → number_in least bound argument ≡ Ok n → n ≤ bound
 unfolding number_in
@@ -32,3 +46,6 @@ byte_fits argument n e = let small : n ≤ 255 = in_bound 0 255 argument n e in 
 
 pub leaf_fits : (argument : Token) (n : ℕ) → number_in 0 1024 argument ≡ Ok n → Fits w32 n
 leaf_fits argument n e = let small : n ≤ 1024 = in_bound 0 1024 argument n e in omega (arith, small)
+
+pub client_fits : (argument : Token) (n : ℕ) → number_in 1 16 argument ≡ Ok n → Fits w8 n
+client_fits argument n e = let small : n ≤ 16 = in_bound 1 16 argument n e in omega (arith, small)

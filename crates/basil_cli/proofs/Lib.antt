@@ -7,3 +7,4 @@ pub mod Ends
 pub mod Counts
 pub mod Arguments
 pub mod NodeLaws
+pub mod ClientLaws

@@ -12,7 +12,7 @@ use Rattle.schedule_replay.specs.Totals.{totals}
 use Rattle.schedule_replay.specs.declared.fault.ReplayFault.{ReplayFault}
 use Rattle.schedule_replay.specs.declared.fault.ReplayFault.TheVariants as fault
 use Rattle.basil_cli.specs.Outcome.{Outcome, Usage, BadLine, Written, Broken, Refused, Stray}
-use Rattle.basil_cli.specs.Outcome.{Full, TooLong, text_of, link_fault_text, read_fault_text}
+use Rattle.basil_cli.specs.Outcome.{Full, Undecided, TooLong, text_of, link_fault_text, read_fault_text}
 use Rattle.basil_cli.specs.Output.{load_text}
 use Rattle.schedule_text.specs.Complaints.{reason_number}
 use Rattle.basil_cli.specs.declared.command.LoadSize.{LoadSize}
@@ -30,6 +30,7 @@ status_number ends.Broken = 7
 status_number (ends.Refused reason) = 8
 status_number ends.NoMemory = 9
 status_number (ends.Full messages bytes) = 10
+status_number (ends.Undecided replies) = 11
 status_number ends.TooLong = 12
 
 -- a status as text: the line that tells it, but for an output, a breach and a stray read, whose own text is more, and
@@ -46,6 +47,7 @@ status_text ends.Broken = codes "broken"
 status_text (ends.Refused reason) = codes "refused " ++ decimal reason
 status_text ends.NoMemory = codes "no memory"
 status_text (ends.Full messages bytes) = codes "full " ++ decimal messages ++ 32 ∷ decimal bytes
+status_text (ends.Undecided replies) = codes "undecided " ++ decimal replies
 status_text ends.TooLong = codes "too long 16777216"
 
 -- the status of an outcome
@@ -57,6 +59,7 @@ status_of (Broken broken) = ends.Broken
 status_of (Refused reason) = ends.Refused reason
 status_of (Stray line) = ends.Refused 0
 status_of (Full messages bytes) = ends.Full messages bytes
+status_of (Undecided replies) = ends.Undecided replies
 status_of TooLong = ends.TooLong
 
 -- the counts of faults of a source and of links, before a call and behind it
@@ -106,6 +109,7 @@ Answers ends.Broken outcome counts old new = Tells ends.Broken outcome old new
 Answers (ends.Refused reason) outcome counts old new = Tells (ends.Refused reason) outcome old new
 Answers ends.NoMemory outcome counts old new = new ≡ old
 Answers (ends.Full messages bytes) outcome counts old new = Tells (ends.Full messages bytes) outcome old new
+Answers (ends.Undecided replies) outcome counts old new = Tells (ends.Undecided replies) outcome old new
 Answers ends.TooLong outcome counts old new = Tells ends.TooLong outcome old new
 
 -- the outcome's status, or want of memory
@@ -124,6 +128,7 @@ is_outcomes ends.Broken = true
 is_outcomes (ends.Refused reason) = true
 is_outcomes ends.NoMemory = false
 is_outcomes (ends.Full messages bytes) = true
+is_outcomes (ends.Undecided replies) = true
 is_outcomes ends.TooLong = true
 
 -- ---- what holds of a schedule, whose deliveries take a road

@@ -10,3 +10,4 @@ pub mod Parts
 pub mod Behind
 pub mod Linked
 pub mod Nodes
+pub mod Clients

@@ -23,6 +23,8 @@ pub data Outcome : Type 0 where
   Stray : (line : List ℕ) → Outcome
   -- the messages of an event would pass a limit of the pool, which holds so many messages and bytes
   Full : (messages bytes : ℕ) → Outcome
+  -- a client has no choice of a read, or no decision, by the votes and log replies that it holds, so many
+  Undecided : (replies : ℕ) → Outcome
   -- the input has more than 16,777,216 bytes
   TooLong : Outcome
 
@@ -45,6 +47,7 @@ text_of (Broken broken) = broken_text broken
 text_of (Refused reason) = codes "refused " ++ decimal reason ++ 10 ∷ []
 text_of (Stray line) = line
 text_of (Full messages bytes) = codes "full " ++ decimal messages ++ 32 ∷ decimal bytes ++ 10 ∷ []
+text_of (Undecided replies) = codes "undecided " ++ decimal replies ++ 10 ∷ []
 text_of TooLong = codes "too long 16777216" ++ 10 ∷ []
 
 abbrev pub read_fault_text : List ℕ

@@ -4,7 +4,7 @@ use Rattle.frame_views.specs.Shown.{writeback_of}
 use Rattle.frame_views.specs.Values.{WritebackValue}
 use Rattle.frame_views.specs.declared.frames.views.WritebackView.{WritebackView}
 use Rattle.schedule_text.specs.declared.reason.Reason.{Reason}
-use Rattle.basil_cli.specs.Outcome.{Outcome, BadLine, Written, Broken, Refused, Stray, Full, TooLong, longest_input}
+use Rattle.basil_cli.specs.Outcome.{Outcome, BadLine, Written, Broken, Refused, Stray, Full, Undecided, TooLong, longest_input}
 use Rattle.basil_cli.specs.declared.input.InputFail.{InputFail}
 use Rattle.basil_cli.specs.declared.input.InputFail.TheVariants as input
 use Rattle.basil_cli.specs.declared.input.Whole.{Whole}
@@ -19,6 +19,7 @@ outcome_is (ending.Broken broken) = Broken broken
 outcome_is (ending.Refused reason) = Refused reason
 outcome_is (ending.Stray line) = Stray line
 outcome_is (ending.Full messages bytes) = Full messages bytes
+outcome_is (ending.Undecided replies) = Undecided replies
 outcome_is ending.TooLong = TooLong
 
 -- whether a link failed

@@ -19,6 +19,8 @@ pub(crate) enum Ending {
     Stray(Bytes),
     /// The messages of an event would pass a limit of the pool, which holds so many messages and bytes.
     Full { messages: u64, bytes: u64 },
+    /// A client is without a choice or a decision, and holds so many valid votes and log replies.
+    Undecided { replies: u32 },
     /// The input has more bytes than are read whole.
     TooLong,
 }

@@ -3,10 +3,12 @@
 
 mod audit;
 mod check;
+mod client;
 mod command;
 mod ending;
 mod input;
 mod node;
+mod parties;
 mod proving;
 mod replay;
 pub mod run;

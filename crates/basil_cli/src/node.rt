@@ -55,7 +55,7 @@ fn read_byte(argument: &str) -> Option<u8>
 }
 
 /// LEAF: at most 1,024.
-fn read_first_leaf(argument: &str) -> Option<u32>
+pub(crate) fn read_first_leaf(argument: &str) -> Option<u32>
     ensures { result ≡ said (number_in 0 1024 argument.now) }
 {
     match read_number_in(argument.as_bytes(), 0, 1024) {
@@ -144,7 +144,7 @@ pub(crate) fn read_node(alloc: Global, arguments: &[String]) -> Result<Option<No
 }
 
 /// The reason of a file that is refused.
-fn file_reason(number: u8) -> Reason
+pub(crate) fn file_reason(number: u8) -> Reason
     ensures { result ≡ nodes.file_reason number }
 {
     match number {

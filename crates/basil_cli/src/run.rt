@@ -4,6 +4,7 @@ ghost use Rattle.std.specs.Prelude.{◌≡◌, ◌⊎◌, ◌<◌, ℕ, List, Bo
 ghost use Rattle.std.specs.Prelude.{Some, None, Ok, [], IfSome, IfOk, IfErr, map, string_bytes};
 ghost use Rattle.std.specs.Result.{IsErrOf};
 ghost use Rattle.basil_types.specs.Causes.{Rose};
+ghost use Rattle.basil_types.specs.Links.{LinkState};
 ghost use Rattle.node_link.specs.Connections.{Node};
 ghost use Rattle.party_seat.specs.Serving.{Begins, HasStopped, serves_at};
 ghost use Rattle.party_seat.specs.Stations.{Station};
@@ -15,20 +16,24 @@ ghost use Rattle.basil_cli.specs.Answers.{counted, is_outcomes};
 ghost use Rattle.basil_cli.specs.Commands.{command_of, is_carried, runs, arguments_carried};
 ghost use Rattle.basil_cli.specs.Commands.{arguments_read, reads, HasLeaf};
 ghost use Rattle.basil_cli.specs.Linked.{ByRoads, ByArguments};
+ghost use Rattle.basil_cli.specs.Clients.{CallsNone, ClientStation, IsClientTold, ToldRun, client_of, client_station};
 ghost use Rattle.basil_cli.specs.Nodes.{HasWritten, IsNodeTold, WroteAt, WroteServed, node_of, station_of};
 ghost use Rattle.basil_cli.specs.Outcome.{is_too_long};
 ghost use Rattle.basil_cli.specs.Output.{load_text, outcome_of, output_of};
 ghost use Rattle.basil_cli.specs.Parts.{is_link_fail, outcome_is};
+ghost use Rattle.basil_cli.specs.declared.client.ClientCall.{ClientCall};
 ghost use Rattle.basil_cli.specs.declared.command.LoadSize.{LoadSize};
 ghost use Rattle.basil_cli.specs.declared.node.NodeCall.{NodeCall};
 ghost use Rattle.basil_cli.specs.Reading.{IsReadFor, IsReadThrough, StopsSoon, StopsSoonFor, is_enough};
 
 use crate::audit::audit;
 use crate::check::check;
+use crate::client::run_client;
 use crate::command::{Command, read_command};
 use crate::ending::Ending;
 use crate::input::{InputFail, Whole, read_whole};
-use crate::node::{read_node, run_node};
+use crate::node::run_node;
+use crate::parties::{PartyCall, read_party};
 use crate::replay::{generate, load, replay};
 use crate::signatures::{keys, sign, verify};
 use crate::status::Status;
@@ -177,7 +182,7 @@ fn run_command<S: Source, K: Sink, L: Links>(
     }
 }
 
-/// The same for arguments that call no node.
+/// The same for arguments that call neither a node nor a client.
 fn run_alone<S: Source, K: Sink, L: Links>(
     alloc: Global,
     arguments: &[String],
@@ -266,6 +271,9 @@ fn run_alone<S: Source, K: Sink, L: Links>(
 /// - `node S R SEED LEAF CONNECTIONS` reads a cluster's file, serves so many connections as replica R of shard S, whose
 ///   key it makes of its SEED and uses from that leaf on, and writes `served F`, the number of frames that the replica
 ///   was handed.
+/// - `client C SEED LEAF OP...` reads a cluster's file and carries through a transaction of the reads `r:KEY` and writes
+///   `w:KEY:VALUE` as client C, whose key it makes of its SEED and uses from that leaf on. It writes `commit` or `abort`
+///   and what it read.
 pub fn run<S: Source, K: Sink, L: Links, C: Clock>(
     alloc: Global,
     arguments: &[String],
@@ -275,11 +283,11 @@ pub fn run<S: Source, K: Sink, L: Links, C: Clock>(
     clock: &mut C,
 ) -> Status
     // Where the source tells its bytes, the status and what was written are those of the arguments, the bytes, and what
-    // the links gave, for every command but `node`. After a fault of the sink it is some of that text, or, where
+    // the links gave, for every command but `node` and `client`. After a fault of the sink it is some of that text, or, where
     // another count rose, some of the text of its fault.
     ensures answers { let command = command_of (map string_bytes arguments.now) in let counts =
         counted (S.faults source.old) (S.faults source.new) (L.faults links.old) (L.faults links.new) in
-        node_of (map string_bytes arguments.now) ≡ None →
+        CallsNone (map string_bytes arguments.now) →
         IfSome (S.left source.old) (λ bytes. ByArguments command (L.told links.old) (L.told links.new) (λ coming.
         Answers result (outcome_of (map string_bytes arguments.now) coming bytes) counts
         (K.taken sink.old) (K.taken sink.new))) }
@@ -316,7 +324,7 @@ pub fn run<S: Source, K: Sink, L: Links, C: Clock>(
     // Where no count rose, the status is that of the arguments, the bytes, and what the links gave, or memory is
     // wanting: a valid schedule gives its whole report, and every other command its output or its refusal.
     ensures complete { let command = command_of (map string_bytes arguments.now) in
-        node_of (map string_bytes arguments.now) ≡ None →
+        CallsNone (map string_bytes arguments.now) →
         (Rose (S.faults source.old) (S.faults source.new) → ⊥) →
         (Rose (K.faults sink.old) (K.faults sink.new) → ⊥) → (Rose (L.faults links.old) (L.faults links.new) → ⊥) →
         IfSome (S.left source.old) (λ bytes. ByArguments command (L.told links.old) (L.told links.new) (λ coming.
@@ -324,11 +332,11 @@ pub fn run<S: Source, K: Sink, L: Links, C: Clock>(
     // Arguments that aren't a command with an input decide alone, and nothing is read.
     ensures alone { let counts =
         counted (S.faults source.old) (S.faults source.new) (L.faults links.old) (L.faults links.new) in
-        node_of (map string_bytes arguments.now) ≡ None →
+        CallsNone (map string_bytes arguments.now) →
         arguments_read (command_of (map string_bytes arguments.now)) ≡ false →
         Answers result (outcome_of (map string_bytes arguments.now) [] []) counts
         (K.taken sink.old) (K.taken sink.new) }
-    ensures unread { node_of (map string_bytes arguments.now) ≡ None →
+    ensures unread { CallsNone (map string_bytes arguments.now) →
         arguments_read (command_of (map string_bytes arguments.now)) ≡ false → source.new ≡ source.old }
     // The status of an outcome is answered when the input was read to its end, or as far as it decides.
     ensures through { let command = command_of (map string_bytes arguments.now) in
@@ -337,13 +345,13 @@ pub fn run<S: Source, K: Sink, L: Links, C: Clock>(
         IsReadFor command coming bytes (S.left source.new))) }
     // Whatever is answered, fewer than a piece of the source's bytes were taken beyond those that decide.
     ensures soon { let command = command_of (map string_bytes arguments.now) in
-        node_of (map string_bytes arguments.now) ≡ None →
+        CallsNone (map string_bytes arguments.now) →
         IfSome (S.left source.old) (λ bytes. ByArguments command (L.told links.old) (L.told links.new) (λ coming.
         StopsSoonFor command coming bytes (S.left source.new))) }
     // The arguments alone decide on this answer.
     ensures arguments { result ≡ Status.BadWords → command_of (map string_bytes arguments.now) ≡ None }
-    ensures no_node { result ≡ Status.BadWords → node_of (map string_bytes arguments.now) ≡ None }
-    ensures other_arguments { node_of (map string_bytes arguments.now) ≡ None →
+    ensures no_call { result ≡ Status.BadWords → CallsNone (map string_bytes arguments.now) }
+    ensures other_arguments { CallsNone (map string_bytes arguments.now) →
         command_of (map string_bytes arguments.now) ≡ None →
         (result ≡ Status.BadWords) ⊎ ((result ≡ Status.WriteFault) ⊎ (result ≡ Status.NoMemory)) }
     // A fault has its cause.
@@ -353,13 +361,13 @@ pub fn run<S: Source, K: Sink, L: Links, C: Clock>(
     // A fault is told.
     ensures read_told { S.faults source.old < S.faults source.new →
         (result ≡ Status.ReadFault) ⊎ (result ≡ Status.WriteFault) }
-    ensures link_told { node_of (map string_bytes arguments.now) ≡ None → L.faults links.old < L.faults links.new →
+    ensures link_told { CallsNone (map string_bytes arguments.now) → L.faults links.old < L.faults links.new →
         (result ≡ Status.LinkFault) ⊎ (result ≡ Status.WriteFault) }
     ensures write_told { K.faults sink.old < K.faults sink.new → result ≡ Status.WriteFault }
-    // No command but `loopback` and `node` uses the links, and `node` alone the clock.
-    ensures links { node_of (map string_bytes arguments.now) ≡ None →
+    // No command but `loopback`, `node` and `client` uses the links, and only the last two the clock.
+    ensures links { CallsNone (map string_bytes arguments.now) →
         arguments_carried (command_of (map string_bytes arguments.now)) ≡ false → links.new ≡ links.old }
-    ensures clock { node_of (map string_bytes arguments.now) ≡ None → clock.new ≡ clock.old }
+    ensures clock { CallsNone (map string_bytes arguments.now) → clock.new ≡ clock.old }
     // A node whose file or seat is refused answers that, as a node does whose file is too long to be read.
     ensures node_refused { let counts =
         counted (S.faults source.old) (S.faults source.new) (L.faults links.old) (L.faults links.new) in
@@ -408,9 +416,47 @@ pub fn run<S: Source, K: Sink, L: Links, C: Clock>(
         IsReadThrough is_too_long bytes (S.left source.new)) }
     ensures node_soon { (call : NodeCall) → node_of (map string_bytes arguments.now) ≡ Some call →
         IfSome (S.left source.old) (λ bytes. StopsSoon is_too_long bytes (S.left source.new)) }
+    // A client whose file or seat is refused answers that, as a client does whose file is too long to be read.
+    ensures client_refused { let counts =
+        counted (S.faults source.old) (S.faults source.new) (L.faults links.old) (L.faults links.new) in
+        (call : ClientCall) → client_of (map string_bytes arguments.now) ≡ Some call →
+        IfSome (S.left source.old) (λ bytes. IfErr (client_station call.seat bytes) (λ refusal.
+        Answers result refusal counts (K.taken sink.old) (K.taken sink.new))) }
+    // It neither asks nor looks at the clock.
+    ensures client_idle { (call : ClientCall) → client_of (map string_bytes arguments.now) ≡ Some call →
+        IfSome (S.left source.old) (λ bytes. IfErr (client_station call.seat bytes) (λ _. links.new ≡ links.old)) }
+    ensures client_still { (call : ClientCall) → client_of (map string_bytes arguments.now) ≡ Some call →
+        IfSome (S.left source.old) (λ bytes. IfErr (client_station call.seat bytes) (λ _. clock.new ≡ clock.old)) }
+    // A client in its seat begins a transaction at the clock's moment, makes the calls of its reads and writes and of
+    // the stages behind them, and asks, behind each, all that it sends, at the file's addresses, with all that comes of
+    // it. An ask is silent only where its bytes show it, or where a call of the links failed: so many did as their
+    // count rose at least. What the client then holds is what it tells.
+    ensures client_ran { let counts =
+        counted (S.faults source.old) (S.faults source.new) (L.faults links.old) (L.faults links.new) in
+        (call : ClientCall) (s : ClientStation) (moments : List ℕ) (state : LinkState) →
+        client_of (map string_bytes arguments.now) ≡ Some call → is_outcomes result ≡ true →
+        C.moments clock.old ≡ Some moments → L.told links.old ≡ Some state → IfSome (S.left source.old) (λ bytes.
+        client_station call.seat bytes ≡ Ok s →
+        ToldRun s call.plan moments state (L.told links.new) counts result (K.taken sink.old) (K.taken sink.new)) }
+    // Where no count of the source or the sink rose a client in its seat is done, undecided, or refused a call, and
+    // another tells its refusal; or memory is wanting.
+    ensures client_complete { (call : ClientCall) → client_of (map string_bytes arguments.now) ≡ Some call →
+        (Rose (S.faults source.old) (S.faults source.new) → ⊥) →
+        (Rose (K.faults sink.old) (K.faults sink.new) → ⊥) →
+        IfSome (S.left source.old) (λ bytes. IsClientTold result (client_station call.seat bytes)) }
+    // No fault of the links is told by it.
+    ensures client_unlinked { (call : ClientCall) → client_of (map string_bytes arguments.now) ≡ Some call →
+        result ≡ Status.LinkFault → ⊥ }
+    // Its file is read to the end, or until it is too long, and hardly further.
+    ensures client_through { (call : ClientCall) → client_of (map string_bytes arguments.now) ≡ Some call →
+        is_outcomes result ≡ true → IfSome (S.left source.old) (λ bytes.
+        IsReadThrough is_too_long bytes (S.left source.new)) }
+    ensures client_soon { (call : ClientCall) → client_of (map string_bytes arguments.now) ≡ Some call →
+        IfSome (S.left source.old) (λ bytes. StopsSoon is_too_long bytes (S.left source.new)) }
 {
-    match read_node(alloc, arguments) {
-        Ok(Some(call)) => run_node(alloc, &call, source, sink, links, clock),
+    match read_party(alloc, arguments) {
+        Ok(Some(PartyCall::Node(call))) => run_node(alloc, &call, source, sink, links, clock),
+        Ok(Some(PartyCall::Client(call))) => run_client(alloc, &call, source, sink, links, clock),
         Ok(None) => run_alone(alloc, arguments, source, sink, links),
         Err(NoMemory) => Status::NoMemory,
     }

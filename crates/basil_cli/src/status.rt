@@ -33,6 +33,9 @@ pub enum Status {
     /// 10: the messages of an event would pass a limit of the pool, which holds this; `full MESSAGES BYTES` was
     /// written.
     Full { messages: u64, bytes: u64 },
+    /// 11: a client asked all that it had to ask, and a read is without a choice or there is no decision; it holds so many
+    /// valid votes and log replies. `undecided N` was written.
+    Undecided { replies: u32 },
     /// 12: an input that is read whole has more than 16,777,216 bytes; `too long 16777216` was written.
     TooLong,
 }
@@ -53,6 +56,7 @@ impl Status {
             Status::Refused { .. } => 8,
             Status::NoMemory => 9,
             Status::Full { .. } => 10,
+            Status::Undecided { .. } => 11,
             Status::TooLong => 12,
         }
     }
@@ -75,6 +79,7 @@ impl fmt::Display for Status {
             Status::Refused { reason } => write!(f, "refused {reason}"),
             Status::NoMemory => f.write_str("no memory"),
             Status::Full { messages, bytes } => write!(f, "full {messages} {bytes}"),
+            Status::Undecided { replies } => write!(f, "undecided {replies}"),
             Status::TooLong => f.write_str("too long 16777216"),
         }
     }

@@ -87,6 +87,7 @@ pub(crate) fn status_of_ending(ending: &Ending) -> Status
             messages: *messages,
             bytes: *bytes,
         },
+        Ending::Undecided { replies } => Status::Undecided { replies: *replies },
         Ending::TooLong => Status::TooLong,
     }
 }

@@ -2,63 +2,67 @@
 use Rattle.std.proofs.Common.{rules, ◌≡◌, Some, None, Ok, map, string_bytes, refl, subst}
 use Rattle.std.specs.Prelude.{IfSome}
 use Rattle.party_seat.specs.Serving.{Begins, HasStopped, serves_at}
+use Rattle.basil_cli.specs.Answers.{counted}
+use Rattle.basil_cli.specs.Clients.{ToldRun, client_of, client_station}
 use Rattle.basil_cli.specs.Commands.{command_of}
 use Rattle.basil_cli.specs.Nodes.{WroteAt, WroteServed, node_of, station_of}
 use Rattle.basil_cli.specs.Outcome.{is_too_long}
+use Rattle.basil_cli.specs.declared.client.ClientCall.{ClientCall}
 use Rattle.basil_cli.specs.declared.node.NodeCall.{NodeCall}
 use Rattle.basil_cli.proofs.Arguments.{untaken_arguments}
+use Rattle.basil_cli.proofs.ClientLaws.{client_is_none, client_wanting, no_such, node_no_client, same_client}
 use Rattle.basil_cli.proofs.NodeLaws.{node_is_none, node_wanting, not_begun, not_read, refused_any, same_call, some_any}
 use Rattle.basil_cli.proofs.Stopping.{untaken}
 use Rattle.basil_cli.proofs.run.run.Goals as goal
 
-pub returns-in-Ok-Some-clause-safe : goal.returns-in-Ok-Some-clause-safe
-returns-in-Ok-Some-clause-safe g c = λ carried e f.
-    let said : node_of (map string_bytes c.args.arguments.now) ≡ Some c.in-Ok-Some.call = search rules in
+pub returns-in-Ok-Some-Node-clause-safe : goal.returns-in-Ok-Some-Node-clause-safe
+returns-in-Ok-Some-Node-clause-safe g c = λ carried e f.
+    let said : node_of (map string_bytes c.args.arguments.now) ≡ Some c.in-Ok-Some-Node.call = search rules in
     let none : command_of (map string_bytes c.args.arguments.now) ≡ None =
-    node_is_none (map string_bytes c.args.arguments.now) c.in-Ok-Some.call said in
+    node_is_none (map string_bytes c.args.arguments.now) c.in-Ok-Some-Node.call said in
     absurd cc
 
-pub returns-in-Ok-Some-clause-broken : goal.returns-in-Ok-Some-clause-broken
-returns-in-Ok-Some-clause-broken g c = λ carried e f.
-    let said : node_of (map string_bytes c.args.arguments.now) ≡ Some c.in-Ok-Some.call = search rules in
+pub returns-in-Ok-Some-Node-clause-broken : goal.returns-in-Ok-Some-Node-clause-broken
+returns-in-Ok-Some-Node-clause-broken g c = λ carried e f.
+    let said : node_of (map string_bytes c.args.arguments.now) ≡ Some c.in-Ok-Some-Node.call = search rules in
     let none : command_of (map string_bytes c.args.arguments.now) ≡ None =
-    node_is_none (map string_bytes c.args.arguments.now) c.in-Ok-Some.call said in
+    node_is_none (map string_bytes c.args.arguments.now) c.in-Ok-Some-Node.call said in
     absurd cc
 
-pub returns-in-Ok-Some-clause-through : goal.returns-in-Ok-Some-clause-through
-returns-in-Ok-Some-clause-through g c = λ e f.
-    let said : node_of (map string_bytes c.args.arguments.now) ≡ Some c.in-Ok-Some.call = search rules in
+pub returns-in-Ok-Some-Node-clause-through : goal.returns-in-Ok-Some-Node-clause-through
+returns-in-Ok-Some-Node-clause-through g c = λ e f.
+    let said : node_of (map string_bytes c.args.arguments.now) ≡ Some c.in-Ok-Some-Node.call = search rules in
     not_read (command_of (map string_bytes c.args.arguments.now))
-    (node_is_none (map string_bytes c.args.arguments.now) c.in-Ok-Some.call said) e _
+    (node_is_none (map string_bytes c.args.arguments.now) c.in-Ok-Some-Node.call said) e _
 
-pub returns-in-Ok-Some-clause-node_served : goal.returns-in-Ok-Some-clause-node_served
-returns-in-Ok-Some-clause-node_served g c = λ call s n e done.
-    let said : node_of (map string_bytes c.args.arguments.now) ≡ Some c.in-Ok-Some.call = search rules in
+pub returns-in-Ok-Some-Node-clause-node_served : goal.returns-in-Ok-Some-Node-clause-node_served
+returns-in-Ok-Some-Node-clause-node_served g c = λ call s n e done.
+    let said : node_of (map string_bytes c.args.arguments.now) ≡ Some c.in-Ok-Some-Node.call = search rules in
     subst
     (λ (x : NodeCall). IfSome (g.S.Source.left c.args.source.now) (λ bytes. station_of x.seat bytes ≡ Ok s →
     Begins s (g.C.Clock.moments c.args.clock.now) (g.L.Links.told c.args.links.now) n →
     WroteServed s x.connections n (g.C.Clock.moments c.run_node.new.clock) (g.L.Links.told c.run_node.new.links)
     (g.K.Sink.taken c.args.sink.now) (g.K.Sink.taken c.run_node.new.sink)))
-    (same_call (map string_bytes c.args.arguments.now) c.in-Ok-Some.call call said e) (c.run_node.ensures.served s n done)
+    (same_call (map string_bytes c.args.arguments.now) c.in-Ok-Some-Node.call call said e) (c.run_node.ensures.served s n done)
 
-pub returns-in-Ok-Some-clause-node_whole : goal.returns-in-Ok-Some-clause-node_whole
-returns-in-Ok-Some-clause-node_whole g c = λ call s n e still done.
-    let said : node_of (map string_bytes c.args.arguments.now) ≡ Some c.in-Ok-Some.call = search rules in
+pub returns-in-Ok-Some-Node-clause-node_whole : goal.returns-in-Ok-Some-Node-clause-node_whole
+returns-in-Ok-Some-Node-clause-node_whole g c = λ call s n e still done.
+    let said : node_of (map string_bytes c.args.arguments.now) ≡ Some c.in-Ok-Some-Node.call = search rules in
     subst
     (λ (x : NodeCall). IfSome (g.S.Source.left c.args.source.now) (λ bytes. station_of x.seat bytes ≡ Ok s →
     Begins s (g.C.Clock.moments c.args.clock.now) (g.L.Links.told c.args.links.now) n →
     WroteAt (serves_at s x.connections n) (g.C.Clock.moments c.run_node.new.clock) (g.L.Links.told c.run_node.new.links)
     (g.K.Sink.taken c.args.sink.now) (g.K.Sink.taken c.run_node.new.sink)))
-    (same_call (map string_bytes c.args.arguments.now) c.in-Ok-Some.call call said e) (c.run_node.ensures.whole s n still done)
+    (same_call (map string_bytes c.args.arguments.now) c.in-Ok-Some-Node.call call said e) (c.run_node.ensures.whole s n still done)
 
-pub returns-in-Ok-Some-clause-node_stands : goal.returns-in-Ok-Some-clause-node_stands
-returns-in-Ok-Some-clause-node_stands g c = λ call s n e.
-    let said : node_of (map string_bytes c.args.arguments.now) ≡ Some c.in-Ok-Some.call = search rules in
+pub returns-in-Ok-Some-Node-clause-node_stands : goal.returns-in-Ok-Some-Node-clause-node_stands
+returns-in-Ok-Some-Node-clause-node_stands g c = λ call s n e.
+    let said : node_of (map string_bytes c.args.arguments.now) ≡ Some c.in-Ok-Some-Node.call = search rules in
     subst
     (λ (x : NodeCall). IfSome (g.S.Source.left c.args.source.now) (λ bytes. station_of x.seat bytes ≡ Ok s →
     Begins s (g.C.Clock.moments c.args.clock.now) (g.L.Links.told c.args.links.now) n →
     HasStopped s x.connections n (g.C.Clock.moments c.run_node.new.clock) (g.L.Links.told c.run_node.new.links)))
-    (same_call (map string_bytes c.args.arguments.now) c.in-Ok-Some.call call said e) (c.run_node.ensures.stands s n)
+    (same_call (map string_bytes c.args.arguments.now) c.in-Ok-Some-Node.call call said e) (c.run_node.ensures.stands s n)
 
 pub returns-in-Err-clause-soon : goal.returns-in-Err-clause-soon
 returns-in-Err-clause-soon g c = λ none.
@@ -84,3 +88,102 @@ returns-in-Err-clause-node_complete g c = λ call e read write link.
 
 pub returns-in-Err-clause-node_soon : goal.returns-in-Err-clause-node_soon
 returns-in-Err-clause-node_soon g c = λ call e. untaken is_too_long (g.S.Source.left c.args.source.now)
+
+pub returns-in-Ok-Some-Node-clause-client_refused : goal.returns-in-Ok-Some-Node-clause-client_refused
+returns-in-Ok-Some-Node-clause-client_refused g c = λ call e.
+    let said : node_of (map string_bytes c.args.arguments.now) ≡ Some c.in-Ok-Some-Node.call = search rules in
+    no_such (client_of (map string_bytes c.args.arguments.now)) call (node_no_client (map string_bytes c.args.arguments.now) c.in-Ok-Some-Node.call said) e _
+
+pub returns-in-Ok-Some-Node-clause-client_idle : goal.returns-in-Ok-Some-Node-clause-client_idle
+returns-in-Ok-Some-Node-clause-client_idle g c = λ call e.
+    let said : node_of (map string_bytes c.args.arguments.now) ≡ Some c.in-Ok-Some-Node.call = search rules in
+    no_such (client_of (map string_bytes c.args.arguments.now)) call (node_no_client (map string_bytes c.args.arguments.now) c.in-Ok-Some-Node.call said) e _
+
+pub returns-in-Ok-Some-Node-clause-client_still : goal.returns-in-Ok-Some-Node-clause-client_still
+returns-in-Ok-Some-Node-clause-client_still g c = λ call e.
+    let said : node_of (map string_bytes c.args.arguments.now) ≡ Some c.in-Ok-Some-Node.call = search rules in
+    no_such (client_of (map string_bytes c.args.arguments.now)) call (node_no_client (map string_bytes c.args.arguments.now) c.in-Ok-Some-Node.call said) e _
+
+pub returns-in-Ok-Some-Node-clause-client_ran : goal.returns-in-Ok-Some-Node-clause-client_ran
+returns-in-Ok-Some-Node-clause-client_ran g c = λ call s moments state e outcomes ticks told.
+    let said : node_of (map string_bytes c.args.arguments.now) ≡ Some c.in-Ok-Some-Node.call = search rules in
+    no_such (client_of (map string_bytes c.args.arguments.now)) call (node_no_client (map string_bytes c.args.arguments.now) c.in-Ok-Some-Node.call said) e _
+
+pub returns-in-Ok-Some-Node-clause-client_complete : goal.returns-in-Ok-Some-Node-clause-client_complete
+returns-in-Ok-Some-Node-clause-client_complete g c = λ call e read write.
+    let said : node_of (map string_bytes c.args.arguments.now) ≡ Some c.in-Ok-Some-Node.call = search rules in
+    no_such (client_of (map string_bytes c.args.arguments.now)) call (node_no_client (map string_bytes c.args.arguments.now) c.in-Ok-Some-Node.call said) e _
+
+pub returns-in-Ok-Some-Client-clause-safe : goal.returns-in-Ok-Some-Client-clause-safe
+returns-in-Ok-Some-Client-clause-safe g c = λ carried e f.
+    let said : client_of (map string_bytes c.args.arguments.now) ≡ Some c.in-Ok-Some-Client.call = search rules in
+    no_such (command_of (map string_bytes c.args.arguments.now)) _ (client_is_none (map string_bytes c.args.arguments.now) c.in-Ok-Some-Client.call said).0 e _
+
+pub returns-in-Ok-Some-Client-clause-broken : goal.returns-in-Ok-Some-Client-clause-broken
+returns-in-Ok-Some-Client-clause-broken g c = λ carried e f.
+    let said : client_of (map string_bytes c.args.arguments.now) ≡ Some c.in-Ok-Some-Client.call = search rules in
+    no_such (command_of (map string_bytes c.args.arguments.now)) _ (client_is_none (map string_bytes c.args.arguments.now) c.in-Ok-Some-Client.call said).0 e _
+
+pub returns-in-Ok-Some-Client-clause-through : goal.returns-in-Ok-Some-Client-clause-through
+returns-in-Ok-Some-Client-clause-through g c = λ e f.
+    let said : client_of (map string_bytes c.args.arguments.now) ≡ Some c.in-Ok-Some-Client.call = search rules in
+    not_read (command_of (map string_bytes c.args.arguments.now)) (client_is_none (map string_bytes c.args.arguments.now) c.in-Ok-Some-Client.call said).0 e _
+
+pub returns-in-Ok-Some-Client-clause-node_refused : goal.returns-in-Ok-Some-Client-clause-node_refused
+returns-in-Ok-Some-Client-clause-node_refused g c = λ call e.
+    let said : client_of (map string_bytes c.args.arguments.now) ≡ Some c.in-Ok-Some-Client.call = search rules in
+    no_such (node_of (map string_bytes c.args.arguments.now)) call (client_is_none (map string_bytes c.args.arguments.now) c.in-Ok-Some-Client.call said).1 e _
+
+pub returns-in-Ok-Some-Client-clause-node_idle : goal.returns-in-Ok-Some-Client-clause-node_idle
+returns-in-Ok-Some-Client-clause-node_idle g c = λ call e.
+    let said : client_of (map string_bytes c.args.arguments.now) ≡ Some c.in-Ok-Some-Client.call = search rules in
+    no_such (node_of (map string_bytes c.args.arguments.now)) call (client_is_none (map string_bytes c.args.arguments.now) c.in-Ok-Some-Client.call said).1 e _
+
+pub returns-in-Ok-Some-Client-clause-node_still : goal.returns-in-Ok-Some-Client-clause-node_still
+returns-in-Ok-Some-Client-clause-node_still g c = λ call e.
+    let said : client_of (map string_bytes c.args.arguments.now) ≡ Some c.in-Ok-Some-Client.call = search rules in
+    no_such (node_of (map string_bytes c.args.arguments.now)) call (client_is_none (map string_bytes c.args.arguments.now) c.in-Ok-Some-Client.call said).1 e _
+
+pub returns-in-Ok-Some-Client-clause-node_written : goal.returns-in-Ok-Some-Client-clause-node_written
+returns-in-Ok-Some-Client-clause-node_written g c = λ call e done.
+    let said : client_of (map string_bytes c.args.arguments.now) ≡ Some c.in-Ok-Some-Client.call = search rules in
+    no_such (node_of (map string_bytes c.args.arguments.now)) call (client_is_none (map string_bytes c.args.arguments.now) c.in-Ok-Some-Client.call said).1 e _
+
+pub returns-in-Ok-Some-Client-clause-node_served : goal.returns-in-Ok-Some-Client-clause-node_served
+returns-in-Ok-Some-Client-clause-node_served g c = λ call s n e done.
+    let said : client_of (map string_bytes c.args.arguments.now) ≡ Some c.in-Ok-Some-Client.call = search rules in
+    no_such (node_of (map string_bytes c.args.arguments.now)) call (client_is_none (map string_bytes c.args.arguments.now) c.in-Ok-Some-Client.call said).1 e _
+
+pub returns-in-Ok-Some-Client-clause-node_whole : goal.returns-in-Ok-Some-Client-clause-node_whole
+returns-in-Ok-Some-Client-clause-node_whole g c = λ call s n e still done.
+    let said : client_of (map string_bytes c.args.arguments.now) ≡ Some c.in-Ok-Some-Client.call = search rules in
+    no_such (node_of (map string_bytes c.args.arguments.now)) call (client_is_none (map string_bytes c.args.arguments.now) c.in-Ok-Some-Client.call said).1 e _
+
+pub returns-in-Ok-Some-Client-clause-node_stands : goal.returns-in-Ok-Some-Client-clause-node_stands
+returns-in-Ok-Some-Client-clause-node_stands g c = λ call s n e.
+    let said : client_of (map string_bytes c.args.arguments.now) ≡ Some c.in-Ok-Some-Client.call = search rules in
+    no_such (node_of (map string_bytes c.args.arguments.now)) call (client_is_none (map string_bytes c.args.arguments.now) c.in-Ok-Some-Client.call said).1 e _
+
+pub returns-in-Ok-Some-Client-clause-node_complete : goal.returns-in-Ok-Some-Client-clause-node_complete
+returns-in-Ok-Some-Client-clause-node_complete g c = λ call e read write link.
+    let said : client_of (map string_bytes c.args.arguments.now) ≡ Some c.in-Ok-Some-Client.call = search rules in
+    no_such (node_of (map string_bytes c.args.arguments.now)) call (client_is_none (map string_bytes c.args.arguments.now) c.in-Ok-Some-Client.call said).1 e _
+
+pub returns-in-Ok-Some-Client-clause-client_ran : goal.returns-in-Ok-Some-Client-clause-client_ran
+returns-in-Ok-Some-Client-clause-client_ran g c = λ call s moments state e outcomes ticks told.
+    let said : client_of (map string_bytes c.args.arguments.now) ≡ Some c.in-Ok-Some-Client.call = search rules in
+    let counts = counted (g.S.Source.faults c.args.source.now) (g.S.Source.faults c.run_client.new.source)
+    (g.L.Links.faults c.args.links.now) (g.L.Links.faults c.run_client.new.links) in
+    subst
+    (λ (x : ClientCall). IfSome (g.S.Source.left c.args.source.now) (λ bytes. client_station x.seat bytes ≡ Ok s →
+    ToldRun s x.plan moments state (g.L.Links.told c.run_client.new.links) counts c.run_client.result
+    (g.K.Sink.taken c.args.sink.now) (g.K.Sink.taken c.run_client.new.sink)))
+    (same_client (map string_bytes c.args.arguments.now) c.in-Ok-Some-Client.call call said e)
+    (c.run_client.ensures.ran s moments state outcomes ticks told)
+
+pub returns-in-Err-clause-client_complete : goal.returns-in-Err-clause-client_complete
+returns-in-Err-clause-client_complete g c = λ call e read write.
+    some_any (g.S.Source.left c.args.source.now) _ (λ bytes. client_wanting (client_station call.seat bytes))
+
+pub returns-in-Err-clause-client_soon : goal.returns-in-Err-clause-client_soon
+returns-in-Err-clause-client_soon g c = λ call e. untaken is_too_long (g.S.Source.left c.args.source.now)

@@ -1,0 +1,167 @@
+-- `client`: a client of a cluster's file that carries one transaction through.
+use Rattle.std.specs.Prelude.{◌≡◌, ◌⊎◌, ◌≤◌, ⊤, ℕ, max, length, List, [], ◌∷◌, codes, if◌then◌else◌}
+use Rattle.std.specs.Prelude.{Option, Some, None, Result, Ok, Err, IfOk}
+use Rattle.std.specs.Str.{bytes_eq}
+use Rattle.basil_types.specs.Links.{LinkState}
+use Rattle.client_core.specs.Clients.{ClientSelf, ClientValue}
+use Rattle.client_core.specs.declared.client.Client.{Client}
+use Rattle.client_link.specs.declared.fault.RunFault.{RunFault}
+use Rattle.client_link.specs.declared.fault.RunFault.TheVariants as runs
+use Rattle.client_link.specs.declared.op.Op.{Op}
+use Rattle.client_link.specs.Having.{ShowsClient, own}
+use Rattle.client_link.specs.Running.{RunsPlan, starting}
+use Rattle.client_link.specs.Talking.{Talk}
+use Rattle.client_text.specs.Ops.{plan_of}
+use Rattle.client_text.specs.Reports.{report_of}
+use Rattle.cluster_file.specs.Listing.{Listing}
+use Rattle.cluster_file.specs.Text.{cluster_in}
+use Rattle.keyring.specs.declared.verifier.Verifier as verifiers
+use Rattle.keyring.specs.declared.signer.Signer as signers
+use Rattle.node_link.specs.Asking.{RoseBy}
+use Rattle.node_link.specs.Serving.{next_moment}
+use Rattle.party_seat.specs.Clients.{SeatedClient, client_in}
+use Rattle.party_seat.specs.declared.client.ClientSeat.{ClientSeat}
+use Rattle.party_seat.specs.declared.fault.SeatFault.{SeatFault}
+use Rattle.party_seat.specs.declared.fault.SeatFault.TheVariants as seats
+use Rattle.schedule_text.specs.Fields.{number_in}
+use Rattle.schedule_text.specs.Tokens.{Token}
+use Rattle.schedule_text.specs.declared.reason.Reason.TheVariants.{RefusedCall}
+use Rattle.basil_cli.specs.Answers.{Answers, Counts, IsTold}
+use Rattle.basil_cli.specs.Commands.{hex_of, said}
+use Rattle.basil_cli.specs.Nodes.{file_reason, node_of, seat_reason}
+use Rattle.basil_cli.specs.Outcome.{Outcome, BadLine, TooLong, Undecided, Written, is_too_long}
+use Rattle.basil_cli.specs.Parts.{outcome_is}
+use Rattle.basil_cli.specs.declared.client.ClientCall.{ClientCall}
+use Rattle.basil_cli.specs.declared.ending.Ending.{Ending}
+use Rattle.basil_cli.specs.declared.input.InputFail.{InputFail}
+use Rattle.basil_cli.specs.declared.input.InputFail.TheVariants as input
+use Rattle.basil_cli.specs.declared.parties.PartyCall.{PartyCall}
+use Rattle.basil_cli.specs.declared.parties.PartyCall.TheVariants as parties
+use Rattle.basil_cli.specs.declared.status.Status.{Status}
+use Rattle.basil_cli.specs.declared.status.Status.TheVariants as ends
+
+-- ---- its arguments
+
+abbrev pub client_seat_with : Option ℕ → Option (List ℕ) → Option ℕ → Option ClientSeat
+client_seat_with (Some number) (Some seed) (Some leaf) =
+    Some (record { number = number; seed = seed; leaf = leaf })
+client_seat_with _ _ _ = None
+
+-- C SEED LEAF: a number from 1 to 16, 32 bytes, and the first leaf that may be used
+abbrev pub client_seat_of : Token → Token → Token → Option ClientSeat
+client_seat_of number seed leaf =
+    client_seat_with (said (number_in 1 16 number)) (hex_of 32 seed) (said (number_in 0 1024 leaf))
+
+abbrev pub client_call_with : Option ClientSeat → Option (List Op) → Option ClientCall
+client_call_with (Some seat) (Some plan) = Some (record { seat = seat; plan = plan })
+client_call_with _ _ = None
+
+-- C SEED LEAF OP...
+abbrev pub client_call_of : List Token → Option ClientCall
+client_call_of (number ∷ seed ∷ leaf ∷ ops) = client_call_with (client_seat_of number seed leaf) (plan_of ops)
+client_call_of _ = None
+
+-- `client C SEED LEAF OP...`
+abbrev pub client_of : List Token → Option ClientCall
+client_of [] = None
+client_of (name ∷ arguments) = if bytes_eq name (codes "client") then client_call_of arguments else None
+
+-- arguments that call neither a node nor a client
+pub record CallsNone (arguments : List Token) : Type 0 where
+  pub no_node : node_of arguments ≡ None
+  pub no_client : client_of arguments ≡ None
+
+-- they call this party, or none
+abbrev pub IsPartyCall : List Token → Option PartyCall → Type 0
+IsPartyCall arguments None = CallsNone arguments
+IsPartyCall arguments (Some (parties.Node call)) = node_of arguments ≡ Some call
+IsPartyCall arguments (Some (parties.Client call)) = client_of arguments ≡ Some call
+
+-- few connections, or a client's number
+abbrev pub IsReady : Option PartyCall → Type 0
+IsReady None = ⊤
+IsReady (Some (parties.Node call)) = call.connections ≤ 1000000
+IsReady (Some (parties.Client call)) = (1 ≤ call.seat.number) × (call.seat.number ≤ 16)
+
+-- ---- its seat
+
+-- the cluster's file, and the client that sits in it
+pub record ClientStation : Type 0 where
+  pub listing : Listing
+  pub seated : SeatedClient
+
+abbrev pub client_seated : Listing → Result SeatedClient SeatFault → Result ClientStation Outcome
+client_seated l (Ok seated) = Ok (record { listing = l; seated = seated })
+client_seated l (Err fault) = Err (BadLine 1 (seat_reason fault))
+
+abbrev pub client_seated_in : Result Listing ℕ → ClientSeat → Result ClientStation Outcome
+client_seated_in (Ok l) seat = client_seated l (client_in l seat)
+client_seated_in (Err number) seat = Err (BadLine 1 (file_reason number))
+
+-- where a client sits that has this file, or what its file and its seat lead to instead
+abbrev pub client_station : ClientSeat → List ℕ → Result ClientStation Outcome
+client_station seat bytes = if is_too_long bytes then Err TooLong else client_seated_in (cluster_in bytes) seat
+
+-- ---- what it comes to
+
+-- its time: the clock's moment, 1 at least
+abbrev pub time_at : (moments : List ℕ) → ℕ
+time_at moments = max (next_moment moments) 1
+
+-- a run that ended so; its transaction is the first that the client holds
+abbrev pub outcome_of_run : ClientSelf → List Op → ClientValue → Option RunFault → Outcome
+outcome_of_run me plan v None = Written (report_of me 0 plan v)
+outcome_of_run me plan v (Some (runs.Undecided replies)) = Undecided replies
+outcome_of_run me plan v (Some (runs.Call fault)) = BadLine 1 RefusedCall
+outcome_of_run me plan v (Some runs.NoMemory) = BadLine 1 RefusedCall
+
+-- how a run of code ended
+abbrev pub end_of : Result ℕ RunFault → Option RunFault
+end_of (Ok slot) = None
+end_of (Err fault) = Some fault
+
+-- what a seat that isn't given leads to, unless memory is wanting
+abbrev pub SeatTold : SeatFault → Result Ending InputFail → Type 0
+SeatTold seats.NoMemory result = result ≡ Err input.NoMemory
+SeatTold fault result = IfOk result (λ e. outcome_is e ≡ BadLine 1 (seat_reason fault))
+
+-- an ending of a run
+pub data IsRunEnding (outcome : Outcome) : Type 0 where
+  Reported : (text : List ℕ) → outcome ≡ Written text → IsRunEnding outcome
+  Open : (replies : ℕ) → outcome ≡ Undecided replies → IsRunEnding outcome
+  CallRefused : outcome ≡ BadLine 1 RefusedCall → IsRunEnding outcome
+
+-- a client before its first call is the one that sits in this file
+pub record SitsInFile {V S : Type 0} {v : verifiers.Ghosts V} {g : signers.Ghosts S} (client : Client V S v g)
+    (file : Listing) (s : ClientStation) : Type 0 where
+  pub me : own client ≡ s.seated.me
+  pub shows : ShowsClient client s.seated.client
+  pub listing_is : file ≡ s.listing
+  pub first : length s.seated.client.slots ≡ 0
+
+-- it made a run over links that told this, in which so many calls of the links failed as their count rose at least, and
+-- came to that outcome
+pub record RanTo (s : ClientStation) (plan : List Op) (moments : List ℕ) (state : LinkState) (told : Option LinkState)
+    (before now : ℕ) (outcome : Outcome) : Type 0 where
+  pub end : Option RunFault
+  pub new : Talk
+  pub failed : ℕ
+  pub ran : RunsPlan s.seated.me s.listing (time_at moments) plan (starting s.seated.client state) failed end new
+  pub links : told ≡ Some new.links
+  pub risen : RoseBy failed before now
+  pub is : outcome ≡ outcome_of_run s.seated.me plan new.client end
+
+-- and told it
+pub record ToldRun (s : ClientStation) (plan : List Op) (moments : List ℕ) (state : LinkState) (told : Option LinkState)
+    (counts : Counts) (status : Status) (taken_before taken_now : Option (List ℕ)) : Type 0 where
+  pub outcome : Outcome
+  pub ran : RanTo s plan moments state told counts.links_before counts.links_now outcome
+  pub answers : Answers status outcome counts taken_before taken_now
+
+-- a client in its seat is done, undecided or refused a call, another has the status of what is refused; or memory is
+-- wanting
+abbrev pub IsClientTold : Status → Result ClientStation Outcome → Type 0
+IsClientTold status (Ok s) =
+    (status ≡ ends.Done) ⊎ ((replies : ℕ) × (status ≡ ends.Undecided replies))
+    ⊎ (status ≡ ends.BadInput 1 RefusedCall) ⊎ (status ≡ ends.NoMemory)
+IsClientTold status (Err refusal) = IsTold status refusal
