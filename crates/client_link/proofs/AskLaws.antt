@@ -1,10 +1,10 @@
 -- Asks, one after another, until nothing waits.
-use Rattle.std.proofs.Common.{◌≡◌, ℕ, zero, suc, ◌+◌, ◌-◌, ◌*◌, ◌^◌, ◌<◌, ◌≤◌, Bool, true, false, List, [], ◌∷◌, ◌++◌, length, drop}
-use Rattle.std.proofs.Common.{Option, Some, None, fold, min, refl, sym, ap, subst, ◌∙◌, append-nil, arith}
+use Rattle.std.proofs.Common.{◌≡◌, ℕ, zero, suc, ◌+◌, ◌*◌, ◌<◌, ◌≤◌, Bool, true, false, List, [], ◌∷◌, ◌++◌, length, drop}
+use Rattle.std.proofs.Common.{Option, Some, None, refl, sym, ap, subst, ◌∙◌, arith}
 use Rattle.std.specs.Prelude.{IfOk, Result, Ok, Err, slice_get}
 use Rattle.basil_types.specs.declared.memory.NoMemory.{NoMemory}
 use Rattle.std.proofs.lemmas.Bool.{both_ways}
-use Rattle.std.proofs.lemmas.List.{drop_all, length-append}
+use Rattle.std.proofs.lemmas.List.{drop_all}
 use Rattle.basil_types.specs.declared.outbox.Envelope.{Envelope}
 use Rattle.basil_types.specs.Links.{LinkState}
 use Rattle.basil_types.specs.Setting.{Setting}
@@ -19,7 +19,7 @@ use Rattle.node_link.specs.Asking.{Fate, Answered, IsAsked, RoseBy, failures_of}
 use Rattle.client_link.specs.declared.errands.Errands.{Errands}
 use Rattle.client_link.specs.Having.{HasAskedAll, HasAskedOne, HasAskedSome, HasTaken, IsAskedAt, IsTalk, SameWork, ShowsClient}
 use Rattle.client_link.specs.Having.{Speaks, own, work_left}
-use Rattle.client_link.specs.Talking.{AsksAll, Talk, asking, asks, asks_first, asks_next, failures, given_at, links_after, takes_all}
+use Rattle.client_link.specs.Talking.{Talk, asking, asks, asks_first, asks_next, failures, given_at, links_after, takes_all}
 use Rattle.client_link.proofs.TalkLaws.{speaks_same, speaks_then}
 
 pub on_ok : {T E : Type 0} (r : Result T E) {P Q : T → Type 0} → ((x : T) → P x → Q x) → IfOk r P → IfOk r Q
@@ -95,7 +95,7 @@ module _ {V S : Type 0} {v : verifiers.Ghosts V} {g : signers.Ghosts S} (old : C
   next_at =
       let count : length next.out.messages.items ≡ length e.out.messages.items = ap length same in
       let number-is : links_after asked.fate (address_in l message.to) (asking number message) t.links ≡
-          links_after asked.fate (address_in l message.to) (asking old.seat.number message) t.links =
+      links_after asked.fate (address_in l message.to) (asking old.seat.number message) t.links =
       ap (λ (n : ℕ). links_after asked.fate (address_in l message.to) (asking n message) t.links) mine in
       let one : next.asked ≡ suc e.asked = omega (arith, more) in
       record {

@@ -1,11 +1,10 @@
 -- What a talk comes to as an answer is taken.
-use Rattle.std.proofs.Common.{◌≡◌, ◌≢◌, ℕ, zero, suc, ◌+◌, ◌-◌, ◌<◌, ◌≤◌, Bool, true, false, cond, List, [], ◌∷◌, ◌++◌, length, drop}
-use Rattle.std.proofs.Common.{Option, Some, None, Result, Ok, Err, not, refl, sym, ap, subst, ◌∙◌, arith}
-use Rattle.std.specs.Prelude.{◌||◌, ◌==◌, map, option_to_list}
+use Rattle.std.proofs.Common.{◌≡◌, ℕ, zero, suc, ◌+◌, ◌-◌, ◌≤◌, Bool, true, false, cond, List, [], ◌∷◌, ◌++◌, length, drop}
+use Rattle.std.proofs.Common.{Option, Ok, Err, not, refl, sym, ap, subst, ◌∙◌, arith}
+use Rattle.std.specs.Prelude.{◌||◌, ◌==◌, map}
 use Rattle.std.proofs.lemmas.Bool.{eq-eqb, eqb-false, eqb-true, ne_eqb, not-false, not-true}
-use Rattle.std.proofs.lemmas.List.{length-append, drop-append-le, append-nil}
+use Rattle.std.proofs.lemmas.List.{length-append, drop-append-le}
 use Rattle.basil_types.specs.declared.outbox.Envelope.{Envelope}
-use Rattle.basil_types.specs.declared.outbox.Outbox.{Outbox}
 use Rattle.basil_types.specs.Links.{LinkState}
 use Rattle.basil_types.specs.Setting.{Setting}
 use Rattle.certificates.specs.declared.fault.FrameFault.{FrameFault}
@@ -13,8 +12,8 @@ use Rattle.client_core.specs.Answers.{on_frame}
 use Rattle.client_core.specs.Clients.{ClientDone, ClientSelf, ClientValue}
 use Rattle.client_core.specs.declared.client.Client.{Client}
 use Rattle.client_core.specs.Done.{KeepsSlots, SameOutbox, Sends}
-use Rattle.client_laws.specs.Saying.{Says, SpeaksTwice, said}
-use Rattle.client_laws.specs.Steps.{Frame, left_by, step}
+use Rattle.client_laws.specs.Saying.{Says, SpeaksTwice}
+use Rattle.client_laws.specs.Steps.{left_by}
 use Rattle.keyring.specs.declared.verifier.Verifier as verifiers
 use Rattle.keyring.specs.declared.signer.Signer as signers
 use Rattle.node_steps.specs.Framed.{framed}

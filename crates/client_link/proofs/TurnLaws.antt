@@ -1,8 +1,7 @@
 -- The calls of a run, and how it goes on from them.
 use Rattle.std.proofs.Common.{◌≡◌, ◌≢◌, ℕ, zero, suc, drop, ◌+◌, ◌<◌, ◌≤◌, Bool, true, false, cond, List, [], ◌∷◌, ◌++◌, length, Option, Some, None}
-use Rattle.std.proofs.Common.{Result, Ok, Err, is_some, refl, sym, ap, subst, ◌∙◌, append-nil, append_assoc, arith}
-use Rattle.std.specs.Prelude.{map, slice_get, option_map, option_and_then, not, nat_lt}
-use Rattle.std.specs.Option.{option_map_or}
+use Rattle.std.proofs.Common.{Result, Ok, Err, is_some, refl, sym, ap, subst, ◌∙◌, append-nil, arith}
+use Rattle.std.specs.Prelude.{map, slice_get, not, nat_lt}
 use Rattle.basil_types.specs.declared.transaction.parts.WritePart.{WritePart}
 use Rattle.basil_types.specs.Links.{LinkState}
 use Rattle.client_core.specs.declared.client.Client.{Client}
@@ -11,8 +10,7 @@ use Rattle.client_core.specs.declared.fault.CallFault.TheVariants as calls
 use Rattle.basil_types.specs.Transaction.{TransactionValue}
 use Rattle.client_core.specs.Calls.{begin_done, by_slot, call_begin, call_invoke, call_recover, call_write, write_done, write_fault}
 use Rattle.client_core.specs.Clients.{ClientDone, ClientSelf, ClientValue, SlotValue, quiet}
-use Rattle.client_core.specs.Done.{Calls, KeepsSlots, SameOutbox, Sends}
-use Rattle.client_core.specs.Slots.{held_in, outcome_in, value}
+use Rattle.client_core.specs.Done.{KeepsSlots, SameOutbox, Sends}
 use Rattle.cluster_file.specs.Listing.{Listing}
 use Rattle.keyring.specs.declared.verifier.Verifier as verifiers
 use Rattle.keyring.specs.declared.signer.Signer as signers
@@ -23,15 +21,15 @@ use Rattle.client_link.specs.declared.errands.Errands.{Errands}
 use Rattle.client_link.specs.declared.op.Op.{Op}
 use Rattle.client_link.specs.declared.fault.RunFault.{RunFault}
 use Rattle.client_link.specs.declared.fault.RunFault.TheVariants.{Undecided, Call, NoMemory}
-use Rattle.client_link.specs.Having.{ComesTo, EndsIn, GoesTo, HasAskedAll, HasCalled, HasCome, HasEnded, HasGone, HasRun, HasTurned}
+use Rattle.client_link.specs.Having.{ComesTo, HasAskedAll, HasCalled, HasCome, HasEnded, HasGone, HasRun, HasTurned}
 use Rattle.client_link.specs.Having.{IsTalk, OnEnd, ShowsClient, fault_told, own}
-use Rattle.client_link.specs.Running.{Calling, Going, Runs, RunsBegun, RunsPlan, Stops, StopsOr, Turn, closing, ending, held_at, if_logged, never, outcome_at}
+use Rattle.client_link.specs.Running.{Calling, Runs, RunsBegun, RunsPlan, StopsOr, Turn, closing, ending, held_at, if_logged, outcome_at}
 use Rattle.client_link.specs.Running.{formed_at, invokes, recovers, recovery, sends, starting, turns_of}
 use Rattle.frame_views.specs.Values.{SignedValue}
 use Rattle.client_link.specs.declared.closing.Stage.{Stage}
 use Rattle.client_link.specs.declared.closing.Stage.TheVariants as stages
 use Rattle.client_link.specs.Stages.{stage_turn}
-use Rattle.client_link.specs.Talking.{AsksAll, Talk, answered}
+use Rattle.client_link.specs.Talking.{Talk}
 use Rattle.client_link.proofs.TalkLaws.{talk_same, talk_sent}
 use Rattle.client_link.proofs.AskLaws.{rose_none, rose_then}
 
@@ -64,10 +62,13 @@ module _ {V S : Type 0} {v : verifiers.Ghosts V} {g : signers.Ghosts S} (old new
   -- without
   pub called_still : (answer : Result ClientDone CallFault) (d : ClientDone) → answer ≡ Ok d → ShowsClient new d.client → d.sent ≡ [] →
       after.out.messages.items ≡ e.out.messages.items → HasCalled new told after t answer (Ok tt)
-  called_still answer d is shows none same =
-      (d, is, talk_sent old new told e after t d at shows
-      (same ∙ sym (append-nil e.out.messages.items)
-      ∙ ap (λ sent. e.out.messages.items ++ map framed sent) (sym none)) asked left)
+  called_still answer d is shows none same = (
+    d,
+    is,
+    talk_sent old new told e after t d at shows
+        (same ∙ sym (append-nil e.out.messages.items)
+        ∙ ap (λ sent. e.out.messages.items ++ map framed sent) (sym none)) asked left,
+  )
 
   -- not at all
   pub called_err : (answer : Result ClientDone CallFault) (fault : CallFault) → (fault ≢ calls.NoMemory → answer ≡ Err fault) →
@@ -478,20 +479,20 @@ module _ {V S : Type 0} {v : verifiers.Ghosts V} {g : signers.Ghosts S} (client 
       }
 
   module _ (mine : ClientSelf) (same : mine ≡ me) (slot : ℕ) (d : ClientDone) (begun : call_begin w time ≡ Ok d) (at : slot ≡ length w.slots)
-      where
-    abbrev Ran : ClientSelf → Option RunFault → Type 0
-    Ran m end = HasRun client told (Runs m l slot (turns_of m slot plan ++ closing m slot)) (starting d.client s) before now end
+    where
+      abbrev Ran : ClientSelf → Option RunFault → Type 0
+      Ran m end = HasRun client told (Runs m l slot (turns_of m slot plan ++ closing m slot)) (starting d.client s) before now end
 
-    -- it came through
-    pub run_begun : Ran mine None → HasRun client told (RunsPlan me l time plan) (starting w s) before now None
-    run_begun h = begun_end slot d None begun at (subst (λ m. Ran m None) same h)
+      -- it came through
+      pub run_begun : Ran mine None → HasRun client told (RunsPlan me l time plan) (starting w s) before now None
+      run_begun h = begun_end slot d None begun at (subst (λ m. Ran m None) same h)
 
-    -- it didn't
-    pub run_begun_err : (fault : RunFault) → OnEnd {T = Unit {0}} (Err fault) (Ran mine) →
-        OnEnd {T = ℕ} (Err fault) (HasRun client told (RunsPlan me l time plan) (starting w s) before now)
-    run_begun_err (Undecided replies) h = begun_end slot d _ begun at (subst (λ m. Ran m (Some (Undecided replies))) same h)
-    run_begun_err (Call fault) h = begun_end slot d _ begun at (subst (λ m. Ran m (Some (Call fault))) same h)
-    run_begun_err NoMemory h = tt
+      -- it didn't
+      pub run_begun_err : (fault : RunFault) → OnEnd {T = Unit {0}} (Err fault) (Ran mine) →
+          OnEnd {T = ℕ} (Err fault) (HasRun client told (RunsPlan me l time plan) (starting w s) before now)
+      run_begun_err (Undecided replies) h = begun_end slot d _ begun at (subst (λ m. Ran m (Some (Undecided replies))) same h)
+      run_begun_err (Call fault) h = begun_end slot d _ begun at (subst (λ m. Ran m (Some (Call fault))) same h)
+      run_begun_err NoMemory h = tt
 
   -- the client refuses to begin
   unbegun_end : (fault : CallFault) → call_begin w time ≡ Err fault → ShowsClient client w → told ≡ Some s → before ≤ now →

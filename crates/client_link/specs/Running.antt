@@ -1,6 +1,6 @@
 -- A transaction that a client carries through over its links: its reads and writes, stages 1 and 2 (Basil, sections 4
 -- and 5), and at most two rounds of recovery.
-use Rattle.std.specs.Prelude.{◌≡◌, ℕ, ◌+◌, List, [], ◌∷◌, ◌++◌, map, length, Bool, true, false, Option, Some, None, is_some}
+use Rattle.std.specs.Prelude.{◌≡◌, ℕ, ◌+◌, List, [], ◌∷◌, ◌++◌, length, Bool, true, false, Option, Some, None, is_some}
 use Rattle.std.specs.Prelude.{Result, Ok, Err, option_and_then, slice_get, if◌then◌else◌}
 use Rattle.std.specs.Option.{option_map_or}
 use Rattle.basil_types.specs.Links.{LinkState}

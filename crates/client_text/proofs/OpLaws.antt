@@ -1,5 +1,5 @@
 -- Arguments are read one after another.
-use Rattle.std.proofs.Common.{◌≡◌, List, [], ◌∷◌, ◌++◌, Option, Some, None, refl, sym, ap, ◌∙◌, append_assoc, append-nil}
+use Rattle.std.proofs.Common.{◌≡◌, List, [], ◌∷◌, ◌++◌, Option, Some, None, refl, ap, append_assoc, append-nil}
 use Rattle.std.specs.Prelude.{option_map}
 use Rattle.client_link.specs.declared.op.Op.{Op}
 use Rattle.client_text.specs.Ops.{before}

@@ -1,8 +1,8 @@
 -- An answer is read piece by piece, and an ask is answered, or a call of it fails.
-use Rattle.std.proofs.Common.{◌≡◌, ℕ, zero, suc, ◌+◌, ◌-◌, ◌<◌, ◌≤◌, Bool, true, false, List, [], ◌∷◌, ◌++◌, length, take, drop, min}
-use Rattle.std.proofs.Common.{Option, Some, None, Result, Ok, Err, OnErr, is_some, not, refl, sym, ap, subst, ◌∙◌, append_assoc, arith}
+use Rattle.std.proofs.Common.{◌≡◌, ℕ, ◌+◌, ◌-◌, ◌<◌, ◌≤◌, true, List, [], ◌∷◌, ◌++◌, length, take, drop, min}
+use Rattle.std.proofs.Common.{Option, Some, None, Result, Ok, Err, is_some, refl, sym, ap, subst, ◌∙◌, append_assoc, arith}
 use Rattle.std.proofs.Common.{inl, inr}
-use Rattle.std.specs.Prelude.{◌⊎◌, ◌||◌, ◌&&◌, IfOk, nat_le, nat_lt, option_map}
+use Rattle.std.specs.Prelude.{◌||◌, IfOk, nat_le, option_map}
 use Rattle.std.specs.Int.{w32, from_be_bytes}
 use Rattle.std.specs.Io.KnownBytes.{Consumes, IsAtEnd}
 use Rattle.std.proofs.lemmas.Bool.{le-leb, leb-true, or_cases}
@@ -12,11 +12,11 @@ use Rattle.basil_types.specs.Causes.{Rose}
 use Rattle.basil_types.specs.declared.links.LinkFail.{LinkFail}
 use Rattle.basil_types.specs.declared.memory.NoMemory.{NoMemory}
 use Rattle.basil_types.specs.declared.outbox.Envelope.{Envelope}
-use Rattle.basil_types.specs.Links.{LinkState, WrotePrefix, accepts, closes, first_of, opens, reads, unread, writes}
+use Rattle.basil_types.specs.Links.{LinkState, WrotePrefix, closes, first_of, opens, reads, unread, writes}
 use Rattle.basil_types.specs.Setting.{Setting}
 use Rattle.node_link.specs.declared.cause.EndCause.{EndCause}
-use Rattle.node_link.specs.Asking.{Fate, Answered, Unopened, Cut, IsAsked, IsCut, IsLeft, IsOpen, IsTalked, Whole, Failing, ReadsAnswer}
-use Rattle.node_link.specs.Asking.{ReadsByte, ReadsCount, RoseBy, answer_in, answer_limit, envelopes_in, read_of, so_many}
+use Rattle.node_link.specs.Asking.{Answered, Unopened, Cut, IsAsked, IsCut, IsLeft, IsOpen, IsTalked, Whole, Failing, ReadsAnswer}
+use Rattle.node_link.specs.Asking.{ReadsByte, ReadsCount, answer_in, answer_limit, envelopes_in, read_of, so_many}
 use Rattle.node_link.specs.Dialogue.{Dialogue, connection_limit, dialogue_of}
 use Rattle.node_link.specs.Standing.{Reading, Stands}
 use Rattle.node_link.proofs.StandingLaws.{envelopes_grow, ended_stays}

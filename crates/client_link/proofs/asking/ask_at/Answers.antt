@@ -1,5 +1,5 @@
 -- An address is asked.
-use Rattle.std.proofs.Common.{rules, ap}
+use Rattle.std.proofs.Common.{rules}
 use Rattle.client_link.proofs.AskLaws.{asked_at_if}
 use Rattle.client_link.proofs.asking.ask_at.Goals as goal
 

@@ -1,8 +1,8 @@
 -- The first message that waits is asked, and its answer taken.
-use Rattle.std.proofs.Common.{rules, ◌≡◌, ◌+◌, ◌∙◌, Some, refl, sym, ap}
+use Rattle.std.proofs.Common.{rules, ◌≡◌, ◌+◌, Some, refl}
 use Rattle.std.specs.Prelude.{slice_get}
 use Rattle.client_link.specs.declared.errands.Errands.{Errands}
-use Rattle.client_link.proofs.AskLaws.{has_asked_one, next_at, next_is, on_ok, talk_next}
+use Rattle.client_link.proofs.AskLaws.{has_asked_one, next_at, next_is, on_ok}
 use Rattle.client_link.proofs.asking.ask_next.Goals as goal
 
 pub returns-in-Ok-clause-asked : goal.returns-in-Ok-clause-asked

@@ -1,5 +1,5 @@
 -- A decided transaction isn't recovered, nor one that isn't formed.
-use Rattle.std.proofs.Common.{Some, refl, sym, ap, ◌∙◌}
+use Rattle.std.proofs.Common.{refl, sym, ap, ◌∙◌}
 use Rattle.std.specs.Prelude.{option_map}
 use Rattle.client_core.specs.Seats.{self_at}
 use Rattle.client_link.specs.Stages.{shown_copy}

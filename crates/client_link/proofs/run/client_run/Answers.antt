@@ -2,7 +2,6 @@
 use Rattle.std.proofs.Common.{◌≡◌, rules, arith}
 use Rattle.client_core.specs.Clients.{ClientSelf}
 use Rattle.client_core.specs.Seats.{self_at}
-use Rattle.client_link.specs.Having.{own}
 use Rattle.client_link.proofs.TurnLaws.{run_begun, run_begun_err, run_unbegun}
 use Rattle.client_link.proofs.run.client_run.Goals as goal
 

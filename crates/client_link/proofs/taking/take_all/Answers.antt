@@ -1,5 +1,5 @@
 -- One more is taken at each turn.
-use Rattle.std.proofs.Common.{rules, ◌≡◌, ◌∷◌, [], Ok, sym, ap, ◌∙◌, refl}
+use Rattle.std.proofs.Common.{rules, ◌≡◌, ◌∷◌, [], Ok, sym, ap, ◌∙◌}
 use Rattle.std.specs.Prelude.{◌||◌}
 use Rattle.std.proofs.lemmas.Bool.{or_left}
 use Rattle.client_link.proofs.TalkLaws.{taken_all, taking_more}
