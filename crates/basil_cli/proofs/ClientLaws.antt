@@ -1,7 +1,7 @@
 -- What holds of a client's arguments, of its seat, and of what it comes to.
 use Rattle.std.proofs.Common.{◌≡◌, ◌≤◌, ℕ, ◌∷◌, [], List, length, Bool, true, false, Option, Some, None, Result, Ok, Err}
 use Rattle.std.proofs.Common.{refl, sym, ap, subst, ◌∙◌, inl, inr, codes, arith}
-use Rattle.std.specs.Prelude.{◌⊎◌, IfSome, IfOk, IfErr, if◌then◌else◌, nat_lt}
+use Rattle.std.specs.Prelude.{IfSome, IfOk, IfErr, if◌then◌else◌, nat_lt}
 use Rattle.std.specs.Str.{bytes_eq}
 use Rattle.std.proofs.lemmas.Grind.{common_steps}
 use Rattle.std.proofs.lemmas.Slice.Eq.{bytes_eq-Decides}
@@ -19,18 +19,16 @@ use Rattle.client_link.specs.Running.{RunsPlan, starting}
 use Rattle.node_link.specs.Serving.{next_moment}
 use Rattle.keyring.specs.declared.verifier.Verifier as verifiers
 use Rattle.keyring.specs.declared.signer.Signer as signers
-use Rattle.party_seat.specs.Clients.{ClientSitsAt, SeatedClient, client_in}
+use Rattle.party_seat.specs.Clients.{ClientSitsAt, client_in}
 use Rattle.party_seat.specs.declared.client.ClientSeat.{ClientSeat}
-use Rattle.party_seat.specs.declared.fault.SeatFault.{SeatFault}
 use Rattle.schedule_text.specs.Tokens.{Token}
-use Rattle.schedule_text.specs.declared.reason.Reason.TheVariants.{RefusedCall}
 use Rattle.basil_cli.specs.Answers.{IsTold, status_of}
 use Rattle.basil_cli.specs.Clients.{CallRefused, ClientStation, IsClientTold, IsRunEnding, Open, RanTo, Reported, SitsInFile}
 use Rattle.basil_cli.specs.Clients.{client_call_of, client_of, client_seated, client_seated_in, client_station, end_of, outcome_of_run}
 use Rattle.basil_cli.specs.Clients.{time_at}
 use Rattle.basil_cli.specs.Commands.{command_of}
 use Rattle.basil_cli.specs.Nodes.{node_of}
-use Rattle.basil_cli.specs.Outcome.{BadLine, Outcome, TooLong, Undecided, Written, is_too_long, longest_input}
+use Rattle.basil_cli.specs.Outcome.{Outcome, TooLong, is_too_long, longest_input}
 use Rattle.basil_cli.specs.Parts.{IsWhole, outcome_is}
 use Rattle.basil_cli.specs.declared.client.ClientCall.{ClientCall}
 use Rattle.basil_cli.specs.declared.ending.Ending.{Ending}
@@ -173,35 +171,35 @@ wanting_ok (Err f) fail is P = tt
 module _ {V S : Type 0} {v : verifiers.Ghosts V} {g : signers.Ghosts S} (client : Client V S v g) (me : ClientSelf) (file : Listing)
     (s : ClientStation) (plan lent : List Op) (moments : List ℕ) (state : LinkState) (told : Option LinkState) (before now time : ℕ)
     (is : me ≡ s.seated.me) (self : own client ≡ me) (listing : file ≡ s.listing) (at : time ≡ time_at moments) (same : lent ≡ plan)
-    where
-  ran_end : (end : Option RunFault) (result : Result Ending InputFail) →
-      HasRun client told (RunsPlan me file time lent) (starting s.seated.client state) before now end →
-      ((w : ClientValue) → ShowsClient client w → IfOk result (λ e. outcome_is e ≡ outcome_of_run (own client) plan w end)) →
-      IfOk result (λ e. RanTo s plan moments state told before now (outcome_is e))
-  ran_end end (Ok e) h tells =
-      record {
-        end = end;
-        new = h.new;
-        failed = h.failed;
-        ran = subst (λ (m : ClientSelf). RunsPlan m s.listing (time_at moments) plan (starting s.seated.client state) h.failed end h.new) is
-            (subst (λ (l : Listing). RunsPlan me l (time_at moments) plan (starting s.seated.client state) h.failed end h.new) listing
-            (subst (λ (k : ℕ). RunsPlan me file k plan (starting s.seated.client state) h.failed end h.new) at
-            (subst (λ (p : List Op). RunsPlan me file time p (starting s.seated.client state) h.failed end h.new) same h.runs_so)));
-        links = h.links;
-        risen = h.risen;
-        is = tells h.new.client h.client_is ∙ ap (λ (m : ClientSelf). outcome_of_run m plan h.new.client end) (self ∙ is);
-      }
-  ran_end end (Err fail) h tells = tt
+  where
+    ran_end : (end : Option RunFault) (result : Result Ending InputFail) →
+        HasRun client told (RunsPlan me file time lent) (starting s.seated.client state) before now end →
+        ((w : ClientValue) → ShowsClient client w → IfOk result (λ e. outcome_is e ≡ outcome_of_run (own client) plan w end)) →
+        IfOk result (λ e. RanTo s plan moments state told before now (outcome_is e))
+    ran_end end (Ok e) h tells =
+        record {
+          end = end;
+          new = h.new;
+          failed = h.failed;
+          ran = subst (λ (m : ClientSelf). RunsPlan m s.listing (time_at moments) plan (starting s.seated.client state) h.failed end h.new) is
+              (subst (λ (l : Listing). RunsPlan me l (time_at moments) plan (starting s.seated.client state) h.failed end h.new) listing
+              (subst (λ (k : ℕ). RunsPlan me file k plan (starting s.seated.client state) h.failed end h.new) at
+              (subst (λ (p : List Op). RunsPlan me file time p (starting s.seated.client state) h.failed end h.new) same h.runs_so)));
+          links = h.links;
+          risen = h.risen;
+          is = tells h.new.client h.client_is ∙ ap (λ (m : ClientSelf). outcome_of_run m plan h.new.client end) (self ∙ is);
+        }
+    ran_end end (Err fail) h tells = tt
 
-  pub ran_to : (ran : Result ℕ RunFault) (result : Result Ending InputFail) →
-      OnEnd ran (HasRun client told (RunsPlan me file time lent) (starting s.seated.client state) before now) →
-      (ran ≡ Err runs.NoMemory → (P : Ending → Type 0) → IfOk result P) →
-      ((w : ClientValue) → ShowsClient client w → IfOk result (λ e. outcome_is e ≡ outcome_of_run (own client) plan w (end_of ran))) →
-      IfOk result (λ e. RanTo s plan moments state told before now (outcome_is e))
-  ran_to (Ok slot) result h wanting tells = ran_end None result h tells
-  ran_to (Err (runs.Undecided replies)) result h wanting tells = ran_end (Some (runs.Undecided replies)) result h tells
-  ran_to (Err (runs.Call fault)) result h wanting tells = ran_end (Some (runs.Call fault)) result h tells
-  ran_to (Err runs.NoMemory) result h wanting tells = wanting refl _
+    pub ran_to : (ran : Result ℕ RunFault) (result : Result Ending InputFail) →
+        OnEnd ran (HasRun client told (RunsPlan me file time lent) (starting s.seated.client state) before now) →
+        (ran ≡ Err runs.NoMemory → (P : Ending → Type 0) → IfOk result P) →
+        ((w : ClientValue) → ShowsClient client w → IfOk result (λ e. outcome_is e ≡ outcome_of_run (own client) plan w (end_of ran))) →
+        IfOk result (λ e. RanTo s plan moments state told before now (outcome_is e))
+    ran_to (Ok slot) result h wanting tells = ran_end None result h tells
+    ran_to (Err (runs.Undecided replies)) result h wanting tells = ran_end (Some (runs.Undecided replies)) result h tells
+    ran_to (Err (runs.Call fault)) result h wanting tells = ran_end (Some (runs.Call fault)) result h tells
+    ran_to (Err runs.NoMemory) result h wanting tells = wanting refl _
 
 -- what was told is an ending's, or memory was wanting
 pub ending_told : (status : Status) (outcome : Outcome) → IsRunEnding outcome → IsTold status outcome → (s : ClientStation) →

@@ -25,7 +25,7 @@ use crate::ending::Ending;
 use crate::input::{InputFail, Whole, read_whole};
 use crate::node::{file_reason, read_first_leaf};
 use crate::status::Status;
-use crate::writing::{write_ending};
+use crate::writing::write_ending;
 use basil_types::clock::Clock;
 use basil_types::links::Links;
 use basil_types::memory::NoMemory;
@@ -100,7 +100,10 @@ fn read_client_call(alloc: Global, arguments: &[String]) -> Result<Option<Client
 }
 
 /// The call of a client that the arguments spell; none where they spell none.
-pub(crate) fn read_client(alloc: Global, arguments: &[String]) -> Result<Option<ClientCall>, NoMemory>
+pub(crate) fn read_client(
+    alloc: Global,
+    arguments: &[String],
+) -> Result<Option<ClientCall>, NoMemory>
     ensures value { IfOk result (λ call. call ≡ clients.client_of (map string_bytes arguments.now)) }
     ensures range { IfOk result (λ call. IfSome call (λ c. (1 ≤ c.seat.number) × (c.seat.number ≤ 16))) }
 {
@@ -209,7 +212,15 @@ fn run_in<L: Links, C: Clock>(
     match client_of(alloc, file, &call.seat) {
         Ok(seated) => {
             let mut client = seated;
-            run_at(alloc, &mut client, call.seat.number, file, &call.plan, links, clock)
+            run_at(
+                alloc,
+                &mut client,
+                call.seat.number,
+                file,
+                &call.plan,
+                links,
+                clock,
+            )
         }
         Err(fault) => seat_ending(fault),
     }
