@@ -399,6 +399,7 @@ const STATUSES: &[Told] = &[
         10,
         "full 2 124",
     ),
+    (Status::Undecided { replies: 5 }, 11, "undecided 5"),
     (Status::TooLong, 12, "too long 16777216"),
 ];
 

@@ -61,9 +61,7 @@ const ANSWERS: &[(&[u8], &[u8])] = &[
     // It ends before the second envelope is whole.
     (&[0, 0, 0, 2, 1, 0, 1, 0, 0, 0, 1, 3], &[]),
     (
-        &[
-            0, 0, 0, 2, 1, 0, 1, 0, 0, 0, 1, 3, 0, 1, 5, 0, 0, 0, 2, 4,
-        ],
+        &[0, 0, 0, 2, 1, 0, 1, 0, 0, 0, 1, 3, 0, 1, 5, 0, 0, 0, 2, 4],
         &[],
     ),
     // The second envelope has a party that isn't there, and then a length of 0.
@@ -106,7 +104,10 @@ fn long_answer(alloc: Global, count: usize) -> Result<Vec<u8>, Fail> {
 fn sixty_four_envelopes_are_read(rt: HostRuntime) -> Result<(), Fail> {
     for (count, taken) in [(63, 0), (64, ANSWER_ENVELOPES), (65, ANSWER_ENVELOPES)] {
         let answer = long_answer(rt.alloc(), count)?;
-        assert!(rt; taken_of(rt.alloc(), &answer, &[])?.count == taken, "{count} envelopes");
+        assert!(rt;
+            taken_of(rt.alloc(), &answer, &[])?.count == taken,
+            "{count} envelopes"
+        );
     }
     Ok(())
 }

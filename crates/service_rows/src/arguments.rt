@@ -1,9 +1,12 @@
-//! Arguments that call no node.
+//! Arguments that call neither a node nor a client.
 
 use crate::frames::{FILE, SEED};
 use crate::support::{Given, run_given};
 use basil_cli::status::Status;
 use std::test::Fail;
+
+/// A key of 65 bytes.
+const LONG_KEY: &str = "w:aaaaaaaaaaaaaaaaaaaaaaaaaaaaaaaaaaaaaaaaaaaaaaaaaaaaaaaaaaaaaaaaa:x1";
 
 const ROWS: &[&[&str]] = &[
     // A word is missing, or one too many.
@@ -35,10 +38,32 @@ const ROWS: &[&[&str]] = &[
     // Another name.
     &["nodes", "0", "0", SEED, "0", "2"],
     &["Node", "0", "0", SEED, "0", "2"],
+    // A client without a word, and one without a read or write.
+    &["client"],
+    &["client", "1", SEED, "0"],
+    // C is 1 to 16.
+    &["client", "0", SEED, "0", "r:a"],
+    &["client", "17", SEED, "0", "r:a"],
+    &["client", "01", SEED, "0", "r:a"],
+    // SEED and LEAF as above.
+    &["client", "1", "c1", "0", "r:a"],
+    &["client", "1", SEED, "1025", "r:a"],
+    // A write has a value, and a key has 1 to 64 bytes.
+    &["client", "1", SEED, "0", "w:a:"],
+    &["client", "1", SEED, "0", "w:a"],
+    &["client", "1", SEED, "0", "w::x1"],
+    &["client", "1", SEED, "0", LONG_KEY],
+    &["client", "1", SEED, "0", "r:"],
+    // Neither a read nor a write.
+    &["client", "1", SEED, "0", "r"],
+    &["client", "1", SEED, "0", "d:a"],
+    &["client", "1", SEED, "0", "r:a", ""],
+    // Another name.
+    &["clients", "1", SEED, "0", "r:a"],
 ];
 
 #[test]
-fn other_arguments_are_no_node(rt: HostRuntime) -> Result<(), Fail> {
+fn other_arguments_are_no_party(rt: HostRuntime) -> Result<(), Fail> {
     for arguments in ROWS {
         let answer = run_given(rt.alloc(), arguments, FILE.as_bytes(), &Given::NOTHING)?;
         assert!(rt; answer.status == Status::BadWords, "{arguments:?}");

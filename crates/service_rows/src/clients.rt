@@ -1,0 +1,165 @@
+//! Clients that carry a transaction through.
+
+use crate::frames::{FILE, FIRST, NONE, VOTE, WRITEBACK};
+use crate::support::{Given, Hex, joined, run_given};
+use basil_cli::status::Status;
+use schedule_text::reason::Reason;
+use std::alloc::Global;
+use std::test::Fail;
+
+/// The arguments of `client`, what it is given, how it ends, and what it writes to its sink and to its links.
+type Row = (
+    &'static [&'static str],
+    Given,
+    Status,
+    &'static str,
+    &'static [Hex],
+);
+
+/// The SEED of client 1.
+const SEED: &str = "c1c1c1c1c1c1c1c1c1c1c1c1c1c1c1c1c1c1c1c1c1c1c1c1c1c1c1c1c1c1c1c1";
+
+/// A seed that isn't the client's.
+const OTHER: &str = "a1a1a1a1a1a1a1a1a1a1a1a1a1a1a1a1a1a1a1a1a1a1a1a1a1a1a1a1a1a1a1a1";
+
+/// It writes `x1` to `a`, as client 1 from leaf 0 on.
+const WRITE: &[&str] = &["client", "1", SEED, "0", "w:a:x1"];
+
+/// It reads `a`.
+const READ: &[&str] = &["client", "1", SEED, "0", "r:a"];
+
+/// The replica votes to commit, and takes the writeback.
+const VOTED: Given = Given {
+    connections: &[VOTE, NONE],
+    ..Given::NOTHING
+};
+
+/// The replica votes to commit, and is silent from then on.
+const VOTED_ONCE: Given = Given {
+    connections: &[VOTE],
+    ..Given::NOTHING
+};
+
+/// No link is made: a client asks fewer times than there are calls.
+const SILENT: Given = Given {
+    failing_links: &[1, 2, 3, 4, 5, 6, 7, 8, 9, 10, 11, 12, 13, 14, 15, 16],
+    ..VOTED
+};
+
+/// The file can't be read.
+const UNREAD: Given = Given {
+    failing_reads: &[1],
+    ..VOTED
+};
+
+/// The sink can't be written.
+const UNWRITTEN: Given = Given {
+    failing_writes: &[1],
+    ..VOTED
+};
+
+const REFUSED_CALL: Status = Status::BadInput {
+    line: 1,
+    reason: Reason::RefusedCall,
+};
+
+const OUT_OF_RANGE: Status = Status::BadInput {
+    line: 1,
+    reason: Reason::OutOfRange,
+};
+
+const WRONG_PARTY: Status = Status::BadInput {
+    line: 1,
+    reason: Reason::WrongParty,
+};
+
+const UNDECIDED: Status = Status::Undecided { replies: 0 };
+
+const ROWS: &[Row] = &[
+    // The transaction commits, and its certificate is told to the replica.
+    (WRITE, VOTED, Status::Done, "commit\n", &[FIRST, WRITEBACK]),
+    // That it isn't taken changes nothing.
+    (
+        WRITE,
+        VOTED_ONCE,
+        Status::Done,
+        "commit\n",
+        &[FIRST, WRITEBACK],
+    ),
+    // No replica is reached, with a write and with a read.
+    (WRITE, SILENT, UNDECIDED, "undecided 0\n", &[]),
+    (READ, SILENT, UNDECIDED, "undecided 0\n", &[]),
+    // No leaf is left for the first stage.
+    (
+        &["client", "1", SEED, "32", "w:a:x1"],
+        VOTED,
+        REFUSED_CALL,
+        "line 1 reason 9\n",
+        &[],
+    ),
+    // There is no leaf 33 with height 5.
+    (
+        &["client", "1", SEED, "33", "w:a:x1"],
+        VOTED,
+        OUT_OF_RANGE,
+        "line 1 reason 3\n",
+        &[],
+    ),
+    // The seed isn't the client's, or no such client is listed.
+    (
+        &["client", "1", OTHER, "0", "w:a:x1"],
+        VOTED,
+        WRONG_PARTY,
+        "line 1 reason 6\n",
+        &[],
+    ),
+    (
+        &["client", "2", SEED, "0", "w:a:x1"],
+        VOTED,
+        WRONG_PARTY,
+        "line 1 reason 6\n",
+        &[],
+    ),
+    // The file can't be read.
+    (WRITE, UNREAD, Status::ReadFault, "read fault\n", &[]),
+    // The outcome can't be written, behind what was asked.
+    (
+        WRITE,
+        UNWRITTEN,
+        Status::WriteFault,
+        "",
+        &[FIRST, WRITEBACK],
+    ),
+];
+
+/// What is written to links, in bytes.
+fn sent_of(alloc: Global, sent: &[Hex]) -> Result<Vec<u8>, Fail> {
+    let mut all = Vec::new(alloc);
+    for texts in sent {
+        let bytes = joined(alloc, texts)?;
+        all.extend_from_slice(&bytes)?;
+    }
+    Ok(all)
+}
+
+/// Whether a row is answered.
+fn is_answered(alloc: Global, row: &Row) -> Result<bool, Fail> {
+    let (arguments, given, status, text, sent) = *row;
+    let answer = run_given(alloc, arguments, FILE.as_bytes(), &given)?;
+    let sent = sent_of(alloc, sent)?;
+    Ok(
+        answer.status == status
+            && answer.text.as_slice() == text.as_bytes()
+            && answer.sent.as_slice() == sent.as_slice(),
+    )
+}
+
+#[test]
+fn clients_carry_a_transaction_through(rt: HostRuntime) -> Result<(), Fail> {
+    let mut place = 0usize;
+    for row in ROWS {
+        assert!(rt; is_answered(rt.alloc(), row)?, "row {place}");
+        place = place.saturating_add(1);
+    }
+    Ok(())
+}
