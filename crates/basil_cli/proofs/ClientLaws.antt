@@ -181,7 +181,8 @@ module _ {V S : Type 0} {v : verifiers.Ghosts V} {g : signers.Ghosts S} (client 
           end = end;
           new = h.new;
           failed = h.failed;
-          ran = subst (λ (m : ClientSelf). RunsPlan m s.listing (time_at moments) plan (starting s.seated.client state) h.failed end h.new) is
+          ran =
+              subst (λ (m : ClientSelf). RunsPlan m s.listing (time_at moments) plan (starting s.seated.client state) h.failed end h.new) is
               (subst (λ (l : Listing). RunsPlan me l (time_at moments) plan (starting s.seated.client state) h.failed end h.new) listing
               (subst (λ (k : ℕ). RunsPlan me file k plan (starting s.seated.client state) h.failed end h.new) at
               (subst (λ (p : List Op). RunsPlan me file time p (starting s.seated.client state) h.failed end h.new) same h.runs_so)));

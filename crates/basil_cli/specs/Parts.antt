@@ -4,7 +4,8 @@ use Rattle.frame_views.specs.Shown.{writeback_of}
 use Rattle.frame_views.specs.Values.{WritebackValue}
 use Rattle.frame_views.specs.declared.frames.views.WritebackView.{WritebackView}
 use Rattle.schedule_text.specs.declared.reason.Reason.{Reason}
-use Rattle.basil_cli.specs.Outcome.{Outcome, BadLine, Written, Broken, Refused, Stray, Full, Undecided, TooLong, longest_input}
+use Rattle.basil_cli.specs.Outcome.{Outcome, BadLine, Written, Broken, Refused, Stray, Full, Undecided, TooLong}
+use Rattle.basil_cli.specs.Outcome.{longest_input}
 use Rattle.basil_cli.specs.declared.input.InputFail.{InputFail}
 use Rattle.basil_cli.specs.declared.input.InputFail.TheVariants as input
 use Rattle.basil_cli.specs.declared.input.Whole.{Whole}

@@ -271,9 +271,9 @@ fn run_alone<S: Source, K: Sink, L: Links>(
 /// - `node S R SEED LEAF CONNECTIONS` reads a cluster's file, serves so many connections as replica R of shard S, whose
 ///   key it makes of its SEED and uses from that leaf on, and writes `served F`, the number of frames that the replica
 ///   was handed.
-/// - `client C SEED LEAF OP...` reads a cluster's file and carries through a transaction of the reads `r:KEY` and writes
-///   `w:KEY:VALUE` as client C, whose key it makes of its SEED and uses from that leaf on. It writes `commit` or `abort`
-///   and what it read.
+/// - `client C SEED LEAF OP...` reads a cluster's file and, as client C, whose key it makes of its SEED and uses from
+///   that leaf on, carries through a transaction of the reads `r:KEY` and the writes `w:KEY:VALUE`. It writes `commit`
+///   or `abort`, and what it read.
 pub fn run<S: Source, K: Sink, L: Links, C: Clock>(
     alloc: Global,
     arguments: &[String],
@@ -283,8 +283,8 @@ pub fn run<S: Source, K: Sink, L: Links, C: Clock>(
     clock: &mut C,
 ) -> Status
     // Where the source tells its bytes, the status and what was written are those of the arguments, the bytes, and what
-    // the links gave, for every command but `node` and `client`. After a fault of the sink it is some of that text, or, where
-    // another count rose, some of the text of its fault.
+    // the links gave, for every command but `node` and `client`. After a fault of the sink it is some of that text, or,
+    // where another count rose, some of the text of its fault.
     ensures answers { let command = command_of (map string_bytes arguments.now) in let counts =
         counted (S.faults source.old) (S.faults source.new) (L.faults links.old) (L.faults links.new) in
         CallsNone (map string_bytes arguments.now) →

@@ -33,8 +33,8 @@ pub enum Status {
     /// 10: the messages of an event would pass a limit of the pool, which holds this; `full MESSAGES BYTES` was
     /// written.
     Full { messages: u64, bytes: u64 },
-    /// 11: a client asked all that it had to ask, and a read is without a choice or there is no decision; it holds so many
-    /// valid votes and log replies. `undecided N` was written.
+    /// 11: a client asked all that it had to ask, and a read is without a choice or there is no decision; it holds so
+    /// many valid votes and log replies. `undecided N` was written.
     Undecided { replies: u32 },
     /// 12: an input that is read whole has more than 16,777,216 bytes; `too long 16777216` was written.
     TooLong,

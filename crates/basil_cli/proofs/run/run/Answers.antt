@@ -92,82 +92,98 @@ returns-in-Err-clause-node_soon g c = λ call e. untaken is_too_long (g.S.Source
 pub returns-in-Ok-Some-Node-clause-client_refused : goal.returns-in-Ok-Some-Node-clause-client_refused
 returns-in-Ok-Some-Node-clause-client_refused g c = λ call e.
     let said : node_of (map string_bytes c.args.arguments.now) ≡ Some c.in-Ok-Some-Node.call = search rules in
-    no_such (client_of (map string_bytes c.args.arguments.now)) call (node_no_client (map string_bytes c.args.arguments.now) c.in-Ok-Some-Node.call said) e _
+    no_such (client_of (map string_bytes c.args.arguments.now)) call
+    (node_no_client (map string_bytes c.args.arguments.now) c.in-Ok-Some-Node.call said) e _
 
 pub returns-in-Ok-Some-Node-clause-client_idle : goal.returns-in-Ok-Some-Node-clause-client_idle
 returns-in-Ok-Some-Node-clause-client_idle g c = λ call e.
     let said : node_of (map string_bytes c.args.arguments.now) ≡ Some c.in-Ok-Some-Node.call = search rules in
-    no_such (client_of (map string_bytes c.args.arguments.now)) call (node_no_client (map string_bytes c.args.arguments.now) c.in-Ok-Some-Node.call said) e _
+    no_such (client_of (map string_bytes c.args.arguments.now)) call
+    (node_no_client (map string_bytes c.args.arguments.now) c.in-Ok-Some-Node.call said) e _
 
 pub returns-in-Ok-Some-Node-clause-client_still : goal.returns-in-Ok-Some-Node-clause-client_still
 returns-in-Ok-Some-Node-clause-client_still g c = λ call e.
     let said : node_of (map string_bytes c.args.arguments.now) ≡ Some c.in-Ok-Some-Node.call = search rules in
-    no_such (client_of (map string_bytes c.args.arguments.now)) call (node_no_client (map string_bytes c.args.arguments.now) c.in-Ok-Some-Node.call said) e _
+    no_such (client_of (map string_bytes c.args.arguments.now)) call
+    (node_no_client (map string_bytes c.args.arguments.now) c.in-Ok-Some-Node.call said) e _
 
 pub returns-in-Ok-Some-Node-clause-client_ran : goal.returns-in-Ok-Some-Node-clause-client_ran
 returns-in-Ok-Some-Node-clause-client_ran g c = λ call s moments state e outcomes ticks told.
     let said : node_of (map string_bytes c.args.arguments.now) ≡ Some c.in-Ok-Some-Node.call = search rules in
-    no_such (client_of (map string_bytes c.args.arguments.now)) call (node_no_client (map string_bytes c.args.arguments.now) c.in-Ok-Some-Node.call said) e _
+    no_such (client_of (map string_bytes c.args.arguments.now)) call
+    (node_no_client (map string_bytes c.args.arguments.now) c.in-Ok-Some-Node.call said) e _
 
 pub returns-in-Ok-Some-Node-clause-client_complete : goal.returns-in-Ok-Some-Node-clause-client_complete
 returns-in-Ok-Some-Node-clause-client_complete g c = λ call e read write.
     let said : node_of (map string_bytes c.args.arguments.now) ≡ Some c.in-Ok-Some-Node.call = search rules in
-    no_such (client_of (map string_bytes c.args.arguments.now)) call (node_no_client (map string_bytes c.args.arguments.now) c.in-Ok-Some-Node.call said) e _
+    no_such (client_of (map string_bytes c.args.arguments.now)) call
+    (node_no_client (map string_bytes c.args.arguments.now) c.in-Ok-Some-Node.call said) e _
 
 pub returns-in-Ok-Some-Client-clause-safe : goal.returns-in-Ok-Some-Client-clause-safe
 returns-in-Ok-Some-Client-clause-safe g c = λ carried e f.
     let said : client_of (map string_bytes c.args.arguments.now) ≡ Some c.in-Ok-Some-Client.call = search rules in
-    no_such (command_of (map string_bytes c.args.arguments.now)) _ (client_is_none (map string_bytes c.args.arguments.now) c.in-Ok-Some-Client.call said).0 e _
+    no_such (command_of (map string_bytes c.args.arguments.now)) _
+    (client_is_none (map string_bytes c.args.arguments.now) c.in-Ok-Some-Client.call said).0 e _
 
 pub returns-in-Ok-Some-Client-clause-broken : goal.returns-in-Ok-Some-Client-clause-broken
 returns-in-Ok-Some-Client-clause-broken g c = λ carried e f.
     let said : client_of (map string_bytes c.args.arguments.now) ≡ Some c.in-Ok-Some-Client.call = search rules in
-    no_such (command_of (map string_bytes c.args.arguments.now)) _ (client_is_none (map string_bytes c.args.arguments.now) c.in-Ok-Some-Client.call said).0 e _
+    no_such (command_of (map string_bytes c.args.arguments.now)) _
+    (client_is_none (map string_bytes c.args.arguments.now) c.in-Ok-Some-Client.call said).0 e _
 
 pub returns-in-Ok-Some-Client-clause-through : goal.returns-in-Ok-Some-Client-clause-through
 returns-in-Ok-Some-Client-clause-through g c = λ e f.
     let said : client_of (map string_bytes c.args.arguments.now) ≡ Some c.in-Ok-Some-Client.call = search rules in
-    not_read (command_of (map string_bytes c.args.arguments.now)) (client_is_none (map string_bytes c.args.arguments.now) c.in-Ok-Some-Client.call said).0 e _
+    not_read (command_of (map string_bytes c.args.arguments.now))
+    (client_is_none (map string_bytes c.args.arguments.now) c.in-Ok-Some-Client.call said).0 e _
 
 pub returns-in-Ok-Some-Client-clause-node_refused : goal.returns-in-Ok-Some-Client-clause-node_refused
 returns-in-Ok-Some-Client-clause-node_refused g c = λ call e.
     let said : client_of (map string_bytes c.args.arguments.now) ≡ Some c.in-Ok-Some-Client.call = search rules in
-    no_such (node_of (map string_bytes c.args.arguments.now)) call (client_is_none (map string_bytes c.args.arguments.now) c.in-Ok-Some-Client.call said).1 e _
+    no_such (node_of (map string_bytes c.args.arguments.now)) call
+    (client_is_none (map string_bytes c.args.arguments.now) c.in-Ok-Some-Client.call said).1 e _
 
 pub returns-in-Ok-Some-Client-clause-node_idle : goal.returns-in-Ok-Some-Client-clause-node_idle
 returns-in-Ok-Some-Client-clause-node_idle g c = λ call e.
     let said : client_of (map string_bytes c.args.arguments.now) ≡ Some c.in-Ok-Some-Client.call = search rules in
-    no_such (node_of (map string_bytes c.args.arguments.now)) call (client_is_none (map string_bytes c.args.arguments.now) c.in-Ok-Some-Client.call said).1 e _
+    no_such (node_of (map string_bytes c.args.arguments.now)) call
+    (client_is_none (map string_bytes c.args.arguments.now) c.in-Ok-Some-Client.call said).1 e _
 
 pub returns-in-Ok-Some-Client-clause-node_still : goal.returns-in-Ok-Some-Client-clause-node_still
 returns-in-Ok-Some-Client-clause-node_still g c = λ call e.
     let said : client_of (map string_bytes c.args.arguments.now) ≡ Some c.in-Ok-Some-Client.call = search rules in
-    no_such (node_of (map string_bytes c.args.arguments.now)) call (client_is_none (map string_bytes c.args.arguments.now) c.in-Ok-Some-Client.call said).1 e _
+    no_such (node_of (map string_bytes c.args.arguments.now)) call
+    (client_is_none (map string_bytes c.args.arguments.now) c.in-Ok-Some-Client.call said).1 e _
 
 pub returns-in-Ok-Some-Client-clause-node_written : goal.returns-in-Ok-Some-Client-clause-node_written
 returns-in-Ok-Some-Client-clause-node_written g c = λ call e done.
     let said : client_of (map string_bytes c.args.arguments.now) ≡ Some c.in-Ok-Some-Client.call = search rules in
-    no_such (node_of (map string_bytes c.args.arguments.now)) call (client_is_none (map string_bytes c.args.arguments.now) c.in-Ok-Some-Client.call said).1 e _
+    no_such (node_of (map string_bytes c.args.arguments.now)) call
+    (client_is_none (map string_bytes c.args.arguments.now) c.in-Ok-Some-Client.call said).1 e _
 
 pub returns-in-Ok-Some-Client-clause-node_served : goal.returns-in-Ok-Some-Client-clause-node_served
 returns-in-Ok-Some-Client-clause-node_served g c = λ call s n e done.
     let said : client_of (map string_bytes c.args.arguments.now) ≡ Some c.in-Ok-Some-Client.call = search rules in
-    no_such (node_of (map string_bytes c.args.arguments.now)) call (client_is_none (map string_bytes c.args.arguments.now) c.in-Ok-Some-Client.call said).1 e _
+    no_such (node_of (map string_bytes c.args.arguments.now)) call
+    (client_is_none (map string_bytes c.args.arguments.now) c.in-Ok-Some-Client.call said).1 e _
 
 pub returns-in-Ok-Some-Client-clause-node_whole : goal.returns-in-Ok-Some-Client-clause-node_whole
 returns-in-Ok-Some-Client-clause-node_whole g c = λ call s n e still done.
     let said : client_of (map string_bytes c.args.arguments.now) ≡ Some c.in-Ok-Some-Client.call = search rules in
-    no_such (node_of (map string_bytes c.args.arguments.now)) call (client_is_none (map string_bytes c.args.arguments.now) c.in-Ok-Some-Client.call said).1 e _
+    no_such (node_of (map string_bytes c.args.arguments.now)) call
+    (client_is_none (map string_bytes c.args.arguments.now) c.in-Ok-Some-Client.call said).1 e _
 
 pub returns-in-Ok-Some-Client-clause-node_stands : goal.returns-in-Ok-Some-Client-clause-node_stands
 returns-in-Ok-Some-Client-clause-node_stands g c = λ call s n e.
     let said : client_of (map string_bytes c.args.arguments.now) ≡ Some c.in-Ok-Some-Client.call = search rules in
-    no_such (node_of (map string_bytes c.args.arguments.now)) call (client_is_none (map string_bytes c.args.arguments.now) c.in-Ok-Some-Client.call said).1 e _
+    no_such (node_of (map string_bytes c.args.arguments.now)) call
+    (client_is_none (map string_bytes c.args.arguments.now) c.in-Ok-Some-Client.call said).1 e _
 
 pub returns-in-Ok-Some-Client-clause-node_complete : goal.returns-in-Ok-Some-Client-clause-node_complete
 returns-in-Ok-Some-Client-clause-node_complete g c = λ call e read write link.
     let said : client_of (map string_bytes c.args.arguments.now) ≡ Some c.in-Ok-Some-Client.call = search rules in
-    no_such (node_of (map string_bytes c.args.arguments.now)) call (client_is_none (map string_bytes c.args.arguments.now) c.in-Ok-Some-Client.call said).1 e _
+    no_such (node_of (map string_bytes c.args.arguments.now)) call
+    (client_is_none (map string_bytes c.args.arguments.now) c.in-Ok-Some-Client.call said).1 e _
 
 pub returns-in-Ok-Some-Client-clause-client_ran : goal.returns-in-Ok-Some-Client-clause-client_ran
 returns-in-Ok-Some-Client-clause-client_ran g c = λ call s moments state e outcomes ticks told.
