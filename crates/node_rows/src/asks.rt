@@ -28,10 +28,10 @@ fn taken_of(alloc: Global, answer: &[u8], failing: &[u64]) -> Result<Taken, Fail
     let failing = Vec::from_slice(alloc, failing)?;
     let mut links = MemLinks::new(alloc, connections, Vec::new(alloc), failing);
     let cluster = Cluster::new(1, 2, 2, 5)?;
-    let mut given = ask(alloc, cluster, &mut links, "there:1", ASKER, &[5, 6])?;
+    let given = ask(alloc, cluster, &mut links, "there:1", ASKER, &[5, 6])?;
     let count = given.len();
     let mut frames = Vec::new(alloc);
-    while let Some(envelope) = given.pop_front() {
+    for envelope in &given {
         frames.extend_from_slice(envelope.frame.as_slice())?;
     }
     let written = Vec::from_slice(alloc, links.written())?;
