@@ -1,17 +1,20 @@
 -- What holds of arguments that are a command, and of arguments that aren't, whatever links give.
-use Rattle.std.proofs.Common.{◌≡◌, ℕ, List, ◌++◌, Bool, false, Option, Some, None, Result, Ok, Err, inr, refl, sym, subst}
+use Rattle.std.proofs.Common.{◌≡◌, ℕ, ◌<◌, List, [], ◌++◌, length, Bool, true, false, Option, Some, None, Result, Ok, Err}
+use Rattle.std.proofs.Common.{inr, refl, sym, ◌∙◌, subst, arith}
+use Rattle.std.proofs.lemmas.Grind.{common_steps}
 use Rattle.std.specs.Prelude.{IfOk, IfSome}
 use Rattle.basil_types.specs.Links.{LinkState}
 use Rattle.schedule_replay.proofs.RoadLaws.{carries_as, carries_none}
 use Rattle.basil_cli.specs.Answers.{Answers, Counts, IsTold}
-use Rattle.basil_cli.specs.Commands.{runs, arguments_carried}
+use Rattle.basil_cli.specs.Commands.{reads, runs, arguments_carried}
 use Rattle.basil_cli.specs.Linked.{ByArguments}
-use Rattle.basil_cli.specs.Outcome.{Outcome, Usage}
+use Rattle.basil_cli.specs.Outcome.{Outcome, TooLong, Usage, is_too_long, longest_input, unless_too_long}
 use Rattle.basil_cli.specs.Output.{outcome_with, output_of}
 use Rattle.basil_cli.specs.Parts.{outcome_is}
 use Rattle.basil_cli.specs.Reading.{IsReadThrough, StopsSoon, StopsSoonFor, is_enough}
 use Rattle.basil_cli.specs.declared.command.Command.{Command}
-use Rattle.basil_cli.specs.declared.command.Command.TheVariants.{Replay, Generate, Load, Keys, Sign, Verify, Check, Audit}
+use Rattle.basil_cli.specs.declared.command.Command.TheVariants.{Replay, Generate, Load, Keys, Sign, Verify, HssKeys, HssSign, HssVerify}
+use Rattle.basil_cli.specs.declared.command.Command.TheVariants.{Check, Audit}
 use Rattle.basil_cli.specs.declared.ending.Ending.{Ending}
 use Rattle.basil_cli.specs.declared.input.InputFail.{InputFail}
 use Rattle.basil_cli.specs.declared.status.Status.{Status}
@@ -21,13 +24,43 @@ use Rattle.basil_cli.proofs.Stopping.{untaken_for}
 -- another command than that of a schedule
 pub runs_not : (command : Command) → ((carried : Bool) → command ≡ Replay carried → ⊥) → runs command ≡ false
 runs_not (Replay carried) h = absurd (h carried refl)
-runs_not (Generate size) h = refl
-runs_not (Load size) h = refl
-runs_not (Keys m) h = refl
-runs_not (Sign m leaf) h = refl
-runs_not (Verify public signature) h = refl
-runs_not Check h = refl
-runs_not Audit h = refl
+runs_not other h = refl
+
+-- ---- a command that runs no schedule
+
+-- one that has no input leads to the same, whatever the source has
+pub unread_as : (command : Command) → reads command ≡ false → (coming : List (List ℕ)) (bytes : List ℕ) →
+    output_of command coming [] ≡ output_of command coming bytes
+unread_as (Generate size) none coming bytes = refl
+unread_as (Load size) none coming bytes = refl
+unread_as (Keys m) none coming bytes = refl
+unread_as (HssKeys m) none coming bytes = refl
+unread_as other none coming bytes = absurd cc
+
+pub unread_all : (command : Command) → reads command ≡ false → (left : Option (List ℕ)) (o : Outcome) →
+    ((coming : List (List ℕ)) → o ≡ output_of command coming []) →
+    IfSome left (λ bytes. (coming : List (List ℕ)) → o ≡ output_of command coming bytes)
+unread_all command none None o h = tt
+unread_all command none (Some bytes) o h = λ coming. h coming ∙ unread_as command none coming bytes
+
+over : (bytes : List ℕ) (o : Outcome) → longest_input < length bytes → TooLong ≡ unless_too_long bytes o
+over bytes o long = grind (arith, common_steps)
+
+-- the input of one that has one may be too long
+pub long_as : (command : Command) → runs command ≡ false → reads command ≡ true → (coming : List (List ℕ)) (bytes : List ℕ) →
+    longest_input < length bytes → TooLong ≡ output_of command coming bytes
+long_as (Sign m leaf) other read coming bytes long = over bytes _ long
+long_as (Verify claim) other read coming bytes long = over bytes _ long
+long_as (HssSign m number) other read coming bytes long = over bytes _ long
+long_as (HssVerify claim) other read coming bytes long = over bytes _ long
+long_as Check other read coming bytes long = over bytes _ long
+long_as Audit other read coming bytes long = over bytes _ long
+long_as none other read coming bytes long = absurd cc
+
+-- that alone decides for it
+pub enough_as : (command : Command) → runs command ≡ false → (coming : List (List ℕ)) → is_too_long ≡ is_enough command coming
+enough_as (Replay carried) other coming = absurd cc
+enough_as command other coming = refl
 
 module _ (o : Option Command) where
   -- a fact of what links give, and one that follows from it

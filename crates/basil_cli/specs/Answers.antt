@@ -11,7 +11,8 @@ use Rattle.schedule_replay.specs.Roads.{Direct, Road}
 use Rattle.schedule_replay.specs.Totals.{totals}
 use Rattle.schedule_replay.specs.declared.fault.ReplayFault.{ReplayFault}
 use Rattle.schedule_replay.specs.declared.fault.ReplayFault.TheVariants as fault
-use Rattle.basil_cli.specs.Outcome.{Outcome, Usage, BadLine, Written, Broken, Refused, Stray}
+use Rattle.hss_sign.specs.Numbers.{refusal_number as hss_number}
+use Rattle.basil_cli.specs.Outcome.{Outcome, Usage, BadLine, Written, Broken, Refused, RefusedAt, Stray}
 use Rattle.basil_cli.specs.Outcome.{Full, Undecided, TooLong, text_of, link_fault_text, read_fault_text}
 use Rattle.basil_cli.specs.Output.{load_text}
 use Rattle.schedule_text.specs.Complaints.{reason_number}
@@ -33,8 +34,8 @@ status_number (ends.Full messages bytes) = 10
 status_number (ends.Undecided replies) = 11
 status_number ends.TooLong = 12
 
--- a status as text: the line that tells it, but for an output, a breach and a stray read, whose own text is more, and
--- for a failed write and want of memory, of which nothing is written
+-- a status as text: the line that tells it, but for an output, a breach, a refusal at a level and a stray read, whose
+-- own text is more, and for a failed write and want of memory, of which nothing is written
 abbrev pub status_text : Status → List ℕ
 status_text ends.Done = codes "done"
 status_text ends.BadWords = codes "usage"
@@ -57,6 +58,7 @@ status_of (BadLine line reason) = ends.BadInput line reason
 status_of (Written text) = ends.Done
 status_of (Broken broken) = ends.Broken
 status_of (Refused reason) = ends.Refused reason
+status_of (RefusedAt refusal) = ends.Refused (hss_number refusal)
 status_of (Stray line) = ends.Refused 0
 status_of (Full messages bytes) = ends.Full messages bytes
 status_of (Undecided replies) = ends.Undecided replies

@@ -17,6 +17,7 @@ use Rattle.keyring.specs.Plain.{plain_accepts}
 use Rattle.keyring_lms.specs.Replay.{replay_accepts}
 use Rattle.lms_sign.specs.declared.sets.LmsSet.TheVariants as sets
 use Rattle.schedule_text.specs.Fields.{hex}
+use Rattle.batch_sign.specs.Signatures.{in_batch}
 use Rattle.schedule_text.specs.Reading.{line_at}
 use Rattle.schedule_text.specs.declared.complaint.Complaint.{Complaint}
 use Rattle.schedule_text.specs.declared.line.KeysKind.{KeysKind}
@@ -35,19 +36,19 @@ use Rattle.basil_cli.specs.declared.check.Ring.TheVariants as ring
 
 -- ---- the keys
 
--- batched signatures aren't built yet
-abbrev pub ring_of : KeysKind → Option Ring
-ring_of Plain = Some ring.Plain
-ring_of W4H5 = Some (ring.Lms sets.W4H5)
-ring_of W4H10 = Some (ring.Lms sets.W4H10)
-ring_of W8H5 = Some (ring.Lms sets.W8H5)
-ring_of W8H10 = Some (ring.Lms sets.W8H10)
-ring_of Batch = None
+abbrev pub ring_of : KeysKind → Ring
+ring_of Plain = ring.Plain
+ring_of W4H5 = ring.Lms sets.W4H5
+ring_of W4H10 = ring.Lms sets.W4H10
+ring_of W8H5 = ring.Lms sets.W8H5
+ring_of W8H10 = ring.Lms sets.W8H10
+ring_of Batch = ring.Batch
 
 -- what the keys of a replay accept
 abbrev pub accepted_by : Setting → Ring → Accepted
 accepted_by cluster ring.Plain = plain_accepts
 accepted_by cluster (ring.Lms set) = replay_accepts cluster set
+accepted_by cluster ring.Batch = in_batch plain_accepts
 
 -- ---- the certificate
 
@@ -109,10 +110,9 @@ judged_alone ring cluster (Ok m) [] = judged (accepted_by cluster ring) cluster 
 judged_alone ring cluster (Ok m) (line ∷ lines) = BadLine 3 Misspelt
 
 -- a second line that is missing is reason 8, as one that is no frame
-abbrev pub checked_under : Setting → Option Ring → List (List ℕ) → Outcome
-checked_under cluster None lines = BadLine 1 NoHeader
-checked_under cluster (Some ring) [] = BadLine 2 OutOfSize
-checked_under cluster (Some ring) (line ∷ lines) = judged_alone ring cluster (writeback_on cluster line) lines
+abbrev pub checked_under : Setting → Ring → List (List ℕ) → Outcome
+checked_under cluster ring [] = BadLine 2 OutOfSize
+checked_under cluster ring (line ∷ lines) = judged_alone ring cluster (writeback_on cluster line) lines
 
 abbrev pub headed : Result Line LineFault → List (List ℕ) → Outcome
 headed (Ok (Header cluster clock keys journal)) lines = checked_under cluster (ring_of keys) lines

@@ -2,15 +2,19 @@
 use Rattle.std.specs.Prelude.{ℕ, ◌<◌, ◌==◌, nat_lt, List, [], ◌∷◌, length, Bool, true, false, codes}
 use Rattle.std.specs.Prelude.{Option, Some, None, option_map, Result, Ok, Err, ⊤, if◌then◌else◌}
 use Rattle.std.specs.Str.{bytes_eq}
+use Rattle.hss_sign.specs.Keys.{material_of as key_of, numbers_of}
 use Rattle.lms_sign.specs.Sets.{leaves_of}
 use Rattle.lms_sign.specs.declared.sets.LmsSet.{LmsSet}
 use Rattle.lms_sign.specs.declared.sets.LmsSet.TheVariants.{W4H5, W4H10, W8H5, W8H10}
 use Rattle.schedule_text.specs.Fields.{hex, number, number_in}
 use Rattle.schedule_text.specs.Tokens.{Token}
 use Rattle.schedule_text.specs.declared.complaint.Complaint.{Complaint}
+use Rattle.basil_cli.specs.declared.command.Claim.{Claim}
 use Rattle.basil_cli.specs.declared.command.Command.{Command}
 use Rattle.basil_cli.specs.declared.command.Command.TheVariants.{Replay, Generate, Load, Keys}
 use Rattle.basil_cli.specs.declared.command.Command.TheVariants.{Sign, Verify, Check, Audit}
+use Rattle.basil_cli.specs.declared.command.Command.TheVariants.{HssKeys, HssSign, HssVerify}
+use Rattle.basil_cli.specs.declared.command.HssMaterial.{HssMaterial}
 use Rattle.basil_cli.specs.declared.command.KeyMaterial.{KeyMaterial}
 use Rattle.basil_cli.specs.declared.command.LoadSize.{LoadSize}
 
@@ -45,6 +49,19 @@ material_with (Some set) (Some seed) (Some ident) = Some (record { set = set; se
 abbrev pub material_of : Token → Token → Token → Option KeyMaterial
 material_of set seed ident = material_with (set_of set) (hex_of 32 seed) (hex_of 16 ident)
 
+-- SET SET SEED IDENT: the key of the top level, and the set of the bottom one
+abbrev pub hss_material_with : Option KeyMaterial → Option LmsSet → Option HssMaterial
+hss_material_with None bottom = None
+hss_material_with (Some top) None = None
+hss_material_with (Some top) (Some bottom) = Some (record { top = top; bottom = bottom })
+
+abbrev pub hss_material_of : Token → Token → Token → Token → Option HssMaterial
+hss_material_of top bottom seed ident = hss_material_with (material_of top seed ident) (set_of bottom)
+
+-- the numbers of its signatures
+abbrev pub numbers_in : HssMaterial → ℕ
+numbers_in m = numbers_of (key_of m.top.seed m.top.ident m.top.set m.bottom)
+
 abbrev pub below : ℕ → Option ℕ → Option ℕ
 below bound None = None
 below bound (Some n) = if nat_lt n bound then Some n else None
@@ -57,10 +74,22 @@ abbrev pub sign_by : Option KeyMaterial → Token → Option Command
 sign_by None leaf = None
 sign_by (Some m) leaf = option_map (Sign m) (leaf_of m.set leaf)
 
-abbrev pub verify_with : Option (List ℕ) → Option (List ℕ) → Option Command
-verify_with None signature = None
-verify_with (Some public) None = None
-verify_with (Some public) (Some signature) = Some (Verify public signature)
+-- N: the number of a signature
+abbrev pub number_of : HssMaterial → Token → Option ℕ
+number_of m argument = below (numbers_in m) (said (number argument))
+
+abbrev pub hss_sign_by : Option HssMaterial → Token → Option Command
+hss_sign_by None number = None
+hss_sign_by (Some m) number = option_map (HssSign m) (number_of m number)
+
+-- PUBLIC SIGNATURE: both in hex
+abbrev pub claim_with : Option (List ℕ) → Option (List ℕ) → Option Claim
+claim_with None signature = None
+claim_with (Some public) None = None
+claim_with (Some public) (Some signature) = Some (record { public = public; signature = signature })
+
+abbrev pub claim_of : Token → Token → Option Claim
+claim_of public signature = claim_with (said (hex public)) (said (hex signature))
 
 -- `replay`, and `loopback`, where links carry each delivery
 abbrev pub replay_of : (carried : Bool) → List Token → Option Command
@@ -96,10 +125,25 @@ abbrev pub sign_of : List Token → Option Command
 sign_of (set ∷ seed ∷ ident ∷ leaf ∷ []) = sign_by (material_of set seed ident) leaf
 sign_of _ = None
 
--- `verify PUBLIC SIGNATURE`: both in hex
+-- `verify PUBLIC SIGNATURE`
 abbrev pub verify_of : List Token → Option Command
-verify_of (public ∷ signature ∷ []) = verify_with (said (hex public)) (said (hex signature))
+verify_of (public ∷ signature ∷ []) = option_map Verify (claim_of public signature)
 verify_of _ = None
+
+-- `hsskeys SET SET SEED IDENT`
+abbrev pub hss_keys_of : List Token → Option Command
+hss_keys_of (top ∷ bottom ∷ seed ∷ ident ∷ []) = option_map HssKeys (hss_material_of top bottom seed ident)
+hss_keys_of _ = None
+
+-- `hsssign SET SET SEED IDENT N`
+abbrev pub hss_sign_of : List Token → Option Command
+hss_sign_of (top ∷ bottom ∷ seed ∷ ident ∷ number ∷ []) = hss_sign_by (hss_material_of top bottom seed ident) number
+hss_sign_of _ = None
+
+-- `hssverify PUBLIC SIGNATURE`
+abbrev pub hss_verify_of : List Token → Option Command
+hss_verify_of (public ∷ signature ∷ []) = option_map HssVerify (claim_of public signature)
+hss_verify_of _ = None
 
 -- `check`
 abbrev pub check_of : List Token → Option Command
@@ -121,20 +165,20 @@ command_of (name ∷ arguments) =
     else if bytes_eq name (codes "keys") then keys_of arguments
     else if bytes_eq name (codes "sign") then sign_of arguments
     else if bytes_eq name (codes "verify") then verify_of arguments
+    else if bytes_eq name (codes "hsskeys") then hss_keys_of arguments
+    else if bytes_eq name (codes "hsssign") then hss_sign_of arguments
+    else if bytes_eq name (codes "hssverify") then hss_verify_of arguments
     else if bytes_eq name (codes "check") then check_of arguments
     else if bytes_eq name (codes "audit") then audit_of arguments
     else None
 
 -- whether a command has an input
 abbrev pub reads : Command → Bool
-reads (Replay carried) = true
 reads (Generate size) = false
 reads (Load size) = false
 reads (Keys m) = false
-reads (Sign m leaf) = true
-reads (Verify public signature) = true
-reads Check = true
-reads Audit = true
+reads (HssKeys m) = false
+reads other = true
 
 -- whether arguments are a command that has an input
 abbrev pub arguments_read : Option Command → Bool
@@ -144,37 +188,20 @@ arguments_read (Some command) = reads command
 -- whether a command runs the schedule that it reads
 abbrev pub runs : Command → Bool
 runs (Replay carried) = true
-runs (Generate size) = false
-runs (Load size) = false
-runs (Keys m) = false
-runs (Sign m leaf) = false
-runs (Verify public signature) = false
-runs Check = false
-runs Audit = false
+runs other = false
 
 -- whether links carry a command's deliveries
 abbrev pub is_carried : Command → Bool
 is_carried (Replay carried) = carried
-is_carried (Generate size) = false
-is_carried (Load size) = false
-is_carried (Keys m) = false
-is_carried (Sign m leaf) = false
-is_carried (Verify public signature) = false
-is_carried Check = false
-is_carried Audit = false
+is_carried other = false
 
 -- whether arguments are a command whose deliveries links carry
 abbrev pub arguments_carried : Option Command → Bool
 arguments_carried None = false
 arguments_carried (Some command) = is_carried command
 
--- a command that signs names a leaf of its tree
+-- a command that signs names a leaf of its tree, or a number of its key
 abbrev pub HasLeaf : Command → Type 0
-HasLeaf (Replay carried) = ⊤
-HasLeaf (Generate size) = ⊤
-HasLeaf (Load size) = ⊤
-HasLeaf (Keys m) = ⊤
 HasLeaf (Sign m leaf) = leaf < leaves_of m.set
-HasLeaf (Verify public signature) = ⊤
-HasLeaf Check = ⊤
-HasLeaf Audit = ⊤
+HasLeaf (HssSign m number) = number < numbers_in m
+HasLeaf other = ⊤

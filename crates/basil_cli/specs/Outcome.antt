@@ -2,6 +2,10 @@
 use Rattle.std.specs.Prelude.{ℕ, List, [], ◌∷◌, ◌++◌, length, Bool, nat_lt, codes, decimal, if◌then◌else◌}
 use Rattle.std.specs.List.{join_with_byte}
 use Rattle.hex.specs.Hex.{encode_lower}
+use Rattle.hss_sign.specs.Numbers.{refusal_number as hss_number}
+use Rattle.hss_sign.specs.declared.verifying.HssRefusal.{HssRefusal}
+use Rattle.hss_sign.specs.declared.verifying.HssRefusal.TheVariants.{SetType, Short, Lms}
+use Rattle.lms_sign.specs.Numbers.{refusal_number}
 use Rattle.premise_watch.specs.declared.broken.Broken as premise
 use Rattle.premise_watch.specs.declared.broken.Broken.TheVariants.{Forged, Collision}
 use Rattle.schedule_text.specs.Complaints.{reason_number}
@@ -19,6 +23,8 @@ pub data Outcome : Type 0 where
   Broken : (broken : premise.Broken) → Outcome
   -- the definition that the command tests is false of the input
   Refused : (reason : ℕ) → Outcome
+  -- the same, of a signature of several levels
+  RefusedAt : (refusal : HssRefusal) → Outcome
   -- the same, told in a line of its own
   Stray : (line : List ℕ) → Outcome
   -- the messages of an event would pass a limit of the pool, which holds so many messages and bytes
@@ -37,6 +43,13 @@ broken_text (Forged party words signature) =
 broken_text (Collision first second) =
     codes "broken collision " ++ encode_lower first ++ 32 ∷ encode_lower second ++ 10 ∷ []
 
+-- where a test failed among the levels, from 0, and which test of LMS: ` LEVEL`, ` LEVEL R`, or nothing
+abbrev pub place_text : HssRefusal → List ℕ
+place_text (SetType level) = 32 ∷ decimal level
+place_text (Short level) = 32 ∷ decimal level
+place_text (Lms level refusal) = 32 ∷ decimal level ++ 32 ∷ decimal (refusal_number refusal)
+place_text other = []
+
 -- what is written
 abbrev pub text_of : Outcome → List ℕ
 text_of Usage = codes "usage" ++ 10 ∷ []
@@ -45,6 +58,7 @@ text_of (BadLine line reason) =
 text_of (Written text) = text
 text_of (Broken broken) = broken_text broken
 text_of (Refused reason) = codes "refused " ++ decimal reason ++ 10 ∷ []
+text_of (RefusedAt refusal) = codes "refused " ++ decimal (hss_number refusal) ++ place_text refusal ++ 10 ∷ []
 text_of (Stray line) = line
 text_of (Full messages bytes) = codes "full " ++ decimal messages ++ 32 ∷ decimal bytes ++ 10 ∷ []
 text_of (Undecided replies) = codes "undecided " ++ decimal replies ++ 10 ∷ []

@@ -13,11 +13,12 @@ use Rattle.schedule_replay.specs.declared.fault.ReplayFault.TheVariants as fault
 use Rattle.basil_cli.specs.Checking.{checked}
 use Rattle.basil_cli.specs.Commands.{command_of}
 use Rattle.basil_cli.specs.Outcome.{Outcome, Usage, BadLine, Written, Broken, Full, Stray, unless_too_long}
-use Rattle.basil_cli.specs.Signatures.{keys_made, signed, verified}
+use Rattle.basil_cli.specs.Signatures.{keys_made, signed, verified, hss_keys_made, hss_signed, hss_verified}
 use Rattle.basil_cli.specs.declared.command.Command.{Command}
 use Rattle.basil_cli.specs.declared.command.LoadSize.{LoadSize}
 use Rattle.basil_cli.specs.declared.command.Command.TheVariants.{Replay, Generate, Load, Keys}
 use Rattle.basil_cli.specs.declared.command.Command.TheVariants.{Sign, Verify, Check, Audit}
+use Rattle.basil_cli.specs.declared.command.Command.TheVariants.{HssKeys, HssSign, HssVerify}
 
 -- a schedule leads to its report, or to one of three faults; to the others none leads
 abbrev pub replayed : Result (List ℕ) ReplayFault → Outcome
@@ -48,7 +49,10 @@ output_of (Generate size) coming bytes = Written (load_text size)
 output_of (Load size) coming bytes = loaded (replay_of (load_text size))
 output_of (Keys material) coming bytes = keys_made material
 output_of (Sign material leaf) coming bytes = unless_too_long bytes (signed material leaf bytes)
-output_of (Verify public signature) coming bytes = unless_too_long bytes (verified public signature bytes)
+output_of (Verify claim) coming bytes = unless_too_long bytes (verified claim bytes)
+output_of (HssKeys material) coming bytes = hss_keys_made material
+output_of (HssSign material number) coming bytes = unless_too_long bytes (hss_signed material number bytes)
+output_of (HssVerify claim) coming bytes = unless_too_long bytes (hss_verified claim bytes)
 output_of Check coming bytes = unless_too_long bytes (checked bytes)
 output_of Audit coming bytes = unless_too_long bytes (audited (finding_of bytes))
 

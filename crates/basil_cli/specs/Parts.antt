@@ -4,7 +4,8 @@ use Rattle.frame_views.specs.Shown.{writeback_of}
 use Rattle.frame_views.specs.Values.{WritebackValue}
 use Rattle.frame_views.specs.declared.frames.views.WritebackView.{WritebackView}
 use Rattle.schedule_text.specs.declared.reason.Reason.{Reason}
-use Rattle.basil_cli.specs.Outcome.{Outcome, BadLine, Written, Broken, Refused, Stray, Full, Undecided, TooLong}
+use Rattle.basil_cli.specs.Outcome.{Outcome, BadLine, Written, Broken, Refused, RefusedAt, Stray, Full}
+use Rattle.basil_cli.specs.Outcome.{Undecided, TooLong}
 use Rattle.basil_cli.specs.Outcome.{longest_input}
 use Rattle.basil_cli.specs.declared.input.InputFail.{InputFail}
 use Rattle.basil_cli.specs.declared.input.InputFail.TheVariants as input
@@ -18,6 +19,7 @@ outcome_is (ending.BadLine line reason) = BadLine line reason
 outcome_is (ending.Written text) = Written text
 outcome_is (ending.Broken broken) = Broken broken
 outcome_is (ending.Refused reason) = Refused reason
+outcome_is (ending.RefusedAt refusal) = RefusedAt refusal
 outcome_is (ending.Stray line) = Stray line
 outcome_is (ending.Full messages bytes) = Full messages bytes
 outcome_is (ending.Undecided replies) = Undecided replies

@@ -7,8 +7,7 @@ use Rattle.schedule_replay.specs.Stages.{Begins, run_lines}
 use Rattle.schedule_text.specs.Limits.{longest_line}
 use Rattle.basil_cli.specs.Outcome.{is_too_long}
 use Rattle.basil_cli.specs.declared.command.Command.{Command}
-use Rattle.basil_cli.specs.declared.command.Command.TheVariants.{Replay, Generate, Load, Keys}
-use Rattle.basil_cli.specs.declared.command.Command.TheVariants.{Sign, Verify, Check, Audit}
+use Rattle.basil_cli.specs.declared.command.Command.TheVariants.{Replay}
 use Rattle.schedule_replay.specs.Roads.{Road, road_with}
 
 -- ---- the lines of bytes
@@ -40,13 +39,7 @@ is_settled road bytes =
 -- whether these bytes decide for a command, whatever follows, where links give these
 abbrev pub is_enough : Command → (coming : List (List ℕ)) → (bytes : List ℕ) → Bool
 is_enough (Replay carried) coming = is_settled (road_with carried coming)
-is_enough (Generate size) coming = is_too_long
-is_enough (Load size) coming = is_too_long
-is_enough (Keys m) coming = is_too_long
-is_enough (Sign m leaf) coming = is_too_long
-is_enough (Verify public signature) coming = is_too_long
-is_enough Check coming = is_too_long
-is_enough Audit coming = is_too_long
+is_enough other coming = is_too_long
 
 -- of the bytes these were read: all, or enough of them
 pub record IsRead (enough : List ℕ → Bool) (bytes read : List ℕ) (left : Option (List ℕ)) : Type 0 where

@@ -1,12 +1,17 @@
--- What `keys`, `sign` and `verify` lead to.
+-- What `keys`, `sign` and `verify` lead to, for LMS and for HSS.
 use Rattle.std.specs.Prelude.{ℕ, List, [], ◌∷◌, ◌++◌, codes, Option, Some, None}
 use Rattle.hex.specs.Hex.{encode_lower}
+use Rattle.hss_sign.specs.Keys.{hss_public_of, hss_signature_of, material_of as key_of}
+use Rattle.hss_sign.specs.Verifying.{first_refusal as first_hss_refusal}
+use Rattle.hss_sign.specs.declared.verifying.HssRefusal.{HssRefusal}
 use Rattle.lms_sign.specs.Signing.{signature_of}
 use Rattle.lms_sign.specs.Tree.{Tree, tree_of, public_of}
 use Rattle.lms_sign.specs.Numbers.{refusal_number}
 use Rattle.lms_sign.specs.Verifying.{first_refusal}
 use Rattle.lms_sign.specs.declared.verifying.LmsRefusal.{LmsRefusal}
-use Rattle.basil_cli.specs.Outcome.{Outcome, Written, Refused}
+use Rattle.basil_cli.specs.Outcome.{Outcome, Written, Refused, RefusedAt}
+use Rattle.basil_cli.specs.declared.command.Claim.{Claim}
+use Rattle.basil_cli.specs.declared.command.HssMaterial.{HssMaterial}
 use Rattle.basil_cli.specs.declared.command.KeyMaterial.{KeyMaterial}
 
 abbrev pub tree_named : KeyMaterial → Tree
@@ -22,9 +27,28 @@ keys_made m = Written (hex_line (public_of (tree_named m)))
 abbrev pub signed : KeyMaterial → ℕ → List ℕ → Outcome
 signed m leaf message = Written (hex_line (signature_of (tree_named m) leaf message))
 
+abbrev pub accepted : Outcome
+accepted = Written (codes "accepted" ++ 10 ∷ [])
+
 abbrev pub verified_with : Option LmsRefusal → Outcome
-verified_with None = Written (codes "accepted" ++ 10 ∷ [])
+verified_with None = accepted
 verified_with (Some refusal) = Refused (refusal_number refusal)
 
-abbrev pub verified : List ℕ → List ℕ → List ℕ → Outcome
-verified public signature message = verified_with (first_refusal public message signature)
+abbrev pub verified : Claim → List ℕ → Outcome
+verified claim message = verified_with (first_refusal claim.public message claim.signature)
+
+-- ---- the same of a key of two levels
+
+abbrev pub hss_keys_made : HssMaterial → Outcome
+hss_keys_made m = Written (hex_line (hss_public_of (key_of m.top.seed m.top.ident m.top.set m.bottom)))
+
+abbrev pub hss_signed : HssMaterial → ℕ → List ℕ → Outcome
+hss_signed m number message =
+    Written (hex_line (hss_signature_of (key_of m.top.seed m.top.ident m.top.set m.bottom) number message))
+
+abbrev pub hss_verified_with : Option HssRefusal → Outcome
+hss_verified_with None = accepted
+hss_verified_with (Some refusal) = RefusedAt refusal
+
+abbrev pub hss_verified : Claim → List ℕ → Outcome
+hss_verified claim message = hss_verified_with (first_hss_refusal claim.public message claim.signature)

@@ -16,6 +16,7 @@ use crate::proving::{judge_by, judge_by_replay};
 use basil_types::cluster::Cluster;
 use basil_types::memory::NoMemory;
 use basil_types::transaction::TransactionView;
+use batch_sign::BatchKeys;
 use frame_views::certificates::CertificateView;
 use frame_views::frames::{MessageView, WritebackView};
 use keyring::plain::PlainKeys;
@@ -35,19 +36,21 @@ pub(crate) enum Ring {
     Plain,
     /// Those of LMS, with this parameter set.
     Lms { set: LmsSet },
+    /// Plain ones, of signatures in batches.
+    Batch,
 }
 
-/// The keys that a header asks for; none where they aren't built yet.
-fn ring_of(keys: KeysKind) -> Option<Ring>
+/// The keys that a header asks for.
+fn ring_of(keys: KeysKind) -> Ring
     ensures { result ≡ checking.ring_of keys }
 {
     match keys {
-        KeysKind::Plain => Some(Ring::Plain),
-        KeysKind::W4H5 => Some(Ring::Lms { set: LmsSet::W4H5 }),
-        KeysKind::W4H10 => Some(Ring::Lms { set: LmsSet::W4H10 }),
-        KeysKind::W8H5 => Some(Ring::Lms { set: LmsSet::W8H5 }),
-        KeysKind::W8H10 => Some(Ring::Lms { set: LmsSet::W8H10 }),
-        KeysKind::Batch => None,
+        KeysKind::Plain => Ring::Plain,
+        KeysKind::W4H5 => Ring::Lms { set: LmsSet::W4H5 },
+        KeysKind::W4H10 => Ring::Lms { set: LmsSet::W4H10 },
+        KeysKind::W8H5 => Ring::Lms { set: LmsSet::W8H5 },
+        KeysKind::W8H10 => Ring::Lms { set: LmsSet::W8H10 },
+        KeysKind::Batch => Ring::Batch,
     }
 }
 
@@ -68,6 +71,13 @@ fn judge_with(
     match ring {
         Ring::Plain => judge_by(alloc, &PlainKeys::new(cluster), cluster, t, c),
         Ring::Lms { set } => judge_by_replay(alloc, set, cluster, t, c),
+        Ring::Batch => judge_by(
+            alloc,
+            &BatchKeys::new(PlainKeys::new(cluster)),
+            cluster,
+            t,
+            c,
+        ),
     }
 }
 
@@ -141,19 +151,13 @@ fn check_under(
 ) -> Result<Ending, NoMemory>
     ensures { IfOk result (λ e. outcome_is e ≡ checked_under cluster.now (checking.ring_of keys) (lines_of bytes.now)) }
 {
-    let Some(ring) = ring_of(keys) else {
-        return Ok(Ending::BadLine {
-            line: 1,
-            reason: Reason::NoHeader,
-        });
-    };
     let Some((line, more)) = first_line(bytes) else {
         return Ok(Ending::BadLine {
             line: 2,
             reason: Reason::OutOfSize,
         });
     };
-    check_lines(alloc, ring, cluster, line, more)
+    check_lines(alloc, ring_of(keys), cluster, line, more)
 }
 
 /// What a first line and those behind it lead to.

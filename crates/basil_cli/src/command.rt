@@ -4,8 +4,11 @@ ghost use Rattle.std.specs.Prelude.{◌≡◌, ◌<◌, ◌≤◌, IfOk, IfSome,
 ghost use Rattle.schedule_text.specs.Fields.{hex, number_in};
 ghost use Rattle.lms_sign.specs.Sets.{leaves_of};
 ghost use Rattle.basil_cli.specs.Commands as commands;
-ghost use Rattle.basil_cli.specs.Commands.{said, hex_of, material_of, leaf_of, command_of, replay_of, generate_of};
+ghost use Rattle.basil_cli.specs.Commands.{said, hex_of, claim_of, material_of, leaf_of, command_of, replay_of};
+ghost use Rattle.basil_cli.specs.Commands.{generate_of};
 ghost use Rattle.basil_cli.specs.Commands.{load_of, size_of, keys_of, sign_of, verify_of, check_of, audit_of, HasLeaf};
+ghost use Rattle.basil_cli.specs.Commands.{hss_keys_of, hss_material_of, hss_sign_of, hss_verify_of, number_of};
+ghost use Rattle.basil_cli.specs.Commands.{numbers_in, reads};
 
 use basil_types::bytes::Bytes;
 use basil_types::memory::NoMemory;
@@ -20,6 +23,29 @@ pub(crate) struct KeyMaterial {
     pub set: LmsSet,
     pub seed: [u8; 32],
     pub ident: [u8; 16],
+}
+
+/// What an HSS key of two levels is made of: the LMS key of the top level, and the parameter set of the bottom one.
+#[derive(Clone, Copy)]
+pub(crate) struct HssMaterial {
+    pub top: KeyMaterial,
+    pub bottom: LmsSet,
+}
+
+impl HssMaterial {
+    /// The number of its signatures, one for each bottom leaf under each top leaf.
+    fn numbers(&self) -> u64
+        ensures { result ≡ numbers_in self.now }
+    {
+        u64::from(self.top.set.leaves()) * u64::from(self.bottom.leaves())
+    }
+}
+
+/// A public key, and bytes that may be a signature under it.
+#[derive(Drop)]
+pub(crate) struct Claim {
+    pub public: Bytes,
+    pub signature: Bytes,
 }
 
 /// What a load is made of: a number, and how many transactions, 1 to 2,000.
@@ -44,11 +70,32 @@ pub(crate) enum Command {
     /// The signature of the input with a leaf, from 0.
     Sign { material: KeyMaterial, leaf: u32 },
     /// Whether a signature of the input is valid under a public key.
-    Verify { public: Bytes, signature: Bytes },
+    Verify { claim: Claim },
+    /// The public key of an HSS key of two levels.
+    HssKeys { material: HssMaterial },
+    /// The signature of the input with a number, from 0.
+    HssSign { material: HssMaterial, number: u64 },
+    /// Whether a signature of the input is valid under an HSS public key.
+    HssVerify { claim: Claim },
     /// Whether the certificate of a writeback proves its decision.
     Check,
     /// Whether each read of listed transactions is what the serial order gives it.
     Audit,
+}
+
+impl Command {
+    /// Whether it has an input.
+    pub(crate) fn has_input(&self) -> bool
+        ensures { result ≡ reads self.now }
+    {
+        match self {
+            Command::Generate { .. }
+            | Command::Load { .. }
+            | Command::Keys { .. }
+            | Command::HssKeys { .. } => false,
+            _ => true,
+        }
+    }
 }
 
 /// The parameter set that an argument names.
@@ -123,6 +170,36 @@ fn read_material(
         return Ok(None);
     };
     Ok(Some(KeyMaterial { set, seed, ident }))
+}
+
+/// `SET SET SEED IDENT`
+fn read_hss_material(
+    alloc: Global,
+    top: &str,
+    bottom: &str,
+    seed: &str,
+    ident: &str,
+) -> Result<Option<HssMaterial>, NoMemory>
+    ensures { IfOk result (λ material. material ≡ hss_material_of top.now bottom.now seed.now ident.now) }
+{
+    let Some(top) = read_material(alloc, top, seed, ident)? else {
+        return Ok(None);
+    };
+    match read_set(bottom) {
+        Some(bottom) => Ok(Some(HssMaterial { top, bottom })),
+        None => Ok(None),
+    }
+}
+
+/// The number of a signature of a key of two levels.
+fn read_signature_number(material: &HssMaterial, argument: &str) -> Option<u64>
+    ensures value { result ≡ number_of material.now argument.now }
+    ensures below { IfSome result (λ number. number < numbers_in material.now) }
+{
+    match read_number(argument.as_bytes()) {
+        Ok(number) if number < material.numbers() => Some(number),
+        _ => None,
+    }
 }
 
 /// The number of a leaf of a set's tree.
@@ -217,6 +294,19 @@ fn read_sign(alloc: Global, arguments: &[String]) -> Result<Option<Command>, NoM
     }
 }
 
+/// `PUBLIC SIGNATURE`, both in hex
+fn read_claim(alloc: Global, public: &str, signature: &str) -> Result<Option<Claim>, NoMemory>
+    ensures { IfOk result (λ claim. claim ≡ claim_of public.now signature.now) }
+{
+    let Some(public) = read_hex(alloc, public)? else {
+        return Ok(None);
+    };
+    match read_hex(alloc, signature)? {
+        Some(signature) => Ok(Some(Claim { public, signature })),
+        None => Ok(None),
+    }
+}
+
 /// `verify PUBLIC SIGNATURE`
 fn read_verify(alloc: Global, arguments: &[String]) -> Result<Option<Command>, NoMemory>
     ensures { IfOk result (λ command. command ≡ verify_of (map string_bytes arguments.now)) }
@@ -224,13 +314,67 @@ fn read_verify(alloc: Global, arguments: &[String]) -> Result<Option<Command>, N
     let [public, signature] = arguments else {
         return Ok(None);
     };
-    let Some(public) = read_hex(alloc, public.as_str())? else {
+    match read_claim(alloc, public.as_str(), signature.as_str())? {
+        Some(claim) => Ok(Some(Command::Verify { claim })),
+        None => Ok(None),
+    }
+}
+
+/// `hsskeys SET SET SEED IDENT`
+fn read_hss_keys(alloc: Global, arguments: &[String]) -> Result<Option<Command>, NoMemory>
+    ensures { IfOk result (λ command. command ≡ hss_keys_of (map string_bytes arguments.now)) }
+{
+    let [top, bottom, seed, ident] = arguments else {
         return Ok(None);
     };
-    let Some(signature) = read_hex(alloc, signature.as_str())? else {
+    let material = read_hss_material(
+        alloc,
+        top.as_str(),
+        bottom.as_str(),
+        seed.as_str(),
+        ident.as_str(),
+    )?;
+    match material {
+        Some(material) => Ok(Some(Command::HssKeys { material })),
+        None => Ok(None),
+    }
+}
+
+/// `hsssign SET SET SEED IDENT N`
+fn read_hss_sign(alloc: Global, arguments: &[String]) -> Result<Option<Command>, NoMemory>
+    ensures value { IfOk result (λ command. command ≡ hss_sign_of (map string_bytes arguments.now)) }
+    ensures leaf { IfOk result (λ command. IfSome command HasLeaf) }
+{
+    let [top, bottom, seed, ident, number] = arguments else {
         return Ok(None);
     };
-    Ok(Some(Command::Verify { public, signature }))
+    let material = read_hss_material(
+        alloc,
+        top.as_str(),
+        bottom.as_str(),
+        seed.as_str(),
+        ident.as_str(),
+    )?;
+    let Some(material) = material else {
+        return Ok(None);
+    };
+    match read_signature_number(&material, number.as_str()) {
+        Some(number) => Ok(Some(Command::HssSign { material, number })),
+        None => Ok(None),
+    }
+}
+
+/// `hssverify PUBLIC SIGNATURE`
+fn read_hss_verify(alloc: Global, arguments: &[String]) -> Result<Option<Command>, NoMemory>
+    ensures { IfOk result (λ command. command ≡ hss_verify_of (map string_bytes arguments.now)) }
+{
+    let [public, signature] = arguments else {
+        return Ok(None);
+    };
+    match read_claim(alloc, public.as_str(), signature.as_str())? {
+        Some(claim) => Ok(Some(Command::HssVerify { claim })),
+        None => Ok(None),
+    }
 }
 
 /// `check`
@@ -269,6 +413,9 @@ pub(crate) fn read_command(alloc: Global, arguments: &[String]) -> Result<Option
         "keys" => read_keys(alloc, arguments),
         "sign" => read_sign(alloc, arguments),
         "verify" => read_verify(alloc, arguments),
+        "hsskeys" => read_hss_keys(alloc, arguments),
+        "hsssign" => read_hss_sign(alloc, arguments),
+        "hssverify" => read_hss_verify(alloc, arguments),
         "check" => Ok(read_check(arguments)),
         "audit" => Ok(read_audit(arguments)),
         _ => Ok(None),

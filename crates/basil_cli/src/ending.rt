@@ -1,6 +1,7 @@
 //! What a command leads to.
 
 use basil_types::bytes::Bytes;
+use hss_sign::HssRefusal;
 use premise_watch::broken::Broken;
 use schedule_text::reason::Reason;
 
@@ -15,6 +16,8 @@ pub(crate) enum Ending {
     Broken(Broken),
     /// What the command tests is false of its input.
     Refused { reason: u8 },
+    /// The same, of a signature of several levels.
+    RefusedAt(HssRefusal),
     /// The same, told in this line.
     Stray(Bytes),
     /// The messages of an event would pass a limit of the pool, which holds so many messages and bytes.

@@ -1,6 +1,6 @@
 //! The top call: all that the program does.
 
-ghost use Rattle.std.specs.Prelude.{◌≡◌, ◌⊎◌, ◌<◌, ℕ, List, Bool, true, false};
+ghost use Rattle.std.specs.Prelude.{◌≡◌, ◌⊎◌, ◌<◌, ◌≤◌, ℕ, List, length, Bool, true, false};
 ghost use Rattle.std.specs.Prelude.{Some, None, Ok, [], IfSome, IfOk, IfErr, map, string_bytes};
 ghost use Rattle.std.specs.Result.{IsErrOf};
 ghost use Rattle.basil_types.specs.Causes.{Rose};
@@ -18,7 +18,7 @@ ghost use Rattle.basil_cli.specs.Commands.{arguments_read, reads, HasLeaf};
 ghost use Rattle.basil_cli.specs.Linked.{ByRoads, ByArguments};
 ghost use Rattle.basil_cli.specs.Clients.{CallsNone, ClientStation, IsClientTold, ToldRun, client_of, client_station};
 ghost use Rattle.basil_cli.specs.Nodes.{HasWritten, IsNodeTold, WroteAt, WroteServed, node_of, station_of};
-ghost use Rattle.basil_cli.specs.Outcome.{is_too_long};
+ghost use Rattle.basil_cli.specs.Outcome.{is_too_long, longest_input};
 ghost use Rattle.basil_cli.specs.Output.{load_text, outcome_of, output_of};
 ghost use Rattle.basil_cli.specs.Parts.{is_link_fail, outcome_is};
 ghost use Rattle.basil_cli.specs.declared.client.ClientCall.{ClientCall};
@@ -35,7 +35,7 @@ use crate::input::{InputFail, Whole, read_whole};
 use crate::node::run_node;
 use crate::parties::{PartyCall, read_party};
 use crate::replay::{generate, load, replay};
-use crate::signatures::{keys, sign, verify};
+use crate::signatures::{hss_keys, hss_sign, hss_verify, keys, sign, verify};
 use crate::status::Status;
 use crate::writing::{write_ending, write_usage};
 use basil_types::clock::Clock;
@@ -45,6 +45,28 @@ use basil_types::sink::Sink;
 use basil_types::source::Source;
 use schedule_replay::laws::{breaks_are_real, reports_are_safe};
 use std::alloc::Global;
+
+/// What a command leads to that runs no schedule, where its input isn't too long.
+fn ending_of(alloc: Global, command: &Command, bytes: &[u8]) -> Result<Ending, NoMemory>
+    requires leaf { HasLeaf command.now }
+    requires other { runs command.now ≡ false }
+    requires short { length bytes.now ≤ longest_input }
+    ensures { IfOk result (λ e. (coming : List (List ℕ)) → outcome_is e ≡ output_of command.now coming bytes.now) }
+{
+    match command {
+        Command::Replay { .. } => unreachable!(),
+        Command::Generate { size } => generate(alloc, *size),
+        Command::Load { size } => load(alloc, *size),
+        Command::Keys { material } => keys(alloc, material),
+        Command::Sign { material, leaf } => sign(alloc, material, *leaf, bytes),
+        Command::Verify { claim } => verify(alloc, claim, bytes),
+        Command::HssKeys { material } => hss_keys(alloc, material),
+        Command::HssSign { material, number } => hss_sign(alloc, material, *number, bytes),
+        Command::HssVerify { claim } => hss_verify(alloc, claim, bytes),
+        Command::Check => check(alloc, bytes),
+        Command::Audit => audit(alloc, bytes),
+    }
+}
 
 /// What a command leads to that runs no schedule.
 fn ending_alone<S: Source>(
@@ -67,32 +89,12 @@ fn ending_alone<S: Source>(
     ensures told { S.faults source.old < S.faults source.new → IsErrOf result InputFail.Failed }
     ensures unlinked { is_link_fail result ≡ false }
 {
-    match command {
-        Command::Replay { .. } => unreachable!(),
-        Command::Generate { size } => Ok(generate(alloc, *size)?),
-        Command::Load { size } => Ok(load(alloc, *size)?),
-        Command::Keys { material } => Ok(keys(alloc, material)?),
-        Command::Sign { material, leaf } => match read_whole(alloc, source)? {
-            Whole::Bytes(message) => Ok(sign(alloc, material, *leaf, message.as_slice())?),
-            Whole::TooLong => Ok(Ending::TooLong),
-        },
-        Command::Verify { public, signature } => match read_whole(alloc, source)? {
-            Whole::Bytes(message) => Ok(verify(
-                alloc,
-                public.as_slice(),
-                signature.as_slice(),
-                message.as_slice(),
-            )?),
-            Whole::TooLong => Ok(Ending::TooLong),
-        },
-        Command::Check => match read_whole(alloc, source)? {
-            Whole::Bytes(bytes) => Ok(check(alloc, bytes.as_slice())?),
-            Whole::TooLong => Ok(Ending::TooLong),
-        },
-        Command::Audit => match read_whole(alloc, source)? {
-            Whole::Bytes(bytes) => Ok(audit(alloc, bytes.as_slice())?),
-            Whole::TooLong => Ok(Ending::TooLong),
-        },
+    if !command.has_input() {
+        return Ok(ending_of(alloc, command, &[])?);
+    }
+    match read_whole(alloc, source)? {
+        Whole::Bytes(bytes) => Ok(ending_of(alloc, command, bytes.as_slice())?),
+        Whole::TooLong => Ok(Ending::TooLong),
     }
 }
 

@@ -1,15 +1,18 @@
-//! LMS keys and signatures, as commands.
+//! LMS and HSS keys and signatures, as commands.
 
-ghost use Rattle.std.specs.Prelude.{◌≡◌, ◌<◌, IfOk};
+ghost use Rattle.std.specs.Prelude.{◌≡◌, ◌<◌, ◌≤◌, IfOk};
+ghost use Rattle.hss_sign.specs.Keys.{hss_signature_of, made_before, material_of as key_of, numbers_of};
 ghost use Rattle.lms_sign.specs.Sets.{leaves_of};
 ghost use Rattle.basil_cli.specs.Signatures as signatures;
-ghost use Rattle.basil_cli.specs.Signatures.{keys_made, signed, verified};
+ghost use Rattle.basil_cli.specs.Commands.{numbers_in};
+ghost use Rattle.basil_cli.specs.Signatures.{keys_made, signed, verified, hss_keys_made, hss_signed, hss_verified};
 ghost use Rattle.basil_cli.specs.Parts.{outcome_is};
 
-use crate::command::KeyMaterial;
+use crate::command::{Claim, HssMaterial, KeyMaterial};
 use crate::ending::Ending;
 use basil_types::bytes::Bytes;
 use basil_types::memory::NoMemory;
+use hss_sign::{HssFault, HssKey, hss_verify as verify_levels};
 use lms_sign::LmsKey;
 use std::alloc::Global;
 
@@ -49,19 +52,85 @@ pub(crate) fn sign(
     }
 }
 
-/// Whether a signature of a message is valid under a public key.
-pub(crate) fn verify(
-    alloc: Global,
-    public: &[u8],
-    signature: &[u8],
-    message: &[u8],
-) -> Result<Ending, NoMemory>
-    ensures { IfOk result (λ e. outcome_is e ≡ verified public.now signature.now message.now) }
+/// A signature is valid.
+fn accepted(alloc: Global) -> Result<Ending, NoMemory>
+    ensures { IfOk result (λ e. outcome_is e ≡ signatures.accepted) }
 {
-    match lms_sign::verify(public, message, signature) {
-        Ok(()) => Ok(Ending::Written(Bytes::copy_of(alloc, b"accepted\n")?)),
+    Ok(Ending::Written(Bytes::copy_of(alloc, b"accepted\n")?))
+}
+
+/// Whether the claimed signature of a message is valid.
+pub(crate) fn verify(alloc: Global, claim: &Claim, message: &[u8]) -> Result<Ending, NoMemory>
+    ensures { IfOk result (λ e. outcome_is e ≡ verified claim.now message.now) }
+{
+    match lms_sign::verify(claim.public.as_slice(), message, claim.signature.as_slice()) {
+        Ok(()) => accepted(alloc),
         Err(refusal) => Ok(Ending::Refused {
             reason: refusal.number(),
         }),
+    }
+}
+
+/// A key of two levels before a number.
+fn hss_key(alloc: Global, material: &HssMaterial, number: u64) -> Result<HssKey, NoMemory>
+    requires { number ≤ numbers_in material.now }
+    ensures { IfOk result (λ key. key ≡ made_before (key_of material.now.top.seed material.now.top.ident
+        material.now.top.set material.now.bottom) number) }
+{
+    let top = &material.top;
+    HssKey::make(
+        alloc,
+        &top.seed,
+        &top.ident,
+        top.set,
+        material.bottom,
+        number,
+    )
+}
+
+/// The public key of a key of two levels.
+pub(crate) fn hss_keys(alloc: Global, material: &HssMaterial) -> Result<Ending, NoMemory>
+    ensures { IfOk result (λ e. outcome_is e ≡ hss_keys_made material.now) }
+{
+    let key = hss_key(alloc, material, 0)?;
+    Ok(Ending::Written(hex_line(alloc, &key.public())?))
+}
+
+/// The signature of a message with the next number of a key, which has one.
+fn next_signature(alloc: Global, key: &mut HssKey, message: &[u8]) -> Result<Vec<u8>, NoMemory>
+    requires { key.old.next < numbers_of key.old.material }
+    ensures { IfOk result (λ signature. signature.items
+        ≡ hss_signature_of key.old.material key.old.next message.now) }
+{
+    let mut signature = vec![in alloc; 0u8; key.size()]?;
+    match key.sign_into(message, &mut signature) {
+        Ok(()) => Ok(signature),
+        Err(HssFault::NoMemory) => Err(NoMemory),
+        Err(HssFault::Exhausted) => unreachable!(),
+    }
+}
+
+/// The signature of a message with a number of a key of two levels.
+pub(crate) fn hss_sign(
+    alloc: Global,
+    material: &HssMaterial,
+    number: u64,
+    message: &[u8],
+) -> Result<Ending, NoMemory>
+    requires { number < numbers_in material.now }
+    ensures { IfOk result (λ e. outcome_is e ≡ hss_signed material.now number message.now) }
+{
+    let mut key = hss_key(alloc, material, number)?;
+    let signature = next_signature(alloc, &mut key, message)?;
+    Ok(Ending::Written(hex_line(alloc, &signature)?))
+}
+
+/// Whether the claimed signature of a message, of one level or more, is valid.
+pub(crate) fn hss_verify(alloc: Global, claim: &Claim, message: &[u8]) -> Result<Ending, NoMemory>
+    ensures { IfOk result (λ e. outcome_is e ≡ hss_verified claim.now message.now) }
+{
+    match verify_levels(claim.public.as_slice(), message, claim.signature.as_slice()) {
+        Ok(()) => accepted(alloc),
+        Err(refusal) => Ok(Ending::RefusedAt(refusal)),
     }
 }

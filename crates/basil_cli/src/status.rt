@@ -25,8 +25,8 @@ pub enum Status {
     /// two transactions have one id; `broken forged PARTY WORDS SIGNATURE` or `broken collision BYTES BYTES` was
     /// written.
     Broken,
-    /// 8: what the command tests is false of its input, and why; `refused R` was written, or for `audit`, with the
-    /// reason 0, a line `stray`.
+    /// 8: what the command tests is false of its input, and why; `refused R` was written, for `hssverify` with the
+    /// level and the number of what LMS refuses there, where it has one; for `audit`, with the reason 0, a line `stray`.
     Refused { reason: u8 },
     /// 9: memory is wanting; nothing was written.
     NoMemory,
@@ -62,8 +62,8 @@ impl Status {
     }
 }
 
-/// The line that tells the status; but the text of an output, a breach or a stray read says more, and nothing is
-/// written of a failed write and want of memory.
+/// The line that tells the status; but the text of an output, a breach, a refusal at a level or a stray read says more,
+/// and nothing is written of a failed write and want of memory.
 impl fmt::Display for Status {
     ghost output = { λ status. Some (status_text status) };
 

@@ -13,6 +13,7 @@ use crate::status::Status;
 use basil_types::memory::NoMemory;
 use basil_types::party::Party;
 use hex::encode;
+use hss_sign::HssRefusal;
 use premise_watch::broken::Broken;
 use std::alloc::Global;
 
@@ -58,6 +59,24 @@ fn broken_text(alloc: Global, broken: &Broken) -> Result<Vec<u8>, NoMemory>
     Ok(Vec::from_slice(alloc, text.as_bytes())?)
 }
 
+/// `refused R`, `refused R LEVEL`, or `refused R LEVEL` and the number of what LMS refuses there
+fn level_text(alloc: Global, refusal: &HssRefusal) -> Result<Vec<u8>, NoMemory>
+    ensures { IfOk result (λ text. text.items ≡ text_of (outcomes.RefusedAt refusal.now)) }
+{
+    let number = refusal.number();
+    let text = match refusal {
+        HssRefusal::SetType(level) | HssRefusal::Short(level) => {
+            format!(in alloc; "refused {number} {level}\n")?
+        }
+        HssRefusal::Lms { level, refusal } => {
+            let lms = refusal.number();
+            format!(in alloc; "refused {number} {level} {lms}\n")?
+        }
+        _ => format!(in alloc; "refused {number}\n")?,
+    };
+    Ok(Vec::from_slice(alloc, text.as_bytes())?)
+}
+
 /// The text of an ending.
 pub(crate) fn text_of_ending(alloc: Global, ending: &Ending) -> Result<Vec<u8>, NoMemory>
     ensures { IfOk result (λ text. text.items ≡ text_of (outcome_is ending.now)) }
@@ -65,6 +84,7 @@ pub(crate) fn text_of_ending(alloc: Global, ending: &Ending) -> Result<Vec<u8>, 
     match ending {
         Ending::Written(text) => Ok(Vec::from_slice(alloc, text.as_slice())?),
         Ending::Broken(broken) => broken_text(alloc, broken),
+        Ending::RefusedAt(refusal) => level_text(alloc, refusal),
         Ending::Stray(line) => Ok(Vec::from_slice(alloc, line.as_slice())?),
         _ => line_of(alloc, status_of_ending(ending)),
     }
@@ -82,6 +102,9 @@ pub(crate) fn status_of_ending(ending: &Ending) -> Status
         Ending::Written(_) => Status::Done,
         Ending::Broken(_) => Status::Broken,
         Ending::Refused { reason } => Status::Refused { reason: *reason },
+        Ending::RefusedAt(refusal) => Status::Refused {
+            reason: refusal.number(),
+        },
         Ending::Stray(_) => Status::Refused { reason: 0 },
         Ending::Full { messages, bytes } => Status::Full {
             messages: *messages,

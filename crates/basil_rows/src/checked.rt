@@ -365,12 +365,6 @@ const BAD_LINES: &[BadLine] = &[
         1,
         1,
     ),
-    (
-        "signatures over batches aren't built",
-        "basil 1 f=1 shards=1 reads=2 delta=100 clock=50 keys=batch\nFRONT06",
-        1,
-        1,
-    ),
     ("there is no second line", "HEADER", 2, 8),
     ("there is none behind a newline", "HEADER\n", 2, 8),
     ("the second line is empty", "HEADER\n\n", 2, 8),

@@ -10,6 +10,8 @@ mod causes;
 #[cfg(test)]
 mod checked;
 #[cfg(test)]
+mod levels;
+#[cfg(test)]
 mod lines;
 #[cfg(test)]
 mod loads;

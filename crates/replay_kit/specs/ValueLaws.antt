@@ -1,6 +1,7 @@
 -- The laws of kits, of the kits of a replay as values.
-use Rattle.std.proofs.Common.{◌≡◌, true, sym, ◌∙◌}
+use Rattle.std.proofs.Common.{◌≡◌, ℕ, zero, suc, List, ◌∷◌, true, length, arith, sym, ◌∙◌}
 use Rattle.basil_types.specs.Setting.{Setting}
+use Rattle.basil_types.specs.Texts.{IsBytes}
 use Rattle.basil_types.specs.declared.party.Party.{Party}
 use Rattle.keyring.specs.Signing.{AcceptsSigner}
 use Rattle.keyring_lms.specs.Replay.{is_party_of, replay_accepts, tree_in_replay}
@@ -9,10 +10,10 @@ use Rattle.lms_sign.specs.declared.sets.LmsSet.{LmsSet}
 use Rattle.lms_sign.specs.Laws.{HasItsSize}
 use Rattle.lms_sign.proofs.PartLaws.{length-made, length-public, length-ident}
 use Rattle.sha2.proofs.Facts256.{length-sha256}
-use Rattle.cluster_run.specs.Safety.{AreSigned}
+use Rattle.cluster_run.specs.Safety.{AreSigned, IsSigned}
 use Rattle.cluster_run.proofs.KitLaws as kits
 use Rattle.cluster_nodes.specs.Sizes.{GivesItsSize}
-use Rattle.replay_kit.specs.Values.{plain_place, lms_place, plain_value, lms_value}
+use Rattle.replay_kit.specs.Values.{plain_place, lms_place, batch_value, plain_value, lms_value}
 
 pub plain-accepted : (party : Party) → AcceptsSigner plain_value.accepts (plain_value.signing party)
 plain-accepted party words signature holds = holds
@@ -37,3 +38,29 @@ pub lms-signed : (cluster : Setting) (set : LmsSet) → AreSigned (lms_value clu
 lms-signed cluster set =
     let sizes : HasItsSize = record { signature = length-made; public = length-public; ident = length-ident } in
     kits.lms_kits_sign sizes (replay_accepts cluster set) (tree_in_replay set) (λ _. 0) (λ _. lms_place set)
+
+-- ---- batches of one
+
+pub batch-accepted : (party : Party) → AcceptsSigner batch_value.accepts (batch_value.signing party)
+batch-accepted party words signature holds = holds
+
+two-longer : (signature : List ℕ) → length signature ≡ 32 → length (0 ∷ 0 ∷ signature) ≡ 34
+two-longer signature long = omega (arith, long)
+
+pub batch-sized : (party : Party) → GivesItsSize (batch_value.signing party) (batch_value.pen party)
+batch-sized party place words under = two-longer _ (length-sha256 _)
+
+two-bytes : (signature : List ℕ) → IsBytes signature → IsBytes (0 ∷ 0 ∷ signature)
+two-bytes signature bytes zero = omega arith
+two-bytes signature bytes (suc zero) = omega arith
+two-bytes signature bytes (suc (suc i)) = bytes i
+
+alone-signed : (signature : List ℕ) → length signature ≡ 32 → IsSigned signature → IsSigned (0 ∷ 0 ∷ signature)
+alone-signed signature long s = record {
+  fits = record { some = omega (arith, two-longer signature long); short = omega (arith, two-longer signature long) };
+  bytes = two-bytes signature s.bytes;
+}
+
+pub batch-signed : AreSigned batch_value
+batch-signed n place words under =
+    alone-signed _ (length-sha256 _) (kits.plain_kits_sign (λ _. plain_place) n place _ under)

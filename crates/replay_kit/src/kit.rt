@@ -10,13 +10,14 @@ use crate::ring::ReplayRing;
 use basil_types::cluster::Cluster;
 use basil_types::memory::NoMemory;
 use basil_types::party::Party;
+use batch_sign::{BatchKeys, BatchPen};
 use keyring::plain::{PlainKeys, PlainPen};
 use run_kit::Kit;
 use std::alloc::Global;
 
 /// The kit of a replay over a cluster: its keys are those that are made of the parties' seeds. It has a pen for every
-/// party. With plain keys its keyrings know every party too, and with LMS those of the cluster: the replicas of each
-/// shard, and the clients 1 to 16.
+/// party. Its keyrings know every party too, but with LMS those of the cluster alone: the replicas of each shard, and
+/// the clients 1 to 16.
 #[derive(Drop)]
 pub struct ReplayKit {
     alloc: Global,
@@ -62,6 +63,7 @@ impl Kit for ReplayKit {
                 let ring = keys.ring(self.alloc)?;
                 Ok(ReplayRing::Lms(ring))
             }
+            Made::Batch => Ok(ReplayRing::Batch(BatchKeys::new(PlainKeys))),
         }
     }
 
@@ -72,6 +74,7 @@ impl Kit for ReplayKit {
                 let pen = keys.pen(self.alloc, party)?;
                 Ok(ReplayPen::Lms(pen))
             }
+            Made::Batch => Ok(ReplayPen::Batch(BatchPen::new(PlainPen::new(party)))),
         }
     }
 }

@@ -3,6 +3,7 @@
 
 mod kind;
 mod kit;
+mod laws;
 mod lms;
 mod made;
 mod pen;
@@ -10,6 +11,7 @@ mod ring;
 
 pub use kind::KitKind;
 pub use kit::ReplayKit;
+pub use laws::batch_kits_sign;
 pub use lms::has_party;
 pub use pen::ReplayPen;
 pub use ring::ReplayRing;

@@ -10,11 +10,12 @@ use basil_types::cluster::Cluster;
 use basil_types::memory::NoMemory;
 use std::alloc::Global;
 
-/// What a kit makes at once: nothing of plain keys.
+/// What a kit makes at once: nothing of plain keys, nor of batches over them.
 #[derive(Drop)]
 pub(crate) enum Made {
     Plain,
     Lms(LmsKit),
+    Batch,
 }
 
 /// Makes what a kit of this kind over a cluster hands out.
@@ -28,5 +29,6 @@ pub(crate) fn make(alloc: Global, cluster: Cluster, kind: KitKind) -> Result<Mad
             let keys = LmsKit::new(alloc, cluster, set)?;
             Ok(Made::Lms(keys))
         }
+        KitKind::Batch => Ok(Made::Batch),
     }
 }

@@ -17,7 +17,7 @@ use Rattle.lms_sign.specs.declared.sets.LmsSet.TheVariants as sets
 use Rattle.node_steps.specs.Refusing.{when, unless}
 use Rattle.premise_watch.specs.Parties.{AreCounted, AreFew, can_join}
 use Rattle.premise_watch.specs.declared.broken.Broken.{Broken}
-use Rattle.replay_kit.specs.Values.{lms_place, lms_value, plain_place, plain_value}
+use Rattle.replay_kit.specs.Values.{BatchKitsSign, lms_place, lms_value, plain_place}
 use Rattle.schedule_text.specs.Fitting.{Fits, GrammarIsRead}
 use Rattle.schedule_text.specs.Reading.{line_at}
 use Rattle.schedule_text.specs.TextLines.{lines_of}
@@ -52,6 +52,7 @@ pub record Laws : Type 0 where
   pub few : (c : Setting) (parties : List Party) → AreCounted c.f parties → AreFew c parties
   pub plain : PlainKitsSign
   pub lms : LmsKitsSign
+  pub batch : BatchKitsSign
 
 record IsOpening (o : Opening) (faulty : List Party) : Type 0 where
   pub setting : IsSetting o.cluster
@@ -99,30 +100,28 @@ module _ (laws : Laws) where
   lms_signs : (c : Setting) (set : LmsSet) → AreSigned (lms_value c set)
   lms_signs c set = laws.lms (replay_accepts c set) (tree_in_replay set) (λ _. 0) (λ _. lms_place set)
 
-  kit_signs : (c : Setting) (keys : KeysKind) (kit : KitValue) → kit_of c keys ≡ Some kit → AreSigned kit
-  kit_signs c Plain kit h =
-      let same : plain_value ≡ kit = cc in subst AreSigned same (laws.plain (λ _. plain_place))
-  kit_signs c W4H5 kit h = let same : lms_value c sets.W4H5 ≡ kit = cc in subst AreSigned same (lms_signs c sets.W4H5)
-  kit_signs c W4H10 kit h = let same : lms_value c sets.W4H10 ≡ kit = cc in subst AreSigned same (lms_signs c sets.W4H10)
-  kit_signs c W8H5 kit h = let same : lms_value c sets.W8H5 ≡ kit = cc in subst AreSigned same (lms_signs c sets.W8H5)
-  kit_signs c W8H10 kit h = let same : lms_value c sets.W8H10 ≡ kit = cc in subst AreSigned same (lms_signs c sets.W8H10)
-  kit_signs c Batch kit h = absurd cc
+  kit_signs : (c : Setting) (keys : KeysKind) → AreSigned (kit_of c keys)
+  kit_signs c Plain = laws.plain (λ _. plain_place)
+  kit_signs c W4H5 = lms_signs c sets.W4H5
+  kit_signs c W4H10 = lms_signs c sets.W4H10
+  kit_signs c W8H5 = lms_signs c sets.W8H5
+  kit_signs c W8H10 = lms_signs c sets.W8H10
+  kit_signs c Batch = laws.batch
 
   nobody : (f : ℕ) → AreCounted f []
   nobody f shard = omega arith
 
-  opens : (road : Road) (number : ℕ) (c : Setting) (clock : ℕ) (journal : Bool) (kit : Option KitValue) (stage : Stage) → IsSetting c →
-      ((k : KitValue) → kit ≡ Some k → AreSigned k) → opened road number c clock journal kit ≡ Ok stage → IsStage stage
+  opens : (road : Road) (number : ℕ) (c : Setting) (clock : ℕ) (journal : Bool) (kit : KitValue) (stage : Stage) → IsSetting c →
+      AreSigned kit → opened road number c clock journal kit ≡ Ok stage → IsStage stage
   opens road number c clock true kit stage i signs h = absurd cc
-  opens road number c clock false None stage i signs h = absurd cc
-  opens road number c clock false (Some kit) stage i signs h =
+  opens road number c clock false kit stage i signs h =
       let same : Opens (record { cluster = c; clock = clock; kit = kit }) [] road ≡ stage = cc in
-      subst IsStage same (record { setting = i; counted = nobody c.f; signed = signs kit refl })
+      subst IsStage same (record { setting = i; counted = nobody c.f; signed = signs })
 
   first_keeps : (road : Road) (number : ℕ) (line : Line) (stage : Stage) → Fits line →
       first_line road number line ≡ Ok stage → IsStage stage
   first_keeps road number (Header c clock keys journal) stage f h =
-      opens road number c clock journal (kit_of c keys) stage f.0 (λ k e. kit_signs c keys k e) h
+      opens road number c clock journal (kit_of c keys) stage f.0 (kit_signs c keys) h
   first_keeps road number Skipped stage f h = let same : Begins road ≡ stage = cc in subst IsStage same tt
   first_keeps road number line stage f h = absurd cc
 
@@ -218,11 +217,10 @@ module _ (laws : Laws) where
 
   -- ---- breaches
 
-  opened_breaks : {A : Type 0} (road : Road) (number : ℕ) (c : Setting) (clock : ℕ) (journal : Bool) (kit : Option KitValue) (b : Broken) →
+  opened_breaks : {A : Type 0} (road : Road) (number : ℕ) (c : Setting) (clock : ℕ) (journal : Bool) (kit : KitValue) (b : Broken) →
       opened road number c clock journal kit ≡ Err (fault.Broken b) → A
   opened_breaks road number c clock true kit b h = absurd cc
-  opened_breaks road number c clock false None b h = absurd cc
-  opened_breaks road number c clock false (Some kit) b h = absurd cc
+  opened_breaks road number c clock false kit b h = absurd cc
 
   first_breaks : {A : Type 0} (road : Road) (number : ℕ) (line : Line) (b : Broken) → first_line road number line ≡ Err (fault.Broken b) → A
   first_breaks road number (Header c clock keys journal) b h = opened_breaks road number c clock journal (kit_of c keys) b h

@@ -16,7 +16,6 @@ use Rattle.node_steps.specs.Refusing.{unless}
 use Rattle.premise_watch.specs.Parties.{can_join, is_among, joined}
 use Rattle.replay_kit.specs.Kinds.{kind_of}
 use Rattle.replay_kit.specs.Values.{replay_value}
-use Rattle.replay_kit.specs.declared.kind.KitKind.{KitKind}
 use Rattle.schedule_text.specs.Fitting.{GrammarIsRead}
 use Rattle.schedule_text.specs.Limits.{most_lines}
 use Rattle.schedule_text.specs.Reading.{line_at}
@@ -90,18 +89,12 @@ joined_parties c faulty party parties there = by (can_join c.f faulty party)
 
 -- ---- the header
 
-kit_opens : (road : Road) (number : ℕ) (c : Setting) (clock : ℕ) (journal : Bool) (keys : KeysKind)
-    (kind : Option KitKind) → journal ≡ false →
-    kind_of keys ≡ kind →
-    opened road number c clock journal (kit_of c keys) ≡ opened road number c clock false (option_map (replay_value c) kind)
-kit_opens road number c clock journal keys kind h k =
-    ap (λ b. opened road number c clock b (kit_of c keys)) h
-    ∙ ap (λ o. opened road number c clock false (option_map (replay_value c) o)) k
-
 pub with_kit : (road : Road) (number : ℕ) (o : code.Opening) (journal : Bool) (keys : KeysKind) →
-    journal ≡ false → kind_of keys ≡ Some o.keys →
+    journal ≡ false → kind_of keys ≡ o.keys →
     opened road number o.cluster o.clock journal (kit_of o.cluster keys) ≡ Ok (Opens (opening_of o) [] road)
-with_kit road number o journal keys h k = kit_opens road number o.cluster o.clock journal keys (Some o.keys) h k
+with_kit road number o journal keys h k =
+    ap (λ b. opened road number o.cluster o.clock b (kit_of o.cluster keys)) h
+    ∙ ap (λ kind. opened road number o.cluster o.clock false (replay_value o.cluster kind)) k
 
 -- ---- a faulty party
 

@@ -1,11 +1,9 @@
 -- The kit that a header names.
-use Rattle.std.specs.Prelude.{Option, option_map}
 use Rattle.basil_types.specs.Setting.{Setting}
 use Rattle.cluster_run.specs.States.{KitValue}
 use Rattle.replay_kit.specs.Kinds.{kind_of}
 use Rattle.replay_kit.specs.Values.{replay_value}
 use Rattle.schedule_text.specs.declared.line.KeysKind.{KeysKind}
 
--- batches have no kit yet
-abbrev pub kit_of : Setting → KeysKind → Option KitValue
-kit_of c keys = option_map (replay_value c) (kind_of keys)
+abbrev pub kit_of : Setting → KeysKind → KitValue
+kit_of c keys = replay_value c (kind_of keys)

@@ -1,6 +1,6 @@
 -- The stages of a schedule, and its lines.
 use Rattle.std.specs.Prelude.{◌≡◌, ℕ, ◌+◌, List, [], ◌∷◌, ◌++◌, Bool, true, false, not}
-use Rattle.std.specs.Prelude.{Option, Some, None, option_map, Result, Ok, Err, if◌then◌else◌}
+use Rattle.std.specs.Prelude.{Option, option_map, Result, Ok, Err, if◌then◌else◌}
 use Rattle.basil_types.specs.Built.{or_else}
 use Rattle.basil_types.specs.Setting.{Setting}
 use Rattle.basil_types.specs.Steps.{◌>>=◌}
@@ -46,12 +46,10 @@ on_road road (Runs r) = Runs (along road r)
 
 -- ---- the header
 
--- a journal, and keys without a kit, are reason 10
-abbrev pub opened : Road → (number : ℕ) → Setting → (clock : ℕ) → (journal : Bool) → Option KitValue →
-    Result Stage ReplayFault
+-- a journal is reason 10
+abbrev pub opened : Road → (number : ℕ) → Setting → (clock : ℕ) → (journal : Bool) → KitValue → Result Stage ReplayFault
 opened road number c clock true kit = Err (BadInput number NotBuilt)
-opened road number c clock false None = Err (BadInput number NotBuilt)
-opened road number c clock false (Some kit) = Ok (Opens (record { cluster = c; clock = clock; kit = kit }) [] road)
+opened road number c clock false kit = Ok (Opens (record { cluster = c; clock = clock; kit = kit }) [] road)
 
 abbrev pub first_line : Road → (number : ℕ) → Line → Result Stage ReplayFault
 first_line road number (Header cluster clock keys journal) =

@@ -5,6 +5,7 @@ ghost use Rattle.schedule_replay.specs.Laws.{BreaksAreReal, ReportsAreSafe};
 use cluster_run::kits::{lms_kits_sign, plain_kits_sign};
 use cluster_run::safety::{runs_are_safe, runs_up_to_a_breach_are_safe};
 use premise_watch::laws::counted_are_few;
+use replay_kit::batch_kits_sign;
 use schedule_text::laws::grammar_is_read;
 
 /// A report is that of a run in which at most f replicas of each shard are faulty, and the run is safe: no transaction
@@ -17,6 +18,7 @@ pub fn reports_are_safe()
     counted_are_few();
     plain_kits_sign();
     lms_kits_sign();
+    batch_kits_sign();
     runs_are_safe();
 }
 
@@ -30,5 +32,6 @@ pub fn breaks_are_real()
     counted_are_few();
     plain_kits_sign();
     lms_kits_sign();
+    batch_kits_sign();
     runs_up_to_a_breach_are_safe();
 }

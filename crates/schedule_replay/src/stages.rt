@@ -163,7 +163,7 @@ impl Schedule {
         Schedule::Begins
     }
 
-    /// What a header opens: a journal, and keys without a kit, are reason 10.
+    /// What a header opens: a journal is reason 10.
     fn open(
         alloc: Global,
         number: u64,
@@ -176,14 +176,13 @@ impl Schedule {
             Took result (stages.opened road number cluster clock journal (kit_of cluster keys)) road }
         ensures unlinked { is_link_fault result ≡ false }
     {
-        let reason = Reason::NotBuilt;
-        let line = number;
         if journal {
-            return Err(ReplayFault::BadInput { line, reason });
+            return Err(ReplayFault::BadInput {
+                line: number,
+                reason: Reason::NotBuilt,
+            });
         }
-        let Some(keys) = KitKind::of(keys) else {
-            return Err(ReplayFault::BadInput { line, reason });
-        };
+        let keys = KitKind::of(keys);
         let opening = Opening {
             cluster,
             clock,

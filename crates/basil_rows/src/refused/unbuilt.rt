@@ -1,15 +1,9 @@
-//! Headers that ask for what isn't built yet.
+//! Headers that ask for what isn't built yet: journals.
 
 use crate::refused::{Refused, are_refused};
 use std::test::Fail;
 
 const REFUSED: &[Refused] = &[
-    (
-        "signatures are over batches",
-        b"basil 1 f=0 shards=1 reads=1 delta=100 clock=50 keys=batch\n",
-        1,
-        10,
-    ),
     (
         "replicas have journals",
         b"basil 1 f=0 shards=1 reads=1 delta=100 clock=50 keys=plain journal\n",

@@ -1,20 +1,17 @@
+use Rattle.std.proofs.Common.{rules, ◌≡◌, false}
+use Rattle.basil_cli.specs.Commands.{reads}
+use Rattle.basil_cli.specs.Parts.{outcome_is}
+use Rattle.basil_cli.proofs.Arguments.{unread_all}
 use Rattle.basil_cli.proofs.Stopping.{untaken_all}
 use Rattle.basil_cli.proofs.run.ending_alone.Goals as goal
 
-pub returns-in_err-generate-in-Generate-clause-soon : goal.returns-in_err-generate-in-Generate-clause-soon
-returns-in_err-generate-in-Generate-clause-soon g c = untaken_all c.args.command.now (g.S.Source.left c.args.source.now)
+pub returns-in_err-ending_of-clause-soon : goal.returns-in_err-ending_of-clause-soon
+returns-in_err-ending_of-clause-soon g c = untaken_all c.args.command.now (g.S.Source.left c.args.source.now)
 
-pub returns-in_ok-generate-in-Generate-clause-soon : goal.returns-in_ok-generate-in-Generate-clause-soon
-returns-in_ok-generate-in-Generate-clause-soon g c = untaken_all c.args.command.now (g.S.Source.left c.args.source.now)
+pub returns-then-not-has_input-clause-soon : goal.returns-then-not-has_input-clause-soon
+returns-then-not-has_input-clause-soon g c = untaken_all c.args.command.now (g.S.Source.left c.args.source.now)
 
-pub returns-in_err-load-in-Load-clause-soon : goal.returns-in_err-load-in-Load-clause-soon
-returns-in_err-load-in-Load-clause-soon g c = untaken_all c.args.command.now (g.S.Source.left c.args.source.now)
-
-pub returns-in_ok-load-in-Load-clause-soon : goal.returns-in_ok-load-in-Load-clause-soon
-returns-in_ok-load-in-Load-clause-soon g c = untaken_all c.args.command.now (g.S.Source.left c.args.source.now)
-
-pub returns-in_err-keys-in-Keys-clause-soon : goal.returns-in_err-keys-in-Keys-clause-soon
-returns-in_err-keys-in-Keys-clause-soon g c = untaken_all c.args.command.now (g.S.Source.left c.args.source.now)
-
-pub returns-in_ok-keys-in-Keys-clause-soon : goal.returns-in_ok-keys-in-Keys-clause-soon
-returns-in_ok-keys-in-Keys-clause-soon g c = untaken_all c.args.command.now (g.S.Source.left c.args.source.now)
+pub returns-then-not-has_input-clause-outcome : goal.returns-then-not-has_input-clause-outcome
+returns-then-not-has_input-clause-outcome g c =
+    let none : reads c.args.command.now ≡ false = search rules in
+    unread_all c.args.command.now none (g.S.Source.left c.args.source.now) (outcome_is c.in_ok-ending_of.field-0) c.in_ok-ending_of.ensures

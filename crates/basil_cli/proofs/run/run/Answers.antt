@@ -125,6 +125,12 @@ returns-in-Ok-Some-Client-clause-safe g c = λ carried e f.
     no_such (command_of (map string_bytes c.args.arguments.now)) _
     (client_is_none (map string_bytes c.args.arguments.now) c.in-Ok-Some-Client.call said).0 e _
 
+pub returns-in-Ok-Some-Client-clause-safe_in_part : goal.returns-in-Ok-Some-Client-clause-safe_in_part
+returns-in-Ok-Some-Client-clause-safe_in_part g c = λ carried e f.
+    let said : client_of (map string_bytes c.args.arguments.now) ≡ Some c.in-Ok-Some-Client.call = search rules in
+    no_such (command_of (map string_bytes c.args.arguments.now)) _
+    (client_is_none (map string_bytes c.args.arguments.now) c.in-Ok-Some-Client.call said).0 e _
+
 pub returns-in-Ok-Some-Client-clause-broken : goal.returns-in-Ok-Some-Client-clause-broken
 returns-in-Ok-Some-Client-clause-broken g c = λ carried e f.
     let said : client_of (map string_bytes c.args.arguments.now) ≡ Some c.in-Ok-Some-Client.call = search rules in

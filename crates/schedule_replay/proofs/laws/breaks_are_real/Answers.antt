@@ -9,4 +9,5 @@ returns c =
       few = c.counted_are_few.ensures;
       plain = c.plain_kits_sign.ensures;
       lms = c.lms_kits_sign.ensures;
+      batch = c.batch_kits_sign.ensures;
     }) c.runs_up_to_a_breach_are_safe.ensures

@@ -7,9 +7,9 @@ use Rattle.schedule_replay.proofs.stages.Schedule.open.Goals as goal
 
 pub returns-clause-took : goal.returns-clause-took
 returns-clause-took c =
-    let o : Opening = record { cluster = c.args.cluster; clock = c.args.clock; keys = c.in-Some.keys } in
+    let o : Opening = record { cluster = c.args.cluster; clock = c.args.clock; keys = c.of-keys.result } in
     λ road. (
       Opens (opening_of o) [] road,
-      with_kit road c.args.number o c.args.journal c.args.keys c.if-journal.false (sym c.in-Some.ensures),
+      with_kit road c.args.number o c.args.journal c.args.keys c.if-journal.false (sym c.of-keys.ensures),
       record { shown = (refl, sym (c.in_ok-faulty.ensures.ok ∙ c.new.ensures)); going = tt; goes = refl },
     )

@@ -1,0 +1,6 @@
+pub mod Trees
+pub mod Filled
+pub mod Signatures
+pub mod Batches
+pub mod Sealed
+pub mod Places
