@@ -8,3 +8,4 @@ pub mod Counts
 pub mod Arguments
 pub mod NodeLaws
 pub mod ClientLaws
+pub mod BatchEnds

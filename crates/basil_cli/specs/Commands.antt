@@ -13,7 +13,7 @@ use Rattle.basil_cli.specs.declared.command.Claim.{Claim}
 use Rattle.basil_cli.specs.declared.command.Command.{Command}
 use Rattle.basil_cli.specs.declared.command.Command.TheVariants.{Replay, Generate, Load, Keys}
 use Rattle.basil_cli.specs.declared.command.Command.TheVariants.{Sign, Verify, Check, Audit}
-use Rattle.basil_cli.specs.declared.command.Command.TheVariants.{HssKeys, HssSign, HssVerify}
+use Rattle.basil_cli.specs.declared.command.Command.TheVariants.{HssKeys, HssSign, HssVerify, Batch, Unbatch}
 use Rattle.basil_cli.specs.declared.command.HssMaterial.{HssMaterial}
 use Rattle.basil_cli.specs.declared.command.KeyMaterial.{KeyMaterial}
 use Rattle.basil_cli.specs.declared.command.LoadSize.{LoadSize}
@@ -70,9 +70,10 @@ below bound (Some n) = if nat_lt n bound then Some n else None
 abbrev pub leaf_of : LmsSet → Token → Option ℕ
 leaf_of set argument = below (leaves_of set) (said (number argument))
 
-abbrev pub sign_by : Option KeyMaterial → Token → Option Command
-sign_by None leaf = None
-sign_by (Some m) leaf = option_map (Sign m) (leaf_of m.set leaf)
+-- a command of a key and a leaf
+abbrev pub leaf_by : (KeyMaterial → ℕ → Command) → Option KeyMaterial → Token → Option Command
+leaf_by by None leaf = None
+leaf_by by (Some m) leaf = option_map (by m) (leaf_of m.set leaf)
 
 -- N: the number of a signature
 abbrev pub number_of : HssMaterial → Token → Option ℕ
@@ -122,7 +123,7 @@ keys_of _ = None
 
 -- `sign SET SEED IDENT Q`
 abbrev pub sign_of : List Token → Option Command
-sign_of (set ∷ seed ∷ ident ∷ leaf ∷ []) = sign_by (material_of set seed ident) leaf
+sign_of (set ∷ seed ∷ ident ∷ leaf ∷ []) = leaf_by Sign (material_of set seed ident) leaf
 sign_of _ = None
 
 -- `verify PUBLIC SIGNATURE`
@@ -144,6 +145,16 @@ hss_sign_of _ = None
 abbrev pub hss_verify_of : List Token → Option Command
 hss_verify_of (public ∷ signature ∷ []) = option_map HssVerify (claim_of public signature)
 hss_verify_of _ = None
+
+-- `batch SET SEED IDENT Q`
+abbrev pub batch_of : List Token → Option Command
+batch_of (set ∷ seed ∷ ident ∷ leaf ∷ []) = leaf_by Batch (material_of set seed ident) leaf
+batch_of _ = None
+
+-- `unbatch PUBLIC SIGNATURE`
+abbrev pub unbatch_of : List Token → Option Command
+unbatch_of (public ∷ signature ∷ []) = option_map Unbatch (claim_of public signature)
+unbatch_of _ = None
 
 -- `check`
 abbrev pub check_of : List Token → Option Command
@@ -168,6 +179,8 @@ command_of (name ∷ arguments) =
     else if bytes_eq name (codes "hsskeys") then hss_keys_of arguments
     else if bytes_eq name (codes "hsssign") then hss_sign_of arguments
     else if bytes_eq name (codes "hssverify") then hss_verify_of arguments
+    else if bytes_eq name (codes "batch") then batch_of arguments
+    else if bytes_eq name (codes "unbatch") then unbatch_of arguments
     else if bytes_eq name (codes "check") then check_of arguments
     else if bytes_eq name (codes "audit") then audit_of arguments
     else None
@@ -204,4 +217,5 @@ arguments_carried (Some command) = is_carried command
 abbrev pub HasLeaf : Command → Type 0
 HasLeaf (Sign m leaf) = leaf < leaves_of m.set
 HasLeaf (HssSign m number) = number < numbers_in m
+HasLeaf (Batch m leaf) = leaf < leaves_of m.set
 HasLeaf other = ⊤

@@ -1,6 +1,7 @@
 pub mod Commands
 pub mod Outcome
 pub mod Signatures
+pub mod Batches
 pub mod Checking
 pub mod Signers
 pub mod Output

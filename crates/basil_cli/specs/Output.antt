@@ -10,6 +10,7 @@ use Rattle.schedule_replay.specs.Roads.{road_with}
 use Rattle.schedule_replay.specs.Totals.{totals}
 use Rattle.schedule_replay.specs.declared.fault.ReplayFault.{ReplayFault}
 use Rattle.schedule_replay.specs.declared.fault.ReplayFault.TheVariants as fault
+use Rattle.basil_cli.specs.Batches.{batched, unbatched}
 use Rattle.basil_cli.specs.Checking.{checked}
 use Rattle.basil_cli.specs.Commands.{command_of}
 use Rattle.basil_cli.specs.Outcome.{Outcome, Usage, BadLine, Written, Broken, Full, Stray, unless_too_long}
@@ -18,7 +19,7 @@ use Rattle.basil_cli.specs.declared.command.Command.{Command}
 use Rattle.basil_cli.specs.declared.command.LoadSize.{LoadSize}
 use Rattle.basil_cli.specs.declared.command.Command.TheVariants.{Replay, Generate, Load, Keys}
 use Rattle.basil_cli.specs.declared.command.Command.TheVariants.{Sign, Verify, Check, Audit}
-use Rattle.basil_cli.specs.declared.command.Command.TheVariants.{HssKeys, HssSign, HssVerify}
+use Rattle.basil_cli.specs.declared.command.Command.TheVariants.{HssKeys, HssSign, HssVerify, Batch, Unbatch}
 
 -- a schedule leads to its report, or to one of three faults; to the others none leads
 abbrev pub replayed : Result (List ℕ) ReplayFault → Outcome
@@ -53,6 +54,8 @@ output_of (Verify claim) coming bytes = unless_too_long bytes (verified claim by
 output_of (HssKeys material) coming bytes = hss_keys_made material
 output_of (HssSign material number) coming bytes = unless_too_long bytes (hss_signed material number bytes)
 output_of (HssVerify claim) coming bytes = unless_too_long bytes (hss_verified claim bytes)
+output_of (Batch material leaf) coming bytes = unless_too_long bytes (batched material leaf bytes)
+output_of (Unbatch claim) coming bytes = unless_too_long bytes (unbatched claim bytes)
 output_of Check coming bytes = unless_too_long bytes (checked bytes)
 output_of Audit coming bytes = unless_too_long bytes (audited (finding_of bytes))
 

@@ -1,6 +1,6 @@
 //! The commands, read from arguments.
 
-ghost use Rattle.std.specs.Prelude.{◌≡◌, ◌<◌, ◌≤◌, IfOk, IfSome, map, string_bytes};
+ghost use Rattle.std.specs.Prelude.{◌≡◌, ◌<◌, IfOk, IfSome, map, string_bytes};
 ghost use Rattle.schedule_text.specs.Fields.{hex, number_in};
 ghost use Rattle.lms_sign.specs.Sets.{leaves_of};
 ghost use Rattle.basil_cli.specs.Commands as commands;
@@ -8,7 +8,7 @@ ghost use Rattle.basil_cli.specs.Commands.{said, hex_of, claim_of, material_of, 
 ghost use Rattle.basil_cli.specs.Commands.{generate_of};
 ghost use Rattle.basil_cli.specs.Commands.{load_of, size_of, keys_of, sign_of, verify_of, check_of, audit_of, HasLeaf};
 ghost use Rattle.basil_cli.specs.Commands.{hss_keys_of, hss_material_of, hss_sign_of, hss_verify_of, number_of};
-ghost use Rattle.basil_cli.specs.Commands.{numbers_in, reads};
+ghost use Rattle.basil_cli.specs.Commands.{batch_of, numbers_in, reads, unbatch_of};
 
 use basil_types::bytes::Bytes;
 use basil_types::memory::NoMemory;
@@ -77,6 +77,11 @@ pub(crate) enum Command {
     HssSign { material: HssMaterial, number: u64 },
     /// Whether a signature of the input is valid under an HSS public key.
     HssVerify { claim: Claim },
+    /// The signatures of the input's messages, all by one signature with a leaf, from 0.
+    Batch { material: KeyMaterial, leaf: u32 },
+    /// Whether such a signature of the input's message is valid under a public key, and where it stands in the batch
+    /// behind it.
+    Unbatch { claim: Claim },
     /// Whether the certificate of a writeback proves its decision.
     Check,
     /// Whether each read of listed transactions is what the serial order gives it.
@@ -377,6 +382,36 @@ fn read_hss_verify(alloc: Global, arguments: &[String]) -> Result<Option<Command
     }
 }
 
+/// `batch SET SEED IDENT Q`
+fn read_batch(alloc: Global, arguments: &[String]) -> Result<Option<Command>, NoMemory>
+    ensures value { IfOk result (λ command. command ≡ batch_of (map string_bytes arguments.now)) }
+    ensures leaf { IfOk result (λ command. IfSome command HasLeaf) }
+{
+    let [set, seed, ident, leaf] = arguments else {
+        return Ok(None);
+    };
+    let Some(material) = read_material(alloc, set.as_str(), seed.as_str(), ident.as_str())? else {
+        return Ok(None);
+    };
+    match read_leaf(material.set, leaf.as_str()) {
+        Some(leaf) => Ok(Some(Command::Batch { material, leaf })),
+        None => Ok(None),
+    }
+}
+
+/// `unbatch PUBLIC SIGNATURE`
+fn read_unbatch(alloc: Global, arguments: &[String]) -> Result<Option<Command>, NoMemory>
+    ensures { IfOk result (λ command. command ≡ unbatch_of (map string_bytes arguments.now)) }
+{
+    let [public, signature] = arguments else {
+        return Ok(None);
+    };
+    match read_claim(alloc, public.as_str(), signature.as_str())? {
+        Some(claim) => Ok(Some(Command::Unbatch { claim })),
+        None => Ok(None),
+    }
+}
+
 /// `check`
 fn read_check(arguments: &[String]) -> Option<Command>
     ensures { result ≡ check_of (map string_bytes arguments.now) }
@@ -416,6 +451,8 @@ pub(crate) fn read_command(alloc: Global, arguments: &[String]) -> Result<Option
         "hsskeys" => read_hss_keys(alloc, arguments),
         "hsssign" => read_hss_sign(alloc, arguments),
         "hssverify" => read_hss_verify(alloc, arguments),
+        "batch" => read_batch(alloc, arguments),
+        "unbatch" => read_unbatch(alloc, arguments),
         "check" => Ok(read_check(arguments)),
         "audit" => Ok(read_audit(arguments)),
         _ => Ok(None),

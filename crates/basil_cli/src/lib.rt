@@ -2,6 +2,7 @@
 #![tactic(auto)]
 
 mod audit;
+mod batches;
 mod check;
 mod client;
 mod command;

@@ -13,6 +13,7 @@ ghost use Rattle.schedule_replay.specs.Roads.{Direct, Uses};
 ghost use Rattle.basil_cli.specs.Answers.{Answers, IsBrokenEnd, IsTold};
 ghost use Rattle.basil_cli.specs.Answers.{LoadedSafely, TookFault, WroteSafely, WroteSome};
 ghost use Rattle.basil_cli.specs.Answers.{counted, is_outcomes};
+ghost use Rattle.basil_cli.specs.Batches.{ToldReally};
 ghost use Rattle.basil_cli.specs.Commands.{command_of, is_carried, runs, arguments_carried};
 ghost use Rattle.basil_cli.specs.Commands.{arguments_read, reads, HasLeaf};
 ghost use Rattle.basil_cli.specs.Linked.{ByRoads, ByArguments};
@@ -22,11 +23,13 @@ ghost use Rattle.basil_cli.specs.Outcome.{is_too_long, longest_input};
 ghost use Rattle.basil_cli.specs.Output.{load_text, outcome_of, output_of};
 ghost use Rattle.basil_cli.specs.Parts.{is_link_fail, outcome_is};
 ghost use Rattle.basil_cli.specs.declared.client.ClientCall.{ClientCall};
+ghost use Rattle.basil_cli.specs.declared.command.Claim.{Claim};
 ghost use Rattle.basil_cli.specs.declared.command.LoadSize.{LoadSize};
 ghost use Rattle.basil_cli.specs.declared.node.NodeCall.{NodeCall};
 ghost use Rattle.basil_cli.specs.Reading.{IsReadFor, IsReadThrough, StopsSoon, StopsSoonFor, is_enough};
 
 use crate::audit::audit;
+use crate::batches::{batch, unbatch};
 use crate::check::check;
 use crate::client::run_client;
 use crate::command::{Command, read_command};
@@ -43,6 +46,7 @@ use basil_types::links::Links;
 use basil_types::memory::NoMemory;
 use basil_types::sink::Sink;
 use basil_types::source::Source;
+use batch_text::finding::findings_are_real;
 use schedule_replay::laws::{breaks_are_real, reports_are_safe};
 use std::alloc::Global;
 
@@ -63,6 +67,8 @@ fn ending_of(alloc: Global, command: &Command, bytes: &[u8]) -> Result<Ending, N
         Command::HssKeys { material } => hss_keys(alloc, material),
         Command::HssSign { material, number } => hss_sign(alloc, material, *number, bytes),
         Command::HssVerify { claim } => hss_verify(alloc, claim, bytes),
+        Command::Batch { material, leaf } => batch(alloc, material, *leaf, bytes),
+        Command::Unbatch { claim } => unbatch(alloc, claim, bytes),
         Command::Check => check(alloc, bytes),
         Command::Audit => audit(alloc, bytes),
     }
@@ -216,6 +222,9 @@ fn run_alone<S: Source, K: Sink, L: Links>(
         result ≡ Status.Done → LoadedSafely size (K.taken sink.old) (K.taken sink.new) }
     ensures load_broken { (size : LoadSize) → command_of (map string_bytes arguments.now) ≡ Some (Command.Load size) →
         result ≡ Status.Broken → IsBrokenEnd Direct (load_text size) (K.taken sink.old) (K.taken sink.new) }
+    ensures unbatched { (claim : Claim) → command_of (map string_bytes arguments.now) ≡ Some (Command.Unbatch claim) →
+        (result ≡ Status.Done) ⊎ (result ≡ Status.Broken) → IfSome (S.left source.old) (λ bytes.
+        ToldReally claim bytes (K.taken sink.old) (K.taken sink.new)) }
     ensures complete { let command = command_of (map string_bytes arguments.now) in
         (Rose (S.faults source.old) (S.faults source.new) → ⊥) →
         (Rose (K.faults sink.old) (K.faults sink.new) → ⊥) → (Rose (L.faults links.old) (L.faults links.new) → ⊥) →
@@ -249,6 +258,7 @@ fn run_alone<S: Source, K: Sink, L: Links>(
 {
     reports_are_safe();
     breaks_are_real();
+    findings_are_real();
     match read_command(alloc, arguments) {
         Ok(Some(command)) => run_command(alloc, &command, source, sink, links),
         Ok(None) => write_usage(sink),
@@ -266,6 +276,10 @@ fn run_alone<S: Source, K: Sink, L: Links>(
 /// - `keys SET SEED IDENT` writes the LMS public key (RFC 8554) of that parameter set, SEED and identifier, in hex.
 /// - `sign SET SEED IDENT Q` reads a message and writes its signature with leaf Q of that key, in hex.
 /// - `verify PUBLIC SIGNATURE` reads a message and writes `accepted` where the signature is valid, else `refused R`.
+/// - `batch SET SEED IDENT Q` reads messages in hex, a line each, and writes a signature of each, all by one signature
+///   with leaf Q of that key, in hex, a line each.
+/// - `unbatch PUBLIC SIGNATURE` reads a message in hex and, behind it, nothing or a batch, as `batch` does. Where the
+///   signature is valid it writes `accepted` or, with a batch, `in I`, the message's place in it, else `refused R`.
 /// - `check` reads a header and a writeback's frame in hex and writes `commit` or `abort` where the certificate proves
 ///   it, else `refused R`.
 /// - `audit` reads transactions with their reads and writes and writes `serial` where each read is of the version that
@@ -323,6 +337,11 @@ pub fn run<S: Source, K: Sink, L: Links, C: Clock>(
     // A breach that a load leads to is told and real as well.
     ensures load_broken { (size : LoadSize) → command_of (map string_bytes arguments.now) ≡ Some (Command.Load size) →
         result ≡ Status.Broken → IsBrokenEnd Direct (load_text size) (K.taken sink.old) (K.taken sink.new) }
+    // Where `unbatch` tells a place, the message stands there in the batch that was kept, and where it tells two texts,
+    // these differ and have one SHA-256.
+    ensures unbatched { (claim : Claim) → command_of (map string_bytes arguments.now) ≡ Some (Command.Unbatch claim) →
+        (result ≡ Status.Done) ⊎ (result ≡ Status.Broken) → IfSome (S.left source.old) (λ bytes.
+        ToldReally claim bytes (K.taken sink.old) (K.taken sink.new)) }
     // Where no count rose, the status is that of the arguments, the bytes, and what the links gave, or memory is
     // wanting: a valid schedule gives its whole report, and every other command its output or its refusal.
     ensures complete { let command = command_of (map string_bytes arguments.now) in

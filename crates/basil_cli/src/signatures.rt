@@ -53,7 +53,7 @@ pub(crate) fn sign(
 }
 
 /// A signature is valid.
-fn accepted(alloc: Global) -> Result<Ending, NoMemory>
+pub(crate) fn accepted(alloc: Global) -> Result<Ending, NoMemory>
     ensures { IfOk result (λ e. outcome_is e ≡ signatures.accepted) }
 {
     Ok(Ending::Written(Bytes::copy_of(alloc, b"accepted\n")?))

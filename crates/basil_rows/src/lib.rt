@@ -4,6 +4,8 @@
 #[cfg(test)]
 mod audited;
 #[cfg(test)]
+mod batches;
+#[cfg(test)]
 mod broken;
 #[cfg(test)]
 mod causes;

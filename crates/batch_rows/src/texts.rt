@@ -1,16 +1,15 @@
 //! The text of batches: what is read of it, the signatures of a batch, and what is found of a message's signature.
 
 use crate::batches::CLIENT;
-use basil_types::cluster::Cluster;
-use batch_sign::{BatchKeys, SealedBatch};
+use batch_sign::SealedBatch;
 use batch_text::finding::{PlaceFinding, judge};
 use batch_text::reading::{BatchTextFault, read_batch, read_kept};
 use batch_text::writing::signature_lines;
 use hex::FromHex;
-use keyring::plain::PlainPen;
+use keyring::plain::{PlainPen, seed_of};
 use keyring::signer::Signer;
-use keyring_lms::{LmsKeys, LmsPen};
-use lms_sign::LmsSet;
+use keyring_lms::LmsPen;
+use lms_sign::{LmsKey, LmsSet, ident_of_seed};
 use schedule_text::reason::Reason;
 use sha2::{Digest, Sha256};
 use std::alloc::Global;
@@ -195,17 +194,22 @@ fn outcome(finding: PlaceFinding) -> Result<(u8, Option<u16>), Fail> {
     }
 }
 
-/// What is found of a signature by client 1, with the LMS keys of a replay.
+/// The LMS key of client 1 in a replay.
+fn key_of_client(alloc: Global) -> Result<LmsKey, Fail> {
+    let seed = seed_of(CLIENT);
+    Ok(LmsKey::make(alloc, &seed, &ident_of_seed(&seed), LmsSet::W4H5, 0)?)
+}
+
+/// What is found of a signature under that key.
 fn found(alloc: Global, signature: &[u8], text: &[u8]) -> Result<(u8, Option<u16>), Fail> {
-    let cluster = Cluster::new(0, 1, 1, 100)?;
-    let keys = LmsKeys::replay_of(alloc, &cluster, LmsSet::W4H5, &[CLIENT])?;
+    let public = key_of_client(alloc)?.public();
     let kept = read_kept(alloc, text).map_err(|_| "not read")?;
-    outcome(judge(alloc, &BatchKeys::new(keys), CLIENT, signature, &kept)?)
+    outcome(judge(alloc, &public, signature, &kept)?)
 }
 
 /// The third signature of the three messages, signed with w4h5.
 fn third_signature(alloc: Global) -> Result<Vec<u8>, Fail> {
-    let mut pen = LmsPen::replay(alloc, CLIENT, LmsSet::W4H5)?;
+    let mut pen = LmsPen::new(CLIENT, key_of_client(alloc)?);
     let made = sealed(alloc, &mut pen)?;
     let third = made.signature(2).ok_or("no signature")?;
     Ok(Vec::from_slice(alloc, third)?)

@@ -5,3 +5,5 @@ pub mod PathLaws
 pub mod PieceLaws
 pub mod SealLaws
 pub mod CollideLaws
+pub mod RealLaws
+pub mod PartLaws

@@ -23,7 +23,7 @@ use Rattle.batch_sign.proofs.TreeLaws.{leaf-node}
 abbrev pub AreLong : List (List ℕ) → Type 0
 AreLong leaves = (i : ℕ) → i < length leaves → length (get_or leaves i []) ≡ 32
 
-among-below : (count place : ℕ) → 0 < count → place_among count place < count
+pub among-below : (count place : ℕ) → 0 < count → place_among count place < count
 among-below count place some = grind (arith, common_steps)
 
 -- each node has 32 bytes

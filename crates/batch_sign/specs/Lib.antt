@@ -4,3 +4,5 @@ pub mod Signatures
 pub mod Batches
 pub mod Sealed
 pub mod Places
+pub mod Parting
+pub mod Laws

@@ -2,7 +2,7 @@
 
 ghost use Rattle.std.specs.Prelude.{◌≡◌, ◌≢◌, ◌<◌, ◌≤◌, ◌+◌, ◌++◌, ◌∷◌, ◌↔◌, [], length, None, Some};
 ghost use Rattle.std.specs.Prelude.{IfOk, IfErr, OnOk, OnErr, IsErrOf};
-ghost use Rattle.batch_sign.specs.Batches.{add_fault};
+ghost use Rattle.batch_sign.specs.Batches.{add_fault, sign_fault};
 ghost use Rattle.batch_sign.specs.Trees.{most_messages};
 ghost use Rattle.batch_sign.specs.Signatures as signatures;
 ghost use Rattle.batch_sign.specs.Signatures.{AllHold, sealing_of};
@@ -125,6 +125,8 @@ impl Batch {
         ensures fixed { S.fixed pen.new ≡ S.fixed pen.old }
         ensures empty { IsErrOf result BatchFault.Empty ↔ (length self.now ≡ 0) }
         ensures exhausted { IsErrOf result BatchFault.Exhausted ↔ ((0 < length self.now) × (S.left_of pen.old ≡ 0)) }
+        ensures refused { IfErr result (λ fault.
+            fault ≢ BatchFault.NoMemory → sign_fault self.now (S.left_of pen.old) ≡ Some fault) }
         ensures as_before { OnErr result (pen.new ≡ pen.old) }
     {
         if self.messages.as_slice().is_empty() {

@@ -1,13 +1,13 @@
 //! A message's place in a batch, by its signature.
 
-ghost use Rattle.std.specs.Prelude.{◌≡◌, ◌≢◌, ◌<◌, ◌≤◌, ◌*◌, ◌^◌, [], length, slice_index_or, true, IfOk, OnOk, IfErr};
+ghost use Rattle.std.specs.Prelude.{◌≡◌, ◌<◌, ◌≤◌, ◌*◌, ◌^◌, [], length, slice_index_or, true, Option, Some, IfOk};
 ghost use Rattle.std.specs.Str.{bytes_eq};
 ghost use Rattle.batch_sign.specs.Filled.{AreNodesFrom};
-ghost use Rattle.batch_sign.specs.Places.{Finds, ShowsCollision, StandsAt, Tells, leads_to};
+ghost use Rattle.batch_sign.specs.Parting.{Shows, later_of, nodes_at};
+ghost use Rattle.batch_sign.specs.Places.{IsReal, Tells, found_in, parting, text_above, way_of};
 ghost use Rattle.batch_sign.specs.Signatures.{depth_in, is_formed, leaf_number_in, leaves_of, named};
-ghost use Rattle.batch_sign.specs.Signatures.{path_in, place_beside, root_from};
 ghost use Rattle.batch_sign.specs.Trees as trees;
-ghost use Rattle.batch_sign.specs.Trees.{climbed, depth_over, most_messages, node, root_over, words_over};
+ghost use Rattle.batch_sign.specs.Trees.{depth_over, most_messages, node, path_over, words_over};
 
 use crate::batch::{Batch, leaves_of};
 use crate::climbing::{leaf_number, named, path_node};
@@ -48,7 +48,7 @@ impl From<NoMemory> for PlaceFault {
 
 /// Copies of two texts with one digest.
 fn collision(alloc: Global, first: &[u8], second: &[u8]) -> PlaceFault
-    ensures { Finds first.now second.now result }
+    ensures { Shows first.now second.now result }
 {
     let Ok(first) = Bytes::copy_of(alloc, first) else {
         return PlaceFault::NoMemory;
@@ -71,7 +71,7 @@ fn leaf_text(alloc: Global, message: &[u8]) -> Result<Vec<u8>, NoMemory>
 
 /// Two leaves of different messages, and one digest.
 fn leaves_collide(alloc: Global, message: &[u8], held: &[u8]) -> PlaceFault
-    ensures { Finds (trees.leaf_text message.now) (trees.leaf_text held.now) result }
+    ensures { Shows (trees.leaf_text message.now) (trees.leaf_text held.now) result }
 {
     let Ok(first) = leaf_text(alloc, message) else {
         return PlaceFault::NoMemory;
@@ -82,61 +82,62 @@ fn leaves_collide(alloc: Global, message: &[u8], held: &[u8]) -> PlaceFault
     }
 }
 
-/// A law: the texts of two nodes above nodes that differ differ.
-fn texts_differ(
-    number: u32,
-    own_sibling: &[u8; 32],
-    own: &[u8; 32],
-    held_sibling: &[u8; 32],
-    held: &[u8; 32],
-)
-    ensures { own.now ≢ held.now → trees.parent_text number own_sibling.now own.now
-        ≢ trees.parent_text number held_sibling.now held.now }
-{}
+/// The texts of the two nodes at which two ways to one root part.
+#[derive(Clone, Copy)]
+pub(crate) struct Parted {
+    pub(crate) first: [u8; 65],
+    pub(crate) second: [u8; 65],
+}
 
-/// The texts of two nodes that differ and have one digest, where two leaves that differ lead to one root: the one by
-/// the path of a signature, the other by the tree.
-fn nodes_collide(
-    alloc: Global,
+/// Two texts where they differ, else those that differed below.
+fn later(first: &[u8; 65], second: &[u8; 65], last: Option<Parted>) -> Option<Parted>
+    ensures { result ≡ later_of first.now second.now last }
+{
+    if first.as_slice() == second.as_slice() {
+        return last;
+    }
+    Some(Parted {
+        first: *first,
+        second: *second,
+    })
+}
+
+/// The highest nodes at which the way of a message by a signature's path differs from that of the batch's own message,
+/// as texts; none where they differ in their leaves alone.
+fn ways_part(
     leaves: &[[u8; 32]],
     nodes: &[[u8; 32]],
     signature: &[u8],
-    own: [u8; 32],
-    held: [u8; 32],
-) -> PlaceFault
+    message: &[u8],
+    held: &[u8],
+) -> Option<Parted>
     requires formed { is_formed signature.now ≡ true }
     requires depth { depth_in signature.now ≡ depth_over leaves.now }
     requires count { length nodes.now ≡ 2 * 2 ^ depth_over leaves.now }
     requires filled { AreNodesFrom leaves.now (depth_over leaves.now) 1 nodes.now }
-    requires held { held ≡ node leaves.now (depth_over leaves.now) 0 (leaf_number_in signature.now) }
-    requires differ { own ≢ held }
-    requires meet { climbed (path_in signature.now) (leaf_number_in signature.now) own (depth_in signature.now)
-        ≡ root_over leaves.now }
-    ensures { ShowsCollision result }
+    requires held { trees.leaf_of held.now ≡ node leaves.now (depth_over leaves.now) 0 (leaf_number_in signature.now) }
+    ensures { let own = way_of message.now signature.now in
+        let other = text_above (path_over leaves.now (depth_over leaves.now) (leaf_number_in signature.now))
+        (leaf_number_in signature.now) held.now in
+        result ≡ nodes_at own other (parting own other (depth_in signature.now)) }
 {
     let depth = usize::from(signature[0]);
     let mut number = leaf_number(signature);
-    let mut own = own;
-    let mut held = held;
+    let mut own = leaf_of(message);
+    let mut other = leaf_of(held);
+    let mut last = None;
     for level in 0..depth {
-        let sibling = path_node(signature, level);
-        let other = nodes[sibling_of(number) as usize];
-        let above = parent_text(number, &sibling, &own);
-        let beside = parent_text(number, &other, &held);
-        texts_differ(number, &sibling, &own, &other, &held);
-        let next_own = Sha256::digest(&above);
-        let next_held = Sha256::digest(&beside);
-        if next_own == next_held {
-            return collision(alloc, &above, &beside);
-        }
-        own = next_own;
-        held = next_held;
+        let first = parent_text(number, &path_node(signature, level), &own);
+        let second = parent_text(number, &nodes[sibling_of(number) as usize], &other);
+        last = later(&first, &second, last);
+        own = Sha256::digest(&first);
+        other = Sha256::digest(&second);
         number /= 2;
     }
-    unreachable!()
+    last
 }
 
-/// Two texts with one digest, where a message leads to the root of a tree and the one at its place is another.
+/// The two texts with one digest, where a message leads to the root of a tree and the one at its place is another.
 fn collide(
     alloc: Global,
     leaves: &[[u8; 32]],
@@ -150,16 +151,16 @@ fn collide(
     requires count { length nodes.now ≡ 2 * 2 ^ depth_over leaves.now }
     requires filled { AreNodesFrom leaves.now (depth_over leaves.now) 1 nodes.now }
     requires held { trees.leaf_of held.now ≡ node leaves.now (depth_over leaves.now) 0 (leaf_number_in signature.now) }
-    requires differ { message.now ≢ held.now }
-    requires meet { root_from message.now signature.now ≡ root_over leaves.now }
-    ensures { ShowsCollision result }
+    ensures { let own = way_of message.now signature.now in
+        let other = text_above (path_over leaves.now (depth_over leaves.now) (leaf_number_in signature.now))
+        (leaf_number_in signature.now) held.now in
+        let level = parting own other (depth_in signature.now) in
+        Shows (own level) (other level) result }
 {
-    let own = leaf_of(message);
-    let there = leaf_of(held);
-    if own == there {
-        return leaves_collide(alloc, message, held);
+    match ways_part(leaves, nodes, signature, message, held) {
+        Some(parted) => collision(alloc, &parted.first, &parted.second),
+        None => leaves_collide(alloc, message, held),
     }
-    nodes_collide(alloc, leaves, nodes, signature, own, there)
 }
 
 /// The message at a place.
@@ -179,7 +180,6 @@ fn is_led(leaves: &[[u8; 32]], nodes: &[[u8; 32]], message: &[u8], signature: &[
     requires filled { AreNodesFrom leaves.now (depth_over leaves.now) 1 nodes.now }
     ensures led { result ≡ bytes_eq (named message.now signature.now) (words_over leaves.now) }
     ensures depth { result ≡ true → depth_in signature.now ≡ depth_over leaves.now }
-    ensures root { result ≡ true → root_from message.now signature.now ≡ root_over leaves.now }
 {
     let words = root_words(depth_of(leaves.len()), &nodes[1]);
     named(message, signature).as_slice() == words.as_slice()
@@ -200,10 +200,7 @@ fn find(
     requires most { length messages.now ≤ most_messages }
     requires count { length nodes.now ≡ 2 * 2 ^ depth_over leaves.now }
     requires filled { AreNodesFrom leaves.now (depth_over leaves.now) 1 nodes.now }
-    ensures place { IfOk result (λ place. place ≡ place_beside messages.now signature.now) }
-    ensures stands { IfOk result (λ place. StandsAt messages.now message.now place) }
-    ensures leads { OnOk result (leads_to messages.now message.now signature.now ≡ true) }
-    ensures fault { IfErr result (λ fault. Tells messages.now message.now signature.now fault) }
+    ensures { Tells (found_in messages.now message.now signature.now) result }
 {
     if !is_led(leaves, nodes, message, signature) {
         return Err(PlaceFault::OtherBatch);
@@ -218,8 +215,8 @@ fn find(
 
 /// The place of a message in a batch, by a signature that has the form of one: the place that the signature names, and
 /// where that is beyond them that of the last message. OtherBatch exactly where the message and the signature's path
-/// don't lead to the root words of the batch, of which an empty one has none. Where they do, the message stands at the
-/// place, or two different texts have one digest, which is told.
+/// don't lead to the root words of the batch, of which an empty one has none. Where they do, and another message stands
+/// at the place, the two texts are told at which the ways to the root part: they differ and have one digest.
 pub fn place_in(
     alloc: Global,
     batch: &Batch,
@@ -227,10 +224,8 @@ pub fn place_in(
     signature: &[u8],
 ) -> Result<u16, PlaceFault>
     requires { is_formed signature.now ≡ true }
-    ensures place { IfOk result (λ place. place ≡ place_beside batch.now signature.now) }
-    ensures stands { IfOk result (λ place. StandsAt batch.now message.now place) }
-    ensures leads { OnOk result (leads_to batch.now message.now signature.now ≡ true) }
-    ensures fault { IfErr result (λ fault. Tells batch.now message.now signature.now fault) }
+    ensures found { Tells (found_in batch.now message.now signature.now) result }
+    ensures real { IsReal batch.now message.now (found_in batch.now message.now signature.now) }
 {
     let messages = batch.messages();
     if messages.is_empty() {

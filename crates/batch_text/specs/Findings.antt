@@ -1,50 +1,50 @@
 -- What is found of a message's signature.
-use Rattle.std.specs.Prelude.{◌≡◌, ℕ, Bool, true, List, Option, Some, None, if◌then◌else◌}
-use Rattle.batch_sign.specs.Places.{Collides, StandsAt, leads_to}
-use Rattle.batch_sign.specs.Signatures.{form_refusal, place_beside, refusal_number}
+use Rattle.std.specs.Prelude.{ℕ, Bool, ◌&&◌, List, Option, Some, None, ⊤, if◌then◌else◌}
+use Rattle.batch_sign.specs.Places.{Collides, Elsewhere, At, Found, Meets, StandsAt, found_in}
+use Rattle.batch_sign.specs.Signatures.{form_refusal, inner_in, is_formed, named, refusal_number}
 use Rattle.batch_sign.specs.declared.form.BatchRefusal.{BatchRefusal}
+use Rattle.lms_sign.specs.Verifying.{is_valid}
 use Rattle.batch_text.specs.declared.finding.PlaceFinding.{PlaceFinding}
 use Rattle.batch_text.specs.declared.finding.PlaceFinding.TheVariants.{Accepted, In, Refused, Collision}
 use Rattle.batch_text.specs.declared.reading.Kept.{Kept}
 
--- a signature that isn't of the kept batch is refused with 4
-abbrev pub other_batch : Option (List (List ℕ)) → (message signature : List ℕ) → Option ℕ
-other_batch None message signature = None
-other_batch (Some messages) message signature = if leads_to messages message signature then None else Some 4
+-- whether a signature in a batch is accepted of a message under an LMS public key
+abbrev pub accepts_under : (public message signature : List ℕ) → Bool
+accepts_under public message signature =
+    is_formed signature && is_valid public (named message signature) (inner_in signature)
 
-abbrev pub refused_by : Option BatchRefusal → (is_accepted : Bool) → Kept → (signature : List ℕ) → Option ℕ
-refused_by (Some refusal) is_accepted kept signature = Some (refusal_number refusal)
-refused_by None is_accepted kept signature =
-    if is_accepted then other_batch kept.batch kept.message signature else Some 3
+abbrev pub placed : Found → PlaceFinding
+placed Elsewhere = Refused 4
+placed (At place) = In place
+placed (Meets first second) = Collision first second
 
--- why a signature is refused: first by its form, then where it isn't accepted, then where it is of another batch
-abbrev pub refusal_of : (is_accepted : Bool) → Kept → (signature : List ℕ) → Option ℕ
-refusal_of is_accepted kept signature = refused_by (form_refusal signature) is_accepted kept signature
+-- of an accepted signature: the place where a batch was kept
+abbrev pub among : Option (List (List ℕ)) → (message signature : List ℕ) → PlaceFinding
+among None message signature = Accepted
+among (Some messages) message signature = placed (found_in messages message signature)
 
--- the place is that which the signature names in these messages, and the message stands there
-pub record IsPlace (messages : List (List ℕ)) (message signature : List ℕ) (place : ℕ) : Type 0 where
-  pub named : place ≡ place_beside messages signature
-  pub stands : StandsAt messages message place
+abbrev pub judged : Option BatchRefusal → (public : List ℕ) → Kept → (signature : List ℕ) → PlaceFinding
+judged (Some refusal) public kept signature = Refused (refusal_number refusal)
+judged None public kept signature =
+    if accepts_under public kept.message signature then among kept.batch kept.message signature else Refused 3
 
--- the same in the batch that was kept
-abbrev pub IsPlaceIn : Option (List (List ℕ)) → (message signature : List ℕ) (place : ℕ) → Type 0
-IsPlaceIn None message signature place = ⊥
-IsPlaceIn (Some messages) message signature place = IsPlace messages message signature place
+-- first the form of the signature is tested, then whether it is accepted, then of which batch it is
+abbrev pub finding_of : (public : List ℕ) → Kept → (signature : List ℕ) → PlaceFinding
+finding_of public kept signature = judged (form_refusal signature) public kept signature
 
-abbrev pub IsFound : (is_accepted : Bool) → Kept → (signature : List ℕ) → PlaceFinding → Type 0
-IsFound is_accepted kept signature Accepted =
-    (refusal_of is_accepted kept signature ≡ None) × (kept.batch ≡ None)
-IsFound is_accepted kept signature (In place) =
-    (refusal_of is_accepted kept signature ≡ None) × IsPlaceIn kept.batch kept.message signature place
-IsFound is_accepted kept signature (Refused reason) = refusal_of is_accepted kept signature ≡ Some reason
-IsFound is_accepted kept signature (Collision first second) =
-    (refusal_of is_accepted kept signature ≡ None) × Collides first second
+-- ---- what it means
 
--- what is found of an accepted signature in a batch
-abbrev pub Places : (messages : List (List ℕ)) (message signature : List ℕ) → PlaceFinding → Type 0
-Places messages message signature Accepted = ⊥
-Places messages message signature (In place) =
-    (leads_to messages message signature ≡ true) × IsPlace messages message signature place
-Places messages message signature (Refused reason) = other_batch (Some messages) message signature ≡ Some reason
-Places messages message signature (Collision first second) =
-    (leads_to messages message signature ≡ true) × Collides first second
+abbrev pub StandsIn : Option (List (List ℕ)) → (message : List ℕ) (place : ℕ) → Type 0
+StandsIn None message place = ⊥
+StandsIn (Some messages) message place = StandsAt messages message place
+
+-- the message stands at the place in the kept batch, and two texts that collide differ and have one digest
+abbrev pub IsRealFinding : Kept → PlaceFinding → Type 0
+IsRealFinding kept Accepted = ⊤
+IsRealFinding kept (In place) = StandsIn kept.batch kept.message place
+IsRealFinding kept (Refused reason) = ⊤
+IsRealFinding kept (Collision first second) = Collides first second
+
+abbrev pub FindingsAreReal : Type 0
+FindingsAreReal =
+    (public : List ℕ) (kept : Kept) (signature : List ℕ) → IsRealFinding kept (finding_of public kept signature)

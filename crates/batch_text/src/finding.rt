@@ -1,14 +1,16 @@
 //! What is found of a message's signature.
 
 ghost use Rattle.std.specs.Prelude.{◌≡◌, IfOk, true};
+ghost use Rattle.batch_sign.specs.Places.{found_in};
 ghost use Rattle.batch_sign.specs.Signatures.{is_formed};
-ghost use Rattle.batch_text.specs.Findings.{IsFound, Places};
+ghost use Rattle.batch_text.specs.Findings.{FindingsAreReal, accepts_under, finding_of, placed};
 
+use crate::public::OnePublic;
 use crate::reading::Kept;
 use basil_types::bytes::Bytes;
 use basil_types::memory::NoMemory;
 use basil_types::party::Party;
-use batch_sign::{Batch, PlaceFault, place_in, test_form};
+use batch_sign::{Batch, BatchKeys, PlaceFault, place_in, test_form};
 use keyring::verifier::Verifier;
 use std::alloc::Global;
 
@@ -32,6 +34,13 @@ pub enum PlaceFinding {
     },
 }
 
+/// A law: the message stands at the place that is found, and two texts that are found differ and have one digest.
+pub fn findings_are_real()
+    ensures { FindingsAreReal }
+{
+    batch_sign::findings_are_real();
+}
+
 /// The place of a message in a kept batch.
 fn find_place(
     alloc: Global,
@@ -40,7 +49,7 @@ fn find_place(
     signature: &[u8],
 ) -> Result<PlaceFinding, NoMemory>
     requires { is_formed signature.now ≡ true }
-    ensures { IfOk result (Places batch.now message.now signature.now) }
+    ensures { IfOk result (λ finding. finding ≡ placed (found_in batch.now message.now signature.now)) }
 {
     match place_in(alloc, batch, message, signature) {
         Ok(place) => Ok(PlaceFinding::In(place)),
@@ -53,15 +62,27 @@ fn find_place(
     }
 }
 
-/// What is found of a signature of a kept message by a party, with a keyring of batches.
-pub fn judge<V: Verifier>(
+/// Whether a signature in a batch is accepted of a message under an LMS public key.
+fn is_accepted(
     alloc: Global,
-    keys: &V,
-    party: Party,
+    public: &[u8],
+    message: &[u8],
+    signature: &[u8],
+) -> Result<bool, NoMemory>
+    ensures { IfOk result (λ accepted. accepted ≡ accepts_under public.now message.now signature.now) }
+{
+    let keys = BatchKeys::new(OnePublic::new(Bytes::copy_of(alloc, public)?));
+    Ok(keys.accepts(Party::Client { number: 1 }, message, signature))
+}
+
+/// What is found of a signature of a kept message under an LMS public key, both of any bytes.
+pub fn judge(
+    alloc: Global,
+    public: &[u8],
     signature: &[u8],
     kept: &Kept,
 ) -> Result<PlaceFinding, NoMemory>
-    ensures { IfOk result (IsFound (V.accepted keys.now party kept.now.message signature.now) kept.now signature.now) }
+    ensures { IfOk result (λ finding. finding ≡ finding_of public.now kept.now signature.now) }
 {
     let message = kept.message.as_slice();
     if let Err(refusal) = test_form(signature) {
@@ -69,7 +90,7 @@ pub fn judge<V: Verifier>(
             reason: refusal.number(),
         });
     }
-    if !keys.accepts(party, message, signature) {
+    if !is_accepted(alloc, public, message, signature)? {
         return Ok(PlaceFinding::Refused { reason: 3 });
     }
     match &kept.batch {

@@ -4,5 +4,6 @@
 
 pub mod finding;
 mod hexed;
+mod public;
 pub mod reading;
 pub mod writing;

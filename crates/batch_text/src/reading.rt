@@ -1,6 +1,6 @@
 //! The text of a batch, and of a message with a kept batch.
 
-ghost use Rattle.std.specs.Prelude.{◌+◌, ◌<◌, ◌^◌, length};
+ghost use Rattle.std.specs.Prelude.{◌+◌, ◌<◌, ◌^◌, length, IfOk};
 ghost use Rattle.batch_text.specs.Parts.{IsBatch, IsKept};
 ghost use Rattle.batch_text.specs.Texts.{batch_in, kept_in};
 
@@ -49,7 +49,8 @@ const NO_LINE: BatchTextFault = BatchTextFault::BadLine {
 /// The batch whose messages are the lines of a text, of which there is one at least.
 pub fn read_batch(alloc: Global, bytes: &[u8]) -> Result<Batch, BatchTextFault>
     requires { 1 + length bytes.now < 2 ^ 64 }
-    ensures { IsBatch result (batch_in bytes.now) }
+    ensures is { IsBatch result (batch_in bytes.now) }
+    ensures some { IfOk result (λ batch. 0 < length batch) }
 {
     if first_line(bytes).is_none() {
         return Err(NO_LINE);

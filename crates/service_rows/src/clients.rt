@@ -1,20 +1,10 @@
 //! Clients that carry a transaction through.
 
 use crate::frames::{FILE, FIRST, NONE, VOTE, WRITEBACK};
-use crate::support::{Given, Hex, joined, run_given};
+use crate::support::{Given, Row, are_answered};
 use basil_cli::status::Status;
 use schedule_text::reason::Reason;
-use std::alloc::Global;
 use std::test::Fail;
-
-/// The arguments of `client`, what it is given, how it ends, and what it writes to its sink and to its links.
-type Row = (
-    &'static [&'static str],
-    Given,
-    Status,
-    &'static str,
-    &'static [Hex],
-);
 
 /// The SEED of client 1.
 const SEED: &str = "c1c1c1c1c1c1c1c1c1c1c1c1c1c1c1c1c1c1c1c1c1c1c1c1c1c1c1c1c1c1c1c1";
@@ -132,34 +122,7 @@ const ROWS: &[Row] = &[
     ),
 ];
 
-/// What is written to links, in bytes.
-fn sent_of(alloc: Global, sent: &[Hex]) -> Result<Vec<u8>, Fail> {
-    let mut all = Vec::new(alloc);
-    for texts in sent {
-        let bytes = joined(alloc, texts)?;
-        all.extend_from_slice(&bytes)?;
-    }
-    Ok(all)
-}
-
-/// Whether a row is answered.
-fn is_answered(alloc: Global, row: &Row) -> Result<bool, Fail> {
-    let (arguments, given, status, text, sent) = *row;
-    let answer = run_given(alloc, arguments, FILE.as_bytes(), &given)?;
-    let sent = sent_of(alloc, sent)?;
-    Ok(
-        answer.status == status
-            && answer.text.as_slice() == text.as_bytes()
-            && answer.sent.as_slice() == sent.as_slice(),
-    )
-}
-
 #[test]
 fn clients_carry_a_transaction_through(rt: HostRuntime) -> Result<(), Fail> {
-    let mut place = 0usize;
-    for row in ROWS {
-        assert!(rt; is_answered(rt.alloc(), row)?, "row {place}");
-        place = place.saturating_add(1);
-    }
-    Ok(())
+    are_answered(&rt, rt.alloc(), FILE, ROWS)
 }

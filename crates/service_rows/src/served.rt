@@ -1,19 +1,9 @@
 //! Nodes that serve.
 
 use crate::frames::{BAD, FILE, FIRST, NONE, SEED, VOTE, WRITEBACK};
-use crate::support::{Given, Hex, joined, run_given};
+use crate::support::{Given, Row, are_answered};
 use basil_cli::status::Status;
-use std::alloc::Global;
 use std::test::Fail;
-
-/// The arguments of `node`, what it is given, how it ends, and what it writes to its sink and to its links.
-type Row = (
-    &'static [&'static str],
-    Given,
-    Status,
-    &'static str,
-    &'static [Hex],
-);
 
 /// As replica 0 of shard 0, from leaf 0 on, over two connections.
 const TWO: &[&str] = &["node", "0", "0", SEED, "0", "2"];
@@ -102,34 +92,7 @@ const ROWS: &[Row] = &[
     (TWO, UNWRITTEN, Status::WriteFault, "", &[VOTE, NONE]),
 ];
 
-/// What is written to links, in bytes.
-fn sent_of(alloc: Global, sent: &[Hex]) -> Result<Vec<u8>, Fail> {
-    let mut all = Vec::new(alloc);
-    for texts in sent {
-        let bytes = joined(alloc, texts)?;
-        all.extend_from_slice(&bytes)?;
-    }
-    Ok(all)
-}
-
-/// Whether a row is answered.
-fn is_answered(alloc: Global, row: &Row) -> Result<bool, Fail> {
-    let (arguments, given, status, text, sent) = *row;
-    let answer = run_given(alloc, arguments, FILE.as_bytes(), &given)?;
-    let sent = sent_of(alloc, sent)?;
-    Ok(
-        answer.status == status
-            && answer.text.as_slice() == text.as_bytes()
-            && answer.sent.as_slice() == sent.as_slice(),
-    )
-}
-
 #[test]
 fn nodes_serve(rt: HostRuntime) -> Result<(), Fail> {
-    let mut place = 0usize;
-    for row in ROWS {
-        assert!(rt; is_answered(rt.alloc(), row)?, "row {place}");
-        place = place.saturating_add(1);
-    }
-    Ok(())
+    are_answered(&rt, rt.alloc(), FILE, ROWS)
 }

@@ -8,6 +8,7 @@ use basil_types::memory::NoMemory;
 use basil_types::sink::MemSink;
 use basil_types::source::MemSource;
 use std::alloc::Global;
+use std::process::Abort;
 use std::test::Fail;
 
 /// Bytes that are given one after another, in hex.
@@ -32,6 +33,15 @@ impl Given {
         failing_links: &[],
     };
 }
+
+/// The arguments, what the outside gives, how the call ends, and what it writes to its sink and to its links.
+pub(crate) type Row = (
+    &'static [&'static str],
+    Given,
+    Status,
+    &'static str,
+    &'static [Hex],
+);
 
 /// What a call ended with, and what it wrote to its sink and to its links.
 #[derive(Drop)]
@@ -111,4 +121,41 @@ pub(crate) fn run_given(
     let source = MemSource::new(input, 100, failing_reads);
     let links = MemLinks::new(alloc, connections, Vec::new(alloc), failing_links);
     Ok(run_owned(alloc, &arguments, source, sink, links, moments)?)
+}
+
+/// What is written to links, in bytes.
+fn sent_of(alloc: Global, sent: &[Hex]) -> Result<Vec<u8>, Fail> {
+    let mut all = Vec::new(alloc);
+    for texts in sent {
+        let bytes = joined(alloc, texts)?;
+        all.extend_from_slice(&bytes)?;
+    }
+    Ok(all)
+}
+
+/// Whether a row is answered, where the input is this file.
+fn is_answered(alloc: Global, file: &str, row: &Row) -> Result<bool, Fail> {
+    let (arguments, given, status, text, sent) = *row;
+    let answer = run_given(alloc, arguments, file.as_bytes(), &given)?;
+    let sent = sent_of(alloc, sent)?;
+    Ok(
+        answer.status == status
+            && answer.text.as_slice() == text.as_bytes()
+            && answer.sent.as_slice() == sent.as_slice(),
+    )
+}
+
+/// So it is of each row.
+pub(crate) fn are_answered(
+    rt: &impl Abort,
+    alloc: Global,
+    file: &str,
+    rows: &[Row],
+) -> Result<(), Fail> {
+    let mut place = 0usize;
+    for row in rows {
+        assert!(rt; is_answered(alloc, file, row)?, "row {place}");
+        place = place.saturating_add(1);
+    }
+    Ok(())
 }

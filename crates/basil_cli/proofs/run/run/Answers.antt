@@ -29,6 +29,12 @@ returns-in-Ok-Some-Node-clause-broken g c = λ carried e f.
     node_is_none (map string_bytes c.args.arguments.now) c.in-Ok-Some-Node.call said in
     absurd cc
 
+pub returns-in-Ok-Some-Node-clause-unbatched : goal.returns-in-Ok-Some-Node-clause-unbatched
+returns-in-Ok-Some-Node-clause-unbatched g c = λ claim e f.
+    let said : node_of (map string_bytes c.args.arguments.now) ≡ Some c.in-Ok-Some-Node.call = search rules in
+    no_such (command_of (map string_bytes c.args.arguments.now)) _
+    (node_is_none (map string_bytes c.args.arguments.now) c.in-Ok-Some-Node.call said) e _
+
 pub returns-in-Ok-Some-Node-clause-through : goal.returns-in-Ok-Some-Node-clause-through
 returns-in-Ok-Some-Node-clause-through g c = λ e f.
     let said : node_of (map string_bytes c.args.arguments.now) ≡ Some c.in-Ok-Some-Node.call = search rules in
@@ -133,6 +139,12 @@ returns-in-Ok-Some-Client-clause-safe_in_part g c = λ carried e f.
 
 pub returns-in-Ok-Some-Client-clause-broken : goal.returns-in-Ok-Some-Client-clause-broken
 returns-in-Ok-Some-Client-clause-broken g c = λ carried e f.
+    let said : client_of (map string_bytes c.args.arguments.now) ≡ Some c.in-Ok-Some-Client.call = search rules in
+    no_such (command_of (map string_bytes c.args.arguments.now)) _
+    (client_is_none (map string_bytes c.args.arguments.now) c.in-Ok-Some-Client.call said).0 e _
+
+pub returns-in-Ok-Some-Client-clause-unbatched : goal.returns-in-Ok-Some-Client-clause-unbatched
+returns-in-Ok-Some-Client-clause-unbatched g c = λ claim e f.
     let said : client_of (map string_bytes c.args.arguments.now) ≡ Some c.in-Ok-Some-Client.call = search rules in
     no_such (command_of (map string_bytes c.args.arguments.now)) _
     (client_is_none (map string_bytes c.args.arguments.now) c.in-Ok-Some-Client.call said).0 e _

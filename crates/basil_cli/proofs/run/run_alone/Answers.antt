@@ -8,6 +8,7 @@ use Rattle.basil_cli.specs.Reading.{IsReadFor, StopsSoonFor}
 use Rattle.basil_cli.specs.declared.command.Command.{Command}
 use Rattle.basil_cli.proofs.Ends.{broken_ends, load_breaks, load_ends, safe_ends, safe_in_part}
 use Rattle.basil_cli.proofs.Arguments.{untaken_arguments}
+use Rattle.basil_cli.proofs.BatchEnds.{unbatch_ends}
 use Rattle.basil_cli.proofs.run.run_alone.Goals as goal
 
 pub returns-in-Ok-Some-clause-answers : goal.returns-in-Ok-Some-clause-answers
@@ -47,6 +48,12 @@ pub returns-in-Ok-Some-clause-load_broken : goal.returns-in-Ok-Some-clause-load_
 returns-in-Ok-Some-clause-load_broken g c = λ size e f.
     let said : command_of (map string_bytes c.args.arguments.now) ≡ Some c.in-Ok-Some.command = search rules in
     load_breaks c.run_command.result _ c.in-Ok-Some.command _ _ _ said c.run_command.ensures.alone c.breaks_are_real.ensures size e f
+
+pub returns-in-Ok-Some-clause-unbatched : goal.returns-in-Ok-Some-clause-unbatched
+returns-in-Ok-Some-clause-unbatched g c = λ claim e f.
+    let said : command_of (map string_bytes c.args.arguments.now) ≡ Some c.in-Ok-Some.command = search rules in
+    unbatch_ends c.run_command.result _ c.in-Ok-Some.command _ _ _ _ _ (g.S.Source.left c.args.source.now) said
+    c.run_command.ensures.answers c.findings_are_real.ensures claim e f
 
 pub returns-in-Ok-Some-clause-complete : goal.returns-in-Ok-Some-clause-complete
 returns-in-Ok-Some-clause-complete g c = λ read write link.

@@ -1,0 +1,107 @@
+//! One signature for many messages, as commands.
+
+ghost use Rattle.std.specs.Prelude.{◌≡◌, ◌<◌, ◌≤◌, IfOk, length};
+ghost use Rattle.batch_text.specs.Texts.{signatures_of};
+ghost use Rattle.lms_sign.specs.Sets.{leaves_of};
+ghost use Rattle.basil_cli.specs.Batches.{batched, sealed_by, told, unbatched};
+ghost use Rattle.basil_cli.specs.Outcome.{Written, longest_input};
+ghost use Rattle.basil_cli.specs.Parts.{outcome_is};
+
+use crate::command::{Claim, KeyMaterial};
+use crate::ending::Ending;
+use crate::signatures::accepted;
+use basil_types::bytes::Bytes;
+use basil_types::memory::NoMemory;
+use basil_types::party::Party;
+use batch_sign::{Batch, BatchFault};
+use batch_text::finding::{PlaceFinding, judge};
+use batch_text::reading::{BatchTextFault, read_batch, read_kept};
+use batch_text::writing::signature_lines;
+use keyring_lms::LmsPen;
+use lms_sign::LmsKey;
+use premise_watch::broken::Broken;
+use std::alloc::Global;
+
+/// Whose the pen is. A signature doesn't tell it.
+const SIGNER: Party = Party::Client { number: 1 };
+
+/// The signatures of the messages of a batch that has one at least, with a leaf of a key.
+fn sign_batch(
+    alloc: Global,
+    material: &KeyMaterial,
+    leaf: u32,
+    batch: &Batch,
+) -> Result<Ending, NoMemory>
+    requires leaf { leaf < leaves_of material.now.set }
+    requires some { 0 < length batch.now }
+    ensures { IfOk result (λ e. outcome_is e ≡ Written (signatures_of (sealed_by material.now leaf batch.now))) }
+{
+    let key = LmsKey::make(alloc, &material.seed, &material.ident, material.set, leaf)?;
+    let mut pen = LmsPen::new(SIGNER, key);
+    match batch.sign(&mut pen) {
+        Ok(sealed) => Ok(Ending::Written(signature_lines(alloc, &sealed)?)),
+        Err(BatchFault::NoMemory) => Err(NoMemory),
+        Err(_) => unreachable!(),
+    }
+}
+
+/// The signatures of the messages on the lines of an input, with a leaf of a key.
+pub(crate) fn batch(
+    alloc: Global,
+    material: &KeyMaterial,
+    leaf: u32,
+    bytes: &[u8],
+) -> Result<Ending, NoMemory>
+    requires leaf { leaf < leaves_of material.now.set }
+    requires short { length bytes.now ≤ longest_input }
+    ensures { IfOk result (λ e. outcome_is e ≡ batched material.now leaf bytes.now) }
+{
+    match read_batch(alloc, bytes) {
+        Ok(batch) => sign_batch(alloc, material, leaf, &batch),
+        Err(BatchTextFault::BadLine { line, reason }) => Ok(Ending::BadLine { line, reason }),
+        Err(BatchTextFault::NoMemory) => Err(NoMemory),
+    }
+}
+
+/// `in I`
+fn place_line(alloc: Global, place: u16) -> Result<Bytes, NoMemory>
+    ensures { IfOk result (λ line. line ≡ Rattle.basil_cli.specs.Batches.place_line place) }
+{
+    let text = format!(in alloc; "in {place}\n")?;
+    Ok(Bytes::copy_of(alloc, text.as_bytes())?)
+}
+
+/// What is told of a finding.
+fn ending_of(alloc: Global, finding: PlaceFinding) -> Result<Ending, NoMemory>
+    ensures { IfOk result (λ e. outcome_is e ≡ told finding) }
+{
+    match finding {
+        PlaceFinding::Accepted => accepted(alloc),
+        PlaceFinding::In(place) => Ok(Ending::Written(place_line(alloc, place)?)),
+        PlaceFinding::Refused { reason } => Ok(Ending::Refused { reason }),
+        PlaceFinding::Collision { first, second } => {
+            Ok(Ending::Broken(Broken::Collision { first, second }))
+        }
+    }
+}
+
+/// What is found of the claimed signature of the message on the first line of an input, with the batch on those behind
+/// it, where there are any.
+pub(crate) fn unbatch(alloc: Global, claim: &Claim, bytes: &[u8]) -> Result<Ending, NoMemory>
+    requires { length bytes.now ≤ longest_input }
+    ensures { IfOk result (λ e. outcome_is e ≡ unbatched claim.now bytes.now) }
+{
+    match read_kept(alloc, bytes) {
+        Ok(kept) => {
+            let finding = judge(
+                alloc,
+                claim.public.as_slice(),
+                claim.signature.as_slice(),
+                &kept,
+            )?;
+            ending_of(alloc, finding)
+        }
+        Err(BatchTextFault::BadLine { line, reason }) => Ok(Ending::BadLine { line, reason }),
+        Err(BatchTextFault::NoMemory) => Err(NoMemory),
+    }
+}
