@@ -22,11 +22,11 @@ pub enum Status {
     /// 6: a link failed; `link fault` was written.
     LinkFault,
     /// 7: a premise of the run is broken: a signature is accepted for a correct party on words that it never signed, or
-    /// two transactions have one id; or `unbatch` finds two texts with one digest. `broken forged PARTY WORDS SIGNATURE`
-    /// or `broken collision BYTES BYTES` was written.
+    /// two transactions have one id; or `unbatch` finds two texts with one digest. `broken forged PARTY WORDS
+    /// SIGNATURE` or `broken collision BYTES BYTES` was written.
     Broken,
     /// 8: what the command tests is false of its input, and why; `refused R` was written, for `hssverify` with the
-    /// level and the number of what LMS refuses there, where it has one; for `audit`, with the reason 0, a `stray` line.
+    /// level and the number of what LMS refuses there, where it has one; for `audit`, with reason 0, a `stray` line.
     Refused { reason: u8 },
     /// 9: memory is wanting; nothing was written.
     NoMemory,

@@ -36,8 +36,8 @@ fn sealed(alloc: Global, count: u16) -> Result<SealedBatch, Fail> {
     Ok(batch.sign(&mut pen).map_err(|_| "not signed")?)
 }
 
-/// How many messages there are, the place of one, the bytes of its signature, and their SHA-256, by a Python program with
-/// hashlib's SHA-256.
+/// How many messages there are, the place of one, the bytes of its signature, and their SHA-256, by a Python program
+/// with hashlib's SHA-256.
 const SEALED: &[(u16, u16, usize, &str)] = &[
     (
         1,

@@ -149,7 +149,8 @@ asks_none : (me : ClientSelf) (l : Listing) (t : Talk) → asks me l t [] ≡ t
 unfolding asks
 asks_none me l t = refl
 
-asks_then : (me : ClientSelf) (l : Listing) (t : Talk) (fates more : List Fate) → asks me l t (fates ++ more) ≡ asks me l (asks me l t fates) more
+asks_then : (me : ClientSelf) (l : Listing) (t : Talk) (fates more : List Fate) →
+    asks me l t (fates ++ more) ≡ asks me l (asks me l t fates) more
 unfolding asks
 asks_then me l t [] more = refl
 asks_then me l t (fate ∷ fates) more = asks_then me l (asks_next me l t fate) fates more

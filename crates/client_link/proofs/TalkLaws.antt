@@ -154,7 +154,8 @@ carried client told e after t x (Full none same) at =
 carried client told e after t x (Joins more left asked) at =
     let some : t.left ≡ suc after.left = sym at.left ∙ omega (arith, left) in
     let joins : carries t x ≡ record t { queue = t.queue ++ x ∷ []; left = t.left - 1 } =
-    ap (λ (b : Bool). cond b t (record t { queue = t.queue ++ x ∷ []; left = t.left - 1 })) (ne_eqb t.left 0 (λ z. omega (arith, some, z))) in
+    ap (λ (b : Bool). cond b t (record t { queue = t.queue ++ x ∷ []; left = t.left - 1 }))
+    (ne_eqb t.left 0 (λ z. omega (arith, some, z))) in
     let within = at.within in
     let count : length after.out.messages.items ≡ length e.out.messages.items + 1 =
     ap length more ∙ length-append e.out.messages.items (x ∷ []) in
@@ -198,7 +199,8 @@ pub taken_none : (me : ClientSelf) (t : Talk) → takes_all me t [] ≡ t
 unfolding takes_all
 taken_none me t = refl
 
-pub taken_first : (me : ClientSelf) (t : Talk) (x : Envelope) (xs : List Envelope) → takes_all me t (x ∷ xs) ≡ takes_all me (takes me t x) xs
+pub taken_first : (me : ClientSelf) (t : Talk) (x : Envelope) (xs : List Envelope) →
+    takes_all me t (x ∷ xs) ≡ takes_all me (takes me t x) xs
 unfolding takes_all
 taken_first me t x xs = refl
 

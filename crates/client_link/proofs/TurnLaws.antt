@@ -1,5 +1,6 @@
 -- The calls of a run, and how it goes on from them.
-use Rattle.std.proofs.Common.{◌≡◌, ◌≢◌, ℕ, zero, suc, drop, ◌+◌, ◌<◌, ◌≤◌, Bool, true, false, cond, List, [], ◌∷◌, ◌++◌, length, Option, Some, None}
+use Rattle.std.proofs.Common.{◌≡◌, ◌≢◌, ℕ, zero, suc, drop, ◌+◌, ◌<◌, ◌≤◌, Bool, true, false, cond, List, [], ◌∷◌, ◌++◌, length}
+use Rattle.std.proofs.Common.{Option, Some, None}
 use Rattle.std.proofs.Common.{Result, Ok, Err, is_some, refl, sym, ap, subst, ◌∙◌, append-nil, arith}
 use Rattle.std.specs.Prelude.{map, slice_get, not, nat_lt}
 use Rattle.basil_types.specs.declared.transaction.parts.WritePart.{WritePart}
@@ -231,7 +232,8 @@ pub turned_err : {V S : Type 0} {v : verifiers.Ghosts V} {g : signers.Ghosts S} 
     (slot : ℕ) (turn : Turn) (told : Option LinkState) (e : Errands) (t : Talk) (before now : ℕ) (fault : RunFault) →
     ComesTo new l told e t (turn.call t.client) before now (Err fault) → before ≤ now →
     HasTurned new l slot (turn ∷ []) told e t before now (Err fault)
-turned_err new l slot turn told e t before now (Call fault) h later = turn_refused new (own new) l slot turn told e t before now refl fault h later
+turned_err new l slot turn told e t before now (Call fault) h later =
+    turn_refused new (own new) l slot turn told e t before now refl fault h later
 turned_err new l slot turn told e t before now (Undecided replies) h later = absurd h
 turned_err new l slot turn told e t before now NoMemory h later = tt
 
@@ -478,7 +480,8 @@ module _ {V S : Type 0} {v : verifiers.Ghosts V} {g : signers.Ghosts S} (client 
         risen = h.risen;
       }
 
-  module _ (mine : ClientSelf) (same : mine ≡ me) (slot : ℕ) (d : ClientDone) (begun : call_begin w time ≡ Ok d) (at : slot ≡ length w.slots)
+  module _ (mine : ClientSelf) (same : mine ≡ me) (slot : ℕ) (d : ClientDone) (begun : call_begin w time ≡ Ok d)
+      (at : slot ≡ length w.slots)
     where
       abbrev Ran : ClientSelf → Option RunFault → Type 0
       Ran m end = HasRun client told (Runs m l slot (turns_of m slot plan ++ closing m slot)) (starting d.client s) before now end
@@ -523,7 +526,8 @@ module _ {V S : Type 0} {v : verifiers.Ghosts V} {g : signers.Ghosts S} (client 
   run_unbegun_as (calls.BadTransaction form) h shows links later = unbegun_end _ (h (λ is. cc)) shows links later
   run_unbegun_as calls.NoMemory h shows links later = tt
 
-  pub run_unbegun : (fault : CallFault) (known : RunFault) → known ≡ fault_told fault → (fault ≢ calls.NoMemory → call_begin w time ≡ Err fault) →
+  pub run_unbegun : (fault : CallFault) (known : RunFault) → known ≡ fault_told fault →
+      (fault ≢ calls.NoMemory → call_begin w time ≡ Err fault) →
       ShowsClient client w → told ≡ Some s → before ≤ now →
       OnEnd {T = ℕ} (Err known) (HasRun client told (RunsPlan me l time plan) (starting w s) before now)
   run_unbegun fault known is h shows links later =

@@ -1,5 +1,6 @@
 -- A client with its links and the messages of its run, and the talk that these show.
-use Rattle.std.specs.Prelude.{◌≡◌, ◌≢◌, ℕ, ◌+◌, ◌≤◌, Bool, true, false, List, [], ◌∷◌, ◌++◌, length, drop, Option, Some, None, Result, Ok, Err, ⊤, ◌-◌}
+use Rattle.std.specs.Prelude.{◌≡◌, ◌≢◌, ℕ, ◌+◌, ◌-◌, ◌≤◌, Bool, true, false, List, [], ◌∷◌, ◌++◌, length, drop}
+use Rattle.std.specs.Prelude.{Option, Some, None, Result, Ok, Err, ⊤}
 use Rattle.basil_types.specs.declared.outbox.Envelope.{Envelope}
 use Rattle.basil_types.specs.Links.{LinkState}
 use Rattle.basil_types.specs.Setting.{Setting}
@@ -72,8 +73,8 @@ pub record HasTaken {V S : Type 0} {v : verifiers.Ghosts V} {g : signers.Ghosts 
   pub speaks : Speaks client.seat.cluster old.client new.client sent
 
 -- a message was asked, or has no receiver with an address
-pub record IsAskedAt (l : Listing) (number : ℕ) (e : Envelope) (s : LinkState) (told : Option LinkState) (before now : ℕ)
-    (taken : List Envelope) : Type 0 where
+pub record IsAskedAt (l : Listing) (number : ℕ) (e : Envelope) (s : LinkState) (told : Option LinkState)
+    (before now : ℕ) (taken : List Envelope) : Type 0 where
   pub fate : Fate
   pub links : told ≡ Some (links_after fate (address_in l e.to) (asking number e) s)
   pub given : taken ≡ given_at fate (address_in l e.to) l.cluster s
@@ -115,7 +116,8 @@ abbrev pub HasCalled : {V S : Type 0} {v : verifiers.Ghosts V} {g : signers.Ghos
     (told : Option LinkState) → (e : Errands) → (old : Talk) → (answer : Result ClientDone CallFault) →
     (called : Result (Unit {0}) CallFault) → Type 0
 HasCalled client told e old answer (Ok x) = (d : ClientDone) × (answer ≡ Ok d) × IsTalk client told e (sends old d)
-HasCalled client told e old answer (Err fault) = fault ≢ calls.NoMemory → (answer ≡ Err fault) × IsTalk client told e old
+HasCalled client told e old answer (Err fault) =
+    fault ≢ calls.NoMemory → (answer ≡ Err fault) × IsTalk client told e old
 
 -- what it sent was asked, with all that came of it
 pub record HasCome {V S : Type 0} {v : verifiers.Ghosts V} {g : signers.Ghosts S} (client : Client V S v g)

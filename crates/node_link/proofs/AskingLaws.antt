@@ -6,7 +6,8 @@ use Rattle.std.specs.Prelude.{◌||◌, IfOk, nat_le, option_map}
 use Rattle.std.specs.Int.{w32, from_be_bytes}
 use Rattle.std.specs.Io.KnownBytes.{Consumes, IsAtEnd}
 use Rattle.std.proofs.lemmas.Bool.{le-leb, leb-true, or_cases}
-use Rattle.std.proofs.lemmas.List.{append-nil, length-append, length-take-le, take_all, take-take, take-append-le, take-append-drop, drop_all}
+use Rattle.std.proofs.lemmas.List.{append-nil, length-append, length-take-le, take_all, take-take, take-append-le, take-append-drop}
+use Rattle.std.proofs.lemmas.List.{drop_all}
 use Rattle.std.proofs.Math.Seq.{take-append-add}
 use Rattle.basil_types.specs.Causes.{Rose}
 use Rattle.basil_types.specs.declared.links.LinkFail.{LinkFail}

@@ -10,7 +10,8 @@ pub returns-then-is_decided-clause-called : goal.returns-then-is_decided-clause-
 returns-then-is_decided-clause-called g c told t at =
     let me = self_at c.args.client.now.seat (g.V.Verifier.accepted c.args.client.now.keys) (g.S.Signer.fixed c.args.client.now.pen) in
     called_still _ _ told _ _ t at refl refl _ _
-    (recovers_decided me c.args.slot t.client (sym (c.is_decided.ensures t.client at.client_is) ∙ c.if-is_decided.true)) at.client_is refl refl
+    (recovers_decided me c.args.slot t.client (sym (c.is_decided.ensures t.client at.client_is) ∙ c.if-is_decided.true)) at.client_is
+    refl refl
 
 pub returns-in-Ok-clause-called : goal.returns-in-Ok-clause-called
 returns-in-Ok-clause-called g c told t at =

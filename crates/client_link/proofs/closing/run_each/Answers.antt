@@ -13,8 +13,8 @@ loop-stage-preserved g c =
     self_at c.args.client.now.seat (g.V.Verifier.accepted c.args.client.now.keys) (g.S.Signer.fixed c.args.client.now.pen) in
     let is : c.loop-stage.left.now ≡ c.in-Some.stage.now ∷ c.in-Some.others.now = search rules in
     let k = c.loop-stage.invariant in
-    turning_more c.args.client.now c.loop-stage.client c.run_stage.new.client _ c.args.slot _ _ (stage_turns me c.args.slot c.in-Some.others.now)
-    (stage_turn me c.args.slot c.in-Some.stage.now) _ _ _ _ _ _ _ _ _ k (ap (stage_turns me c.args.slot) is) c.in-Ok.ensures.own
+    turning_more c.args.client.now c.loop-stage.client c.run_stage.new.client _ c.args.slot _ _
+    (stage_turns me c.args.slot c.in-Some.others.now) (stage_turn me c.args.slot c.in-Some.stage.now) _ _ _ _ _ _ _ _ _ k (ap (stage_turns me c.args.slot) is) c.in-Ok.ensures.own
     c.in-Ok.ensures.seat c.in-Ok.ensures.slots c.in-Ok.ensures.faults
     (λ t at. subst (λ (m : ClientSelf). HasTurned c.run_stage.new.client c.args.file.now c.args.slot
     (stage_turn m c.args.slot c.in-Some.stage.now ∷ []) (g.L.Links.told c.run_stage.new.links) c.run_stage.new.errands t
@@ -26,9 +26,9 @@ returns-in-Err-clause-turned g c t at =
     self_at c.args.client.now.seat (g.V.Verifier.accepted c.args.client.now.keys) (g.S.Signer.fixed c.args.client.now.pen) in
     let is : c.loop-stage.left.now ≡ c.in-Some.stage.now ∷ c.in-Some.others.now = search rules in
     let k = c.loop-stage.invariant in
-    turning_ended c.args.client.now c.loop-stage.client c.run_stage.new.client _ c.args.slot _ _ (stage_turns me c.args.slot c.in-Some.others.now)
-    (stage_turn me c.args.slot c.in-Some.stage.now) _ _ _ _ _ c.run_stage.new.errands _ _ _ k (ap (stage_turns me c.args.slot) is) c.in-Err.ensures.own
-    t c.in-Err.fault at
+    turning_ended c.args.client.now c.loop-stage.client c.run_stage.new.client _ c.args.slot _ _
+    (stage_turns me c.args.slot c.in-Some.others.now) (stage_turn me c.args.slot c.in-Some.stage.now) _ _ _ _ _ c.run_stage.new.errands
+    _ _ _ k (ap (stage_turns me c.args.slot) is) c.in-Err.ensures.own t c.in-Err.fault at
     (λ u there. subst (λ (m : ClientSelf). HasTurned c.run_stage.new.client c.args.file.now c.args.slot
     (stage_turn m c.args.slot c.in-Some.stage.now ∷ []) (g.L.Links.told c.run_stage.new.links) c.run_stage.new.errands u
     (g.L.Links.faults c.loop-stage.links) (g.L.Links.faults c.run_stage.new.links) (Err c.in-Err.fault)) k.self

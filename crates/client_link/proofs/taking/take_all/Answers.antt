@@ -9,8 +9,8 @@ pub loop-envelope-preserved-then-sent : goal.loop-envelope-preserved-then-sent
 loop-envelope-preserved-then-sent g c =
     let items : c.loop-envelope.given.items ≡ c.in-Some.envelope ∷ c.pop_front.new.self.items = search rules in
     taking_more _ _ _ _ _ _ _ _ c.pop_front.new.self.items c.in-Some.envelope _ _ _ c.loop-envelope.invariant items
-    (c.if-sent.true ∙ sym (or_left _ c.in-Ok.more c.if-sent.true)) c.in-Ok.ensures.own c.in-Ok.ensures.seat c.in-Ok.ensures.slots c.in-Ok.ensures.asked
-    (λ none. c.in-Ok.ensures.kept (ap Ok none)) (λ told t at. c.in-Ok.ensures.taken told t at)
+    (c.if-sent.true ∙ sym (or_left _ c.in-Ok.more c.if-sent.true)) c.in-Ok.ensures.own c.in-Ok.ensures.seat c.in-Ok.ensures.slots
+    c.in-Ok.ensures.asked (λ none. c.in-Ok.ensures.kept (ap Ok none)) (λ told t at. c.in-Ok.ensures.taken told t at)
 
 pub loop-envelope-preserved : goal.loop-envelope-preserved
 loop-envelope-preserved g c =
