@@ -49,11 +49,11 @@ over bytes o long = grind (arith, common_steps)
 -- the input of one that has one may be too long
 pub long_as : (command : Command) → runs command ≡ false → reads command ≡ true → (coming : List (List ℕ)) (bytes : List ℕ) →
     longest_input < length bytes → TooLong ≡ output_of command coming bytes
-long_as (Sign m leaf) other read coming bytes long = over bytes _ long
+long_as (Sign leaf) other read coming bytes long = over bytes _ long
 long_as (Verify claim) other read coming bytes long = over bytes _ long
 long_as (HssSign m number) other read coming bytes long = over bytes _ long
 long_as (HssVerify claim) other read coming bytes long = over bytes _ long
-long_as (Batch m leaf) other read coming bytes long = over bytes _ long
+long_as (Batch leaf) other read coming bytes long = over bytes _ long
 long_as (Unbatch claim) other read coming bytes long = over bytes _ long
 long_as Check other read coming bytes long = over bytes _ long
 long_as Audit other read coming bytes long = over bytes _ long

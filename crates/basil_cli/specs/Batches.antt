@@ -13,22 +13,22 @@ use Rattle.premise_watch.specs.declared.broken.Broken.TheVariants.{Collision}
 use Rattle.basil_cli.specs.Outcome.{Outcome, BadLine, Broken, Refused, Written, text_of}
 use Rattle.basil_cli.specs.Signatures.{accepted, tree_named}
 use Rattle.basil_cli.specs.declared.command.Claim.{Claim}
-use Rattle.basil_cli.specs.declared.command.KeyMaterial.{KeyMaterial}
+use Rattle.basil_cli.specs.declared.command.SigningLeaf.{SigningLeaf}
 
 -- messages with the signature of their root words by a leaf of a key
-abbrev pub sealed_by : KeyMaterial → (leaf : ℕ) → (messages : List (List ℕ)) → Sealing
-sealed_by m leaf messages = record {
+abbrev pub sealed_by : SigningLeaf → (messages : List (List ℕ)) → Sealing
+sealed_by signing messages = record {
   leaves = leaves_of messages;
-  inner = signature_of (tree_named m) leaf (words_over (leaves_of messages));
+  inner = signature_of (tree_named signing.material) signing.leaf (words_over (leaves_of messages));
 }
 
-abbrev pub batched_with : KeyMaterial → (leaf : ℕ) → Result (List (List ℕ)) BadText → Outcome
-batched_with m leaf (Ok messages) = Written (signatures_of (sealed_by m leaf messages))
-batched_with m leaf (Err bad) = BadLine bad.line bad.reason
+abbrev pub batched_with : SigningLeaf → Result (List (List ℕ)) BadText → Outcome
+batched_with signing (Ok messages) = Written (signatures_of (sealed_by signing messages))
+batched_with signing (Err bad) = BadLine bad.line bad.reason
 
 -- the signatures of the messages on the lines of an input
-abbrev pub batched : KeyMaterial → (leaf : ℕ) → (bytes : List ℕ) → Outcome
-batched m leaf bytes = batched_with m leaf (batch_in bytes)
+abbrev pub batched : SigningLeaf → (bytes : List ℕ) → Outcome
+batched signing bytes = batched_with signing (batch_in bytes)
 
 -- `in I`
 abbrev pub place_line : ℕ → List ℕ

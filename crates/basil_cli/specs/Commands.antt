@@ -17,6 +17,7 @@ use Rattle.basil_cli.specs.declared.command.Command.TheVariants.{HssKeys, HssSig
 use Rattle.basil_cli.specs.declared.command.HssMaterial.{HssMaterial}
 use Rattle.basil_cli.specs.declared.command.KeyMaterial.{KeyMaterial}
 use Rattle.basil_cli.specs.declared.command.LoadSize.{LoadSize}
+use Rattle.basil_cli.specs.declared.command.SigningLeaf.{SigningLeaf}
 
 -- what an argument says, whatever is wrong with another
 abbrev pub said : {A : Type 0} → Result A Complaint → Option A
@@ -70,10 +71,21 @@ below bound (Some n) = if nat_lt n bound then Some n else None
 abbrev pub leaf_of : LmsSet → Token → Option ℕ
 leaf_of set argument = below (leaves_of set) (said (number argument))
 
--- a command of a key and a leaf
-abbrev pub leaf_by : (KeyMaterial → ℕ → Command) → Option KeyMaterial → Token → Option Command
-leaf_by by None leaf = None
-leaf_by by (Some m) leaf = option_map (by m) (leaf_of m.set leaf)
+-- SET SEED IDENT Q: a key, and one of its leaves
+abbrev pub at_leaf : KeyMaterial → (leaf : ℕ) → SigningLeaf
+at_leaf m leaf = record { material = m; leaf = leaf }
+
+abbrev pub signing_by : Option KeyMaterial → Token → Option SigningLeaf
+signing_by None leaf = None
+signing_by (Some m) leaf = option_map (at_leaf m) (leaf_of m.set leaf)
+
+abbrev pub signing_of : List Token → Option SigningLeaf
+signing_of (set ∷ seed ∷ ident ∷ leaf ∷ []) = signing_by (material_of set seed ident) leaf
+signing_of _ = None
+
+-- the leaf is one of the key's
+abbrev pub IsLeaf : SigningLeaf → Type 0
+IsLeaf signing = signing.leaf < leaves_of signing.material.set
 
 -- N: the number of a signature
 abbrev pub number_of : HssMaterial → Token → Option ℕ
@@ -89,8 +101,9 @@ claim_with None signature = None
 claim_with (Some public) None = None
 claim_with (Some public) (Some signature) = Some (record { public = public; signature = signature })
 
-abbrev pub claim_of : Token → Token → Option Claim
-claim_of public signature = claim_with (said (hex public)) (said (hex signature))
+abbrev pub claim_of : List Token → Option Claim
+claim_of (public ∷ signature ∷ []) = claim_with (said (hex public)) (said (hex signature))
+claim_of _ = None
 
 -- `replay`, and `loopback`, where links carry each delivery
 abbrev pub replay_of : (carried : Bool) → List Token → Option Command
@@ -123,13 +136,11 @@ keys_of _ = None
 
 -- `sign SET SEED IDENT Q`
 abbrev pub sign_of : List Token → Option Command
-sign_of (set ∷ seed ∷ ident ∷ leaf ∷ []) = leaf_by Sign (material_of set seed ident) leaf
-sign_of _ = None
+sign_of arguments = option_map Sign (signing_of arguments)
 
 -- `verify PUBLIC SIGNATURE`
 abbrev pub verify_of : List Token → Option Command
-verify_of (public ∷ signature ∷ []) = option_map Verify (claim_of public signature)
-verify_of _ = None
+verify_of arguments = option_map Verify (claim_of arguments)
 
 -- `hsskeys SET SET SEED IDENT`
 abbrev pub hss_keys_of : List Token → Option Command
@@ -143,18 +154,15 @@ hss_sign_of _ = None
 
 -- `hssverify PUBLIC SIGNATURE`
 abbrev pub hss_verify_of : List Token → Option Command
-hss_verify_of (public ∷ signature ∷ []) = option_map HssVerify (claim_of public signature)
-hss_verify_of _ = None
+hss_verify_of arguments = option_map HssVerify (claim_of arguments)
 
 -- `batch SET SEED IDENT Q`
 abbrev pub batch_of : List Token → Option Command
-batch_of (set ∷ seed ∷ ident ∷ leaf ∷ []) = leaf_by Batch (material_of set seed ident) leaf
-batch_of _ = None
+batch_of arguments = option_map Batch (signing_of arguments)
 
 -- `unbatch PUBLIC SIGNATURE`
 abbrev pub unbatch_of : List Token → Option Command
-unbatch_of (public ∷ signature ∷ []) = option_map Unbatch (claim_of public signature)
-unbatch_of _ = None
+unbatch_of arguments = option_map Unbatch (claim_of arguments)
 
 -- `check`
 abbrev pub check_of : List Token → Option Command
@@ -215,7 +223,7 @@ arguments_carried (Some command) = is_carried command
 
 -- a command that signs names a leaf of its tree, or a number of its key
 abbrev pub HasLeaf : Command → Type 0
-HasLeaf (Sign m leaf) = leaf < leaves_of m.set
+HasLeaf (Sign leaf) = IsLeaf leaf
 HasLeaf (HssSign m number) = number < numbers_in m
-HasLeaf (Batch m leaf) = leaf < leaves_of m.set
+HasLeaf (Batch leaf) = IsLeaf leaf
 HasLeaf other = ⊤

@@ -13,6 +13,7 @@ use Rattle.basil_cli.specs.Outcome.{Outcome, Written, Refused, RefusedAt}
 use Rattle.basil_cli.specs.declared.command.Claim.{Claim}
 use Rattle.basil_cli.specs.declared.command.HssMaterial.{HssMaterial}
 use Rattle.basil_cli.specs.declared.command.KeyMaterial.{KeyMaterial}
+use Rattle.basil_cli.specs.declared.command.SigningLeaf.{SigningLeaf}
 
 abbrev pub tree_named : KeyMaterial → Tree
 tree_named m = tree_of m.set m.ident m.seed
@@ -24,8 +25,8 @@ hex_line bytes = encode_lower bytes ++ 10 ∷ []
 abbrev pub keys_made : KeyMaterial → Outcome
 keys_made m = Written (hex_line (public_of (tree_named m)))
 
-abbrev pub signed : KeyMaterial → ℕ → List ℕ → Outcome
-signed m leaf message = Written (hex_line (signature_of (tree_named m) leaf message))
+abbrev pub signed : SigningLeaf → List ℕ → Outcome
+signed signing message = Written (hex_line (signature_of (tree_named signing.material) signing.leaf message))
 
 abbrev pub accepted : Outcome
 accepted = Written (codes "accepted" ++ 10 ∷ [])

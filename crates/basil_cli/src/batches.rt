@@ -2,14 +2,14 @@
 
 ghost use Rattle.std.specs.Prelude.{◌≡◌, ◌<◌, ◌≤◌, IfOk, length};
 ghost use Rattle.batch_text.specs.Texts.{signatures_of};
-ghost use Rattle.lms_sign.specs.Sets.{leaves_of};
 ghost use Rattle.basil_cli.specs.Batches.{batched, sealed_by, told, unbatched};
+ghost use Rattle.basil_cli.specs.Commands.{IsLeaf};
 ghost use Rattle.basil_cli.specs.Outcome.{Written, longest_input};
 ghost use Rattle.basil_cli.specs.Parts.{outcome_is};
 
-use crate::command::{Claim, KeyMaterial};
+use crate::command::{Claim, SigningLeaf};
 use crate::ending::Ending;
-use crate::signatures::accepted;
+use crate::signatures::{accepted, key_at};
 use basil_types::bytes::Bytes;
 use basil_types::memory::NoMemory;
 use basil_types::party::Party;
@@ -18,7 +18,6 @@ use batch_text::finding::{PlaceFinding, judge};
 use batch_text::reading::{BatchTextFault, read_batch, read_kept};
 use batch_text::writing::signature_lines;
 use keyring_lms::LmsPen;
-use lms_sign::LmsKey;
 use premise_watch::broken::Broken;
 use std::alloc::Global;
 
@@ -26,18 +25,12 @@ use std::alloc::Global;
 const SIGNER: Party = Party::Client { number: 1 };
 
 /// The signatures of the messages of a batch that has one at least, with a leaf of a key.
-fn sign_batch(
-    alloc: Global,
-    material: &KeyMaterial,
-    leaf: u32,
-    batch: &Batch,
-) -> Result<Ending, NoMemory>
-    requires leaf { leaf < leaves_of material.now.set }
+fn sign_batch(alloc: Global, signing: &SigningLeaf, batch: &Batch) -> Result<Ending, NoMemory>
+    requires leaf { IsLeaf signing.now }
     requires some { 0 < length batch.now }
-    ensures { IfOk result (λ e. outcome_is e ≡ Written (signatures_of (sealed_by material.now leaf batch.now))) }
+    ensures { IfOk result (λ e. outcome_is e ≡ Written (signatures_of (sealed_by signing.now batch.now))) }
 {
-    let key = LmsKey::make(alloc, &material.seed, &material.ident, material.set, leaf)?;
-    let mut pen = LmsPen::new(SIGNER, key);
+    let mut pen = LmsPen::new(SIGNER, key_at(alloc, signing)?);
     match batch.sign(&mut pen) {
         Ok(sealed) => Ok(Ending::Written(signature_lines(alloc, &sealed)?)),
         Err(BatchFault::NoMemory) => Err(NoMemory),
@@ -46,18 +39,13 @@ fn sign_batch(
 }
 
 /// The signatures of the messages on the lines of an input, with a leaf of a key.
-pub(crate) fn batch(
-    alloc: Global,
-    material: &KeyMaterial,
-    leaf: u32,
-    bytes: &[u8],
-) -> Result<Ending, NoMemory>
-    requires leaf { leaf < leaves_of material.now.set }
+pub(crate) fn batch(alloc: Global, signing: &SigningLeaf, bytes: &[u8]) -> Result<Ending, NoMemory>
+    requires leaf { IsLeaf signing.now }
     requires short { length bytes.now ≤ longest_input }
-    ensures { IfOk result (λ e. outcome_is e ≡ batched material.now leaf bytes.now) }
+    ensures { IfOk result (λ e. outcome_is e ≡ batched signing.now bytes.now) }
 {
     match read_batch(alloc, bytes) {
-        Ok(batch) => sign_batch(alloc, material, leaf, &batch),
+        Ok(batch) => sign_batch(alloc, signing, &batch),
         Err(BatchTextFault::BadLine { line, reason }) => Ok(Ending::BadLine { line, reason }),
         Err(BatchTextFault::NoMemory) => Err(NoMemory),
     }

@@ -8,7 +8,7 @@ ghost use Rattle.basil_cli.specs.Commands.{said, hex_of, claim_of, material_of, 
 ghost use Rattle.basil_cli.specs.Commands.{generate_of};
 ghost use Rattle.basil_cli.specs.Commands.{load_of, size_of, keys_of, sign_of, verify_of, check_of, audit_of, HasLeaf};
 ghost use Rattle.basil_cli.specs.Commands.{hss_keys_of, hss_material_of, hss_sign_of, hss_verify_of, number_of};
-ghost use Rattle.basil_cli.specs.Commands.{batch_of, numbers_in, reads, unbatch_of};
+ghost use Rattle.basil_cli.specs.Commands.{IsLeaf, batch_of, numbers_in, reads, signing_of, unbatch_of};
 
 use basil_types::bytes::Bytes;
 use basil_types::memory::NoMemory;
@@ -23,6 +23,13 @@ pub(crate) struct KeyMaterial {
     pub set: LmsSet,
     pub seed: [u8; 32],
     pub ident: [u8; 16],
+}
+
+/// An LMS key, and the number of the leaf that it is to sign with, from 0.
+#[derive(Clone, Copy)]
+pub(crate) struct SigningLeaf {
+    pub material: KeyMaterial,
+    pub leaf: u32,
 }
 
 /// What an HSS key of two levels is made of: the LMS key of the top level, and the parameter set of the bottom one.
@@ -67,8 +74,8 @@ pub(crate) enum Command {
     Load { size: LoadSize },
     /// The public key of a key.
     Keys { material: KeyMaterial },
-    /// The signature of the input with a leaf, from 0.
-    Sign { material: KeyMaterial, leaf: u32 },
+    /// The signature of the input with a leaf.
+    Sign { signing: SigningLeaf },
     /// Whether a signature of the input is valid under a public key.
     Verify { claim: Claim },
     /// The public key of an HSS key of two levels.
@@ -77,8 +84,8 @@ pub(crate) enum Command {
     HssSign { material: HssMaterial, number: u64 },
     /// Whether a signature of the input is valid under an HSS public key.
     HssVerify { claim: Claim },
-    /// The signatures of the input's messages, all by one signature with a leaf, from 0.
-    Batch { material: KeyMaterial, leaf: u32 },
+    /// The signatures of the input's messages, all by one signature with a leaf.
+    Batch { signing: SigningLeaf },
     /// Whether such a signature of the input's message is valid under a public key, and where it stands in the batch
     /// behind it.
     Unbatch { claim: Claim },
@@ -282,10 +289,10 @@ fn read_keys(alloc: Global, arguments: &[String]) -> Result<Option<Command>, NoM
     }
 }
 
-/// `sign SET SEED IDENT Q`
-fn read_sign(alloc: Global, arguments: &[String]) -> Result<Option<Command>, NoMemory>
-    ensures value { IfOk result (λ command. command ≡ sign_of (map string_bytes arguments.now)) }
-    ensures leaf { IfOk result (λ command. IfSome command HasLeaf) }
+/// `SET SEED IDENT Q`
+fn read_signing(alloc: Global, arguments: &[String]) -> Result<Option<SigningLeaf>, NoMemory>
+    ensures value { IfOk result (λ signing. signing ≡ signing_of (map string_bytes arguments.now)) }
+    ensures leaf { IfOk result (λ signing. IfSome signing IsLeaf) }
 {
     let [set, seed, ident, leaf] = arguments else {
         return Ok(None);
@@ -294,19 +301,33 @@ fn read_sign(alloc: Global, arguments: &[String]) -> Result<Option<Command>, NoM
         return Ok(None);
     };
     match read_leaf(material.set, leaf.as_str()) {
-        Some(leaf) => Ok(Some(Command::Sign { material, leaf })),
+        Some(leaf) => Ok(Some(SigningLeaf { material, leaf })),
+        None => Ok(None),
+    }
+}
+
+/// `sign SET SEED IDENT Q`
+fn read_sign(alloc: Global, arguments: &[String]) -> Result<Option<Command>, NoMemory>
+    ensures value { IfOk result (λ command. command ≡ sign_of (map string_bytes arguments.now)) }
+    ensures leaf { IfOk result (λ command. IfSome command HasLeaf) }
+{
+    match read_signing(alloc, arguments)? {
+        Some(signing) => Ok(Some(Command::Sign { signing })),
         None => Ok(None),
     }
 }
 
 /// `PUBLIC SIGNATURE`, both in hex
-fn read_claim(alloc: Global, public: &str, signature: &str) -> Result<Option<Claim>, NoMemory>
-    ensures { IfOk result (λ claim. claim ≡ claim_of public.now signature.now) }
+fn read_claim(alloc: Global, arguments: &[String]) -> Result<Option<Claim>, NoMemory>
+    ensures { IfOk result (λ claim. claim ≡ claim_of (map string_bytes arguments.now)) }
 {
-    let Some(public) = read_hex(alloc, public)? else {
+    let [public, signature] = arguments else {
         return Ok(None);
     };
-    match read_hex(alloc, signature)? {
+    let Some(public) = read_hex(alloc, public.as_str())? else {
+        return Ok(None);
+    };
+    match read_hex(alloc, signature.as_str())? {
         Some(signature) => Ok(Some(Claim { public, signature })),
         None => Ok(None),
     }
@@ -316,10 +337,7 @@ fn read_claim(alloc: Global, public: &str, signature: &str) -> Result<Option<Cla
 fn read_verify(alloc: Global, arguments: &[String]) -> Result<Option<Command>, NoMemory>
     ensures { IfOk result (λ command. command ≡ verify_of (map string_bytes arguments.now)) }
 {
-    let [public, signature] = arguments else {
-        return Ok(None);
-    };
-    match read_claim(alloc, public.as_str(), signature.as_str())? {
+    match read_claim(alloc, arguments)? {
         Some(claim) => Ok(Some(Command::Verify { claim })),
         None => Ok(None),
     }
@@ -373,10 +391,7 @@ fn read_hss_sign(alloc: Global, arguments: &[String]) -> Result<Option<Command>,
 fn read_hss_verify(alloc: Global, arguments: &[String]) -> Result<Option<Command>, NoMemory>
     ensures { IfOk result (λ command. command ≡ hss_verify_of (map string_bytes arguments.now)) }
 {
-    let [public, signature] = arguments else {
-        return Ok(None);
-    };
-    match read_claim(alloc, public.as_str(), signature.as_str())? {
+    match read_claim(alloc, arguments)? {
         Some(claim) => Ok(Some(Command::HssVerify { claim })),
         None => Ok(None),
     }
@@ -387,14 +402,8 @@ fn read_batch(alloc: Global, arguments: &[String]) -> Result<Option<Command>, No
     ensures value { IfOk result (λ command. command ≡ batch_of (map string_bytes arguments.now)) }
     ensures leaf { IfOk result (λ command. IfSome command HasLeaf) }
 {
-    let [set, seed, ident, leaf] = arguments else {
-        return Ok(None);
-    };
-    let Some(material) = read_material(alloc, set.as_str(), seed.as_str(), ident.as_str())? else {
-        return Ok(None);
-    };
-    match read_leaf(material.set, leaf.as_str()) {
-        Some(leaf) => Ok(Some(Command::Batch { material, leaf })),
+    match read_signing(alloc, arguments)? {
+        Some(signing) => Ok(Some(Command::Batch { signing })),
         None => Ok(None),
     }
 }
@@ -403,10 +412,7 @@ fn read_batch(alloc: Global, arguments: &[String]) -> Result<Option<Command>, No
 fn read_unbatch(alloc: Global, arguments: &[String]) -> Result<Option<Command>, NoMemory>
     ensures { IfOk result (λ command. command ≡ unbatch_of (map string_bytes arguments.now)) }
 {
-    let [public, signature] = arguments else {
-        return Ok(None);
-    };
-    match read_claim(alloc, public.as_str(), signature.as_str())? {
+    match read_claim(alloc, arguments)? {
         Some(claim) => Ok(Some(Command::Unbatch { claim })),
         None => Ok(None),
     }

@@ -2,13 +2,13 @@
 
 ghost use Rattle.std.specs.Prelude.{◌≡◌, ◌<◌, ◌≤◌, IfOk};
 ghost use Rattle.hss_sign.specs.Keys.{hss_signature_of, made_before, material_of as key_of, numbers_of};
-ghost use Rattle.lms_sign.specs.Sets.{leaves_of};
 ghost use Rattle.basil_cli.specs.Signatures as signatures;
-ghost use Rattle.basil_cli.specs.Commands.{numbers_in};
+ghost use Rattle.basil_cli.specs.Commands.{IsLeaf, numbers_in};
 ghost use Rattle.basil_cli.specs.Signatures.{keys_made, signed, verified, hss_keys_made, hss_signed, hss_verified};
+ghost use Rattle.basil_cli.specs.Signatures.{tree_named};
 ghost use Rattle.basil_cli.specs.Parts.{outcome_is};
 
-use crate::command::{Claim, HssMaterial, KeyMaterial};
+use crate::command::{Claim, HssMaterial, KeyMaterial, SigningLeaf};
 use crate::ending::Ending;
 use basil_types::bytes::Bytes;
 use basil_types::memory::NoMemory;
@@ -34,17 +34,27 @@ pub(crate) fn keys(alloc: Global, material: &KeyMaterial) -> Result<Ending, NoMe
     Ok(Ending::Written(hex_line(alloc, &key.public())?))
 }
 
-/// The signature of a message with a leaf of a key.
-pub(crate) fn sign(
-    alloc: Global,
-    material: &KeyMaterial,
-    leaf: u32,
-    message: &[u8],
-) -> Result<Ending, NoMemory>
-    requires { leaf < leaves_of material.now.set }
-    ensures { IfOk result (λ e. outcome_is e ≡ signed material.now leaf message.now) }
+/// The key whose next leaf is the one that it is to sign with.
+pub(crate) fn key_at(alloc: Global, signing: &SigningLeaf) -> Result<LmsKey, NoMemory>
+    requires { IsLeaf signing.now }
+    ensures { IfOk result (λ key. key ≡ record { tree = tree_named signing.now.material; next = signing.now.leaf }) }
 {
-    let mut key = LmsKey::make(alloc, &material.seed, &material.ident, material.set, leaf)?;
+    let material = &signing.material;
+    LmsKey::make(
+        alloc,
+        &material.seed,
+        &material.ident,
+        material.set,
+        signing.leaf,
+    )
+}
+
+/// The signature of a message with a leaf of a key.
+pub(crate) fn sign(alloc: Global, signing: &SigningLeaf, message: &[u8]) -> Result<Ending, NoMemory>
+    requires { IsLeaf signing.now }
+    ensures { IfOk result (λ e. outcome_is e ≡ signed signing.now message.now) }
+{
+    let mut key = key_at(alloc, signing)?;
     let mut signature = vec![in alloc; 0u8; key.size()]?;
     match key.sign_into(message, &mut signature) {
         Ok(()) => Ok(Ending::Written(hex_line(alloc, &signature)?)),
