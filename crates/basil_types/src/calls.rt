@@ -7,7 +7,7 @@ use std::marker::Model;
 
 /// The numbers, from 1, of the calls that fail; how many calls were made, and how many failed.
 #[derive(Drop)]
-pub(crate) struct Calls {
+pub struct Calls {
     failing: Vec<u64>,
     made: u64,
     faults: u64,
@@ -22,7 +22,8 @@ impl Model for Calls {
 }
 
 impl Calls {
-    pub(crate) fn new(failing: Vec<u64>) -> Calls
+    /// No call was made; those of these numbers, from 1, will fail.
+    pub fn new(failing: Vec<u64>) -> Calls
         ensures { result ≡ uncalled failing.items }
     {
         Calls {
@@ -33,14 +34,14 @@ impl Calls {
     }
 
     /// Whether the next call is one of those that fail.
-    pub(crate) fn fails_next(&self) -> bool
+    pub fn fails_next(&self) -> bool
         ensures { result ≡ fails_next self.now }
     {
         self.failing.contains(&self.made.saturating_add(1))
     }
 
     /// Counts a call.
-    pub(crate) fn count(&mut self, failed: bool)
+    pub fn count(&mut self, failed: bool)
         ensures counted { self.new ≡ counted failed self.old }
         ensures later { self.old.faults ≤ self.new.faults }
     {

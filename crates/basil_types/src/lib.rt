@@ -2,7 +2,7 @@
 #![tactic(auto)]
 
 pub mod bytes;
-mod calls;
+pub mod calls;
 pub mod clock;
 pub mod cluster;
 pub mod limits;

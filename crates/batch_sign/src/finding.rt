@@ -7,7 +7,7 @@ ghost use Rattle.batch_sign.specs.Parting.{Shows, later_of, nodes_at};
 ghost use Rattle.batch_sign.specs.Places.{IsReal, Tells, found_in, parting, text_above, way_of};
 ghost use Rattle.batch_sign.specs.Signatures.{depth_in, is_formed, leaf_number_in, leaves_of, named};
 ghost use Rattle.batch_sign.specs.Trees as trees;
-ghost use Rattle.batch_sign.specs.Trees.{depth_over, most_messages, node, path_over, words_over};
+ghost use Rattle.batch_sign.specs.Trees.{depth_over, most_messages, path_over, words_over};
 
 use crate::batch::{Batch, leaves_of};
 use crate::climbing::{leaf_number, named, path_node};
@@ -115,7 +115,6 @@ fn ways_part(
     requires depth { depth_in signature.now ≡ depth_over leaves.now }
     requires count { length nodes.now ≡ 2 * 2 ^ depth_over leaves.now }
     requires filled { AreNodesFrom leaves.now (depth_over leaves.now) 1 nodes.now }
-    requires held { trees.leaf_of held.now ≡ node leaves.now (depth_over leaves.now) 0 (leaf_number_in signature.now) }
     ensures { let own = way_of message.now signature.now in
         let other = text_above (path_over leaves.now (depth_over leaves.now) (leaf_number_in signature.now))
         (leaf_number_in signature.now) held.now in
@@ -150,7 +149,6 @@ fn collide(
     requires depth { depth_in signature.now ≡ depth_over leaves.now }
     requires count { length nodes.now ≡ 2 * 2 ^ depth_over leaves.now }
     requires filled { AreNodesFrom leaves.now (depth_over leaves.now) 1 nodes.now }
-    requires held { trees.leaf_of held.now ≡ node leaves.now (depth_over leaves.now) 0 (leaf_number_in signature.now) }
     ensures { let own = way_of message.now signature.now in
         let other = text_above (path_over leaves.now (depth_over leaves.now) (leaf_number_in signature.now))
         (leaf_number_in signature.now) held.now in

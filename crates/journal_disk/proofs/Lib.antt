@@ -1,0 +1,3 @@
+mod ContentsLaws
+mod HeldLaws
+mod StopLaws

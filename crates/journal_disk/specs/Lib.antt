@@ -1,0 +1,4 @@
+pub mod Disk
+pub mod Contents
+pub mod Memory
+pub mod Held

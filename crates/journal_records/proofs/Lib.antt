@@ -1,0 +1,5 @@
+pub mod RecordLaws
+pub mod StopLaws
+pub mod AppendLaws
+pub mod OpeningLaws
+pub mod FoundLaws

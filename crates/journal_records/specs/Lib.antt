@@ -1,0 +1,4 @@
+pub mod Journal
+pub mod Found
+pub mod Steps
+pub mod Laws

@@ -1,0 +1,5 @@
+use Rattle.std.proofs.Common.{rules}
+use Rattle.sha256_lanes.proofs.lanes.places_in.Goals as goal
+
+pub returns : goal.returns
+returns c = search rules
