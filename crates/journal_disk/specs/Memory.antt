@@ -5,6 +5,7 @@ use Rattle.basil_types.specs.Memory.{CallCounts, counted, fails_next, uncalled}
 use Rattle.journal_disk.specs.declared.memory.Stop.{Stop}
 use Rattle.journal_disk.specs.Disk.{DiskState, keeps}
 use Rattle.journal_disk.specs.Contents.{begins, blank, repeated, writes}
+use Rattle.journal_disk.specs.Foreseen.{Foreseen}
 
 -- a stop, and in which write from now on, counted from 1, it happens
 pub record Awaits : Type 0 where
@@ -35,6 +36,11 @@ is_last (Some awaits) = awaits.left == 1
 -- whether the next write must fail
 abbrev pub write_fails : MemDiskState → Bool
 write_fails s = is_refused s || is_last s.awaited
+
+-- the stop that awaits, as every disk tells it
+abbrev pub foretold : Option Awaits → Option Foreseen
+foretold None = None
+foretold (Some awaits) = Some (record { left = awaits.left; bytes = awaits.stop.bytes })
 
 -- a call was made, and nothing else changed
 abbrev pub called : Bool → MemDiskState → MemDiskState

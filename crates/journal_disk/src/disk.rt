@@ -4,15 +4,18 @@ ghost use Rattle.std.specs.Prelude.{◌≡◌, ◌⊎◌, ℕ, Option, OnOk, OnE
 ghost use Rattle.std.specs.Io.{ReadsAtMost};
 ghost use Rattle.basil_types.specs.Causes.{HasCause};
 ghost use Rattle.journal_disk.specs.Disk.{DiskState, BothTold, OnTold, Reads, Writes, Tears, keeps};
+ghost use Rattle.journal_disk.specs.Foreseen.{Foreseen, MayHappen, Passes};
 
 use basil_types::source::Failed;
 
-/// Bytes that outlast a stop, in part. Its meaning is what its reads give and what it did, where it tells them, and a
-/// count of faults that never falls, rises where a call fails, and only there. A disk that doesn't tell them keeps no
-/// rules.
+/// Bytes that outlast a stop, in part. Its meaning is what its reads give and what it did, where it tells them; the
+/// stop that awaits, where one is foreseen; and a count of faults that never falls, rises where a call fails, and only
+/// there. A disk that doesn't tell what its reads give keeps no rules of them.
 pub trait Disk {
     // What reads give, and what it did, where they are told.
     ghost told: { Self → Option DiskState };
+    // The stop that awaits, where one is foreseen.
+    ghost awaits: { Self → Option Foreseen };
     // How many calls have failed.
     ghost faults: { Self → ℕ };
 
@@ -22,6 +25,7 @@ pub trait Disk {
         ensures bound { ReadsAtMost result buf.new }
         ensures bytes { IfOk result (λ count. OnTold (Reads at count buf.new) (told self.old)) }
         ensures as_before { told self.new ≡ told self.old }
+        ensures awaited { awaits self.new ≡ awaits self.old }
         ensures cause { HasCause (faults self.old) (faults self.new) result };
 
     /// Writes the bytes at the place `at`. After a failure some of them may have been written.
@@ -30,11 +34,15 @@ pub trait Disk {
         ensures torn { OnErr result (
             (told self.new ≡ told self.old) ⊎ BothTold (Tears at (length bytes.now)) (told self.old) (told self.new)
             ) }
+        ensures passed { OnOk result (Passes (awaits self.old) (awaits self.new)) }
+        ensures stopped { OnErr result
+            (MayHappen at (length bytes.now) (awaits self.old) (awaits self.new) (told self.old) (told self.new)) }
         ensures cause { HasCause (faults self.old) (faults self.new) result };
 
     /// Has the disk keep what its reads give. After a failure it need not.
     fn sync(&mut self) -> Result<(), Failed>
         ensures kept { OnOk result (told self.new ≡ option_map keeps (told self.old)) }
         ensures as_before { OnErr result (told self.new ≡ told self.old) }
+        ensures awaited { awaits self.new ≡ awaits self.old }
         ensures cause { HasCause (faults self.old) (faults self.new) result };
 }

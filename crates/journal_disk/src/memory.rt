@@ -8,9 +8,10 @@ ghost use Rattle.std.specs.Prelude.{IfOk, OnOk, OnErr, is_err};
 ghost use Rattle.std.specs.Io.{ReadsAtMost};
 ghost use Rattle.basil_types.specs.Causes.{HasCause};
 ghost use Rattle.journal_disk.specs.Disk.{BothTold, MayLeave, OnTold, Reads, Tears, Writes, keeps};
+ghost use Rattle.journal_disk.specs.Foreseen.{MayHappen, Passes};
 ghost use Rattle.journal_disk.specs.Memory as disks;
 ghost use Rattle.journal_disk.specs.Memory.{MayStop, Stops, called, fresh, is_last, puts, revived, stops_in, synced};
-ghost use Rattle.journal_disk.specs.Memory.{write_fails};
+ghost use Rattle.journal_disk.specs.Memory.{foretold, write_fails};
 
 use crate::disk::Disk;
 use awaited::Awaited;
@@ -189,8 +190,11 @@ impl MemDisk {
 
 impl Disk for MemDisk {
     ghost use Rattle.std.specs.Prelude.{Some};
+    ghost use Rattle.journal_disk.specs.Memory.{foretold};
 
     ghost told = { λ d. Some d.disk };
+
+    ghost awaits = { λ d. foretold d.awaited };
 
     ghost faults = { λ d. d.calls.faults };
 
@@ -198,6 +202,7 @@ impl Disk for MemDisk {
         ensures bound { ReadsAtMost result buf.new }
         ensures bytes { IfOk result (λ count. OnTold (Reads at count buf.new) (Some self.old.disk)) }
         ensures as_before { Some self.new.disk ≡ Some self.old.disk }
+        ensures awaited { foretold self.new.awaited ≡ foretold self.old.awaited }
         ensures cause { HasCause self.old.calls.faults self.new.calls.faults result }
         ensures listed { is_err result ≡ disks.is_refused self.old }
         ensures called { self.new ≡ called (is_err result) self.old }
@@ -216,6 +221,9 @@ impl Disk for MemDisk {
             (Some self.new.disk ≡ Some self.old.disk)
             ⊎ BothTold (Tears at (length bytes.now)) (Some self.old.disk) (Some self.new.disk)
             ) }
+        ensures passed { OnOk result (Passes (foretold self.old.awaited) (foretold self.new.awaited)) }
+        ensures stopped { OnErr result (MayHappen at (length bytes.now) (foretold self.old.awaited)
+            (foretold self.new.awaited) (Some self.old.disk) (Some self.new.disk)) }
         ensures cause { HasCause self.old.calls.faults self.new.calls.faults result }
         ensures listed { write_fails self.old ≡ true → is_err result ≡ true }
         ensures refused { disks.is_refused self.old ≡ true → self.new ≡ called true self.old }
@@ -230,6 +238,7 @@ impl Disk for MemDisk {
     fn sync(&mut self) -> Result<(), Failed>
         ensures kept { OnOk result (Some self.new.disk ≡ option_map keeps (Some self.old.disk)) }
         ensures as_before { OnErr result (Some self.new.disk ≡ Some self.old.disk) }
+        ensures awaited { foretold self.new.awaited ≡ foretold self.old.awaited }
         ensures cause { HasCause self.old.calls.faults self.new.calls.faults result }
         ensures listed { disks.is_refused self.old ≡ true → is_err result ≡ true }
         ensures done { OnOk result (self.new ≡ called false (synced self.old)) }

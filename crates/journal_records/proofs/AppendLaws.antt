@@ -24,7 +24,7 @@ pub record Drafted (entries : List (List ℕ)) (entry : List ℕ) (then_past : L
 module _ (entries : List (List ℕ)) (entry : List ℕ) (end : ℕ) (ends : end ≡ last_gate entries) where
   -- ---- a write behind the last gate
 
-  behind-same : (count : ℕ) (bytes left : List ℕ) → Holds entries bytes → length bytes ≤ length left
+  pub behind-same : (count : ℕ) (bytes left : List ℕ) → Holds entries bytes → length bytes ≤ length left
       → ((i : ℕ) → i < length bytes → IsOutside (end + 1) count i → get_or left i 0 ≡ get_or bytes i 0)
       → (i : ℕ) → i < last_gate entries + 1 → get_or left i 0 ≡ get_or bytes i 0
   behind-same count bytes left h long same i below =
@@ -69,7 +69,7 @@ module _ (entries : List (List ℕ)) (entry : List ℕ) (end : ℕ) (ends : end 
 
   -- ---- a write of the gate
 
-  gate-same : (bytes left : List ℕ)
+  pub gate-same : (bytes left : List ℕ)
       → ((i : ℕ) → i < length bytes → IsOutside end 1 i → get_or left i 0 ≡ get_or bytes i 0)
       → (i : ℕ) → i < length bytes → i ≢ last_gate entries → get_or left i 0 ≡ get_or bytes i 0
   gate-same bytes left same i below other =

@@ -3,3 +3,4 @@ pub mod StopLaws
 pub mod AppendLaws
 pub mod OpeningLaws
 pub mod FoundLaws
+pub mod ForeseenLaws

@@ -2,3 +2,4 @@ pub mod Journal
 pub mod Found
 pub mod Steps
 pub mod Laws
+pub mod Stopping

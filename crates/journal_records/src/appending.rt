@@ -1,10 +1,13 @@
 //! A record behind the last gate.
 
 ghost use Rattle.std.specs.Prelude.{◌≡◌, ◌+◌, ◌<◌, ◌++◌, List, ℕ, [], ◌∷◌, OnOk, IfOk, length};
+ghost use Rattle.std.specs.Prelude.{Some, None, MatchResult};
 ghost use Rattle.basil_types.specs.Causes.{HasCause};
 ghost use Rattle.journal_disk.specs.Disk.{BothTold};
-ghost use Rattle.journal_records.specs.Journal.{EndsAt, LosesNone};
+ghost use Rattle.journal_disk.specs.Foreseen.{Foreseen, OnStopped, Passes};
+ghost use Rattle.journal_records.specs.Journal.{EndsAt, Holds, LosesNone};
 ghost use Rattle.journal_records.specs.Steps.{IsPrepared};
+ghost use Rattle.journal_records.specs.Stopping.{IsNear, after_stop};
 
 use crate::gates::open_gate;
 use crate::limits::{GATE_AND_LENGTH, JOURNAL_LIMIT};
@@ -13,7 +16,8 @@ use basil_types::source::Failed;
 use journal_disk::disk::Disk;
 
 /// Appends the record behind the last gate, which stands at `end`, and says where the last gate stands then. Whether it
-/// fails or not, a stop loses no record of before, and leaves the new one whole or not at all.
+/// fails or not, a stop loses no record of before, and leaves the new one whole or not at all: which, a stop that is
+/// foreseen within it tells.
 pub fn append<D: Disk>(disk: &mut D, end: u64, entry: &SpelledRecord) -> Result<u64, Failed>
     requires { end < JOURNAL_LIMIT }
     ensures appended { (entries : List (List ℕ)) → EndsAt entries end (D.told disk.old)
@@ -21,6 +25,10 @@ pub fn append<D: Disk>(disk: &mut D, end: u64, entry: &SpelledRecord) -> Result<
     ensures place { IfOk result (λ next. next ≡ end + GATE_AND_LENGTH + length entry.now) }
     ensures loses_none { (entries : List (List ℕ)) → EndsAt entries end (D.told disk.old)
         → BothTold (λ old new. LosesNone entries entry.now old.past new) (D.told disk.old) (D.told disk.new) }
+    ensures foreseen { (entries : List (List ℕ)) (stop : Foreseen) → EndsAt entries end (D.told disk.old)
+        → D.awaits disk.old ≡ Some stop → IsNear stop → MatchResult result (λ _. ⊥)
+        (λ _. OnStopped (Holds (after_stop stop entries entry.now)) (D.awaits disk.new) (D.told disk.new)) }
+    ensures unforeseen { D.awaits disk.old ≡ None → D.awaits disk.new ≡ None }
     ensures cause { HasCause (D.faults disk.old) (D.faults disk.new) result }
 {
     prepare(disk, end, entry)?;
@@ -35,6 +43,10 @@ fn prepare<D: Disk>(disk: &mut D, end: u64, entry: &SpelledRecord) -> Result<(),
         (BothTold (λ old new. IsPrepared entries entry.now old.past new) (D.told disk.old) (D.told disk.new)) }
     ensures loses_none { (entries : List (List ℕ)) → EndsAt entries end (D.told disk.old)
         → BothTold (λ old new. LosesNone entries entry.now old.past new) (D.told disk.old) (D.told disk.new) }
+    ensures foreseen { (entries : List (List ℕ)) (stop : Foreseen) → EndsAt entries end (D.told disk.old)
+        → D.awaits disk.old ≡ Some stop → MatchResult result (λ _. Passes (Some stop) (D.awaits disk.new))
+        (λ _. OnStopped (λ bytes. (stop.left ≡ 1) × Holds entries bytes) (D.awaits disk.new) (D.told disk.new)) }
+    ensures unforeseen { D.awaits disk.old ≡ None → D.awaits disk.new ≡ None }
     ensures cause { HasCause (D.faults disk.old) (D.faults disk.new) result }
 {
     disk.write_at(end + 1, entry.bytes())?;

@@ -1,7 +1,8 @@
 //! How a journal begins.
 
-ghost use Rattle.std.specs.Prelude.{[], OnOk};
+ghost use Rattle.std.specs.Prelude.{◌≡◌, [], None, OnOk};
 ghost use Rattle.basil_types.specs.Causes.{HasCause};
+ghost use Rattle.journal_disk.specs.Foreseen.{Passes};
 ghost use Rattle.journal_records.specs.Journal.{EndsAt};
 
 use crate::gates::CLOSED;
@@ -11,6 +12,8 @@ use journal_disk::disk::Disk;
 /// Begins a journal that holds no record: its first gate stands at 0.
 pub fn create<D: Disk>(disk: &mut D) -> Result<(), Failed>
     ensures empty { OnOk result (EndsAt [] 0 (D.told disk.new)) }
+    ensures passed { OnOk result (Passes (D.awaits disk.old) (D.awaits disk.new)) }
+    ensures unforeseen { D.awaits disk.old ≡ None → D.awaits disk.new ≡ None }
     ensures cause { HasCause (D.faults disk.old) (D.faults disk.new) result }
 {
     disk.write_at(0, &[CLOSED])?;

@@ -1,5 +1,6 @@
 use Rattle.std.proofs.Common.{rules}
 use Rattle.journal_records.proofs.AppendLaws.{open-kept, open-loses, open-torn}
+use Rattle.journal_records.proofs.ForeseenLaws.{gate-fails}
 use Rattle.journal_records.proofs.gates.open_gate.Goals as goal
 
 pub returns-in_err-write_at-clause-loses_none : goal.returns-in_err-write_at-clause-loses_none
@@ -14,3 +15,8 @@ pub returns-clause-loses_none : goal.returns-clause-loses_none
 returns-clause-loses_none g c entries entry then_past ends prepared =
     let loses = open-loses entries entry c.args.end ends then_past _ _ prepared c.in_ok-write_at.ensures.written in
     search (rules, loses)
+
+pub returns-in_err-write_at-clause-foreseen : goal.returns-in_err-write_at-clause-foreseen
+returns-in_err-write_at-clause-foreseen g c entries entry then_past stop ends prepared awaits one =
+    let fails = gate-fails entries entry c.args.end ends then_past stop _ _ _ _ prepared awaits c.in_err-write_at.ensures.stopped in
+    search (rules, fails)

@@ -1,0 +1,10 @@
+mod EntryLaws
+mod FrameLaws
+mod TakenLaws
+mod KeepingLaws
+mod StepLaws
+mod BadLaws
+mod RetracingLaws
+mod HeardLaws
+mod FrontLaws
+mod OpenedLaws

@@ -1,0 +1,6 @@
+use Rattle.node_journal.proofs.EntryLaws.{front-is}
+use Rattle.node_journal.proofs.entry.front.Goals as goal
+
+pub returns : goal.returns
+returns c =
+    front-is c.args.now c.args.from c.to_be_bytes.result c.party_spelled.result c.to_be_bytes.ensures c.party_spelled.ensures

@@ -1,0 +1,15 @@
+//! Tests of a replica that starts again from what it wrote down, as tables.
+#![tactic(auto)]
+
+#[cfg(test)]
+mod anew;
+#[cfg(test)]
+mod frames;
+#[cfg(test)]
+mod refused;
+#[cfg(test)]
+mod seats;
+#[cfg(test)]
+mod spelled;
+#[cfg(test)]
+mod stops;

@@ -1,0 +1,108 @@
+//! A replica with plain keys, alone and with a disk.
+
+ghost use Rattle.std.specs.Prelude.{◌≡◌, ◌<◌};
+ghost use Rattle.basil_types.specs.declared.party.Party.TheVariants as parties;
+ghost use Rattle.quorum_laws.specs.Numbers.{replicas};
+
+use basil_types::cluster::Cluster;
+use basil_types::party::Party;
+use journal_disk::disk::Disk;
+use journal_disk::memory::MemDisk;
+use keyring::plain::{PlainKeys, PlainPen};
+use node_journal::{Journaled, Refused, StepFault};
+use replica_core::Replica;
+use std::alloc::Global;
+use std::test::Fail;
+
+/// A replica alone.
+pub(crate) type Plain = Replica<PlainKeys, PlainPen>;
+
+/// A replica and its disk.
+pub(crate) type Kept = Journaled<PlainKeys, PlainPen, MemDisk>;
+
+/// Which replica it is of the only shard of a cluster.
+#[derive(Clone, Copy)]
+pub(crate) struct Seat {
+    cluster: Cluster,
+    index: u8,
+    ghost some: { 0 < cluster.shards },
+    ghost within: { index < replicas cluster.f },
+}
+
+impl Seat {
+    /// The replica of this index where so many are faulty, and times may be 1000 ahead.
+    pub(crate) fn new(f: u8, index: u8) -> Result<Seat, Fail> {
+        let cluster = Cluster::new(f, 1, f.saturating_add(1), 1000)?;
+        if index < cluster.n() {
+            Ok(Seat { cluster, index })
+        } else {
+            Err(Fail::new("no such replica"))
+        }
+    }
+
+    fn party(&self) -> Party
+        ensures { result ≡ parties.Replica 0 self.now.index }
+    {
+        Party::Replica {
+            shard: 0,
+            index: self.index,
+        }
+    }
+
+    /// The replica without a disk.
+    pub(crate) fn alone(&self, alloc: Global) -> Plain {
+        let keys = PlainKeys::new(&self.cluster);
+        let pen = PlainPen::new(self.party());
+        Replica::new(alloc, self.cluster, 0, self.index, keys, pen)
+    }
+
+    /// The replica with a disk on which its journal begins.
+    pub(crate) fn create(&self, alloc: Global, disk: MemDisk) -> Result<Kept, Refused<MemDisk>> {
+        let keys = PlainKeys::new(&self.cluster);
+        let pen = PlainPen::new(self.party());
+        Journaled::create(alloc, disk, self.cluster, 0, self.index, keys, pen)
+    }
+
+    /// The replica that starts again from a disk.
+    pub(crate) fn open(&self, alloc: Global, disk: MemDisk) -> Result<Kept, Refused<MemDisk>> {
+        let keys = PlainKeys::new(&self.cluster);
+        let pen = PlainPen::new(self.party());
+        Journaled::open(alloc, disk, self.cluster, 0, self.index, keys, pen)
+    }
+}
+
+/// The replica and its disk, if it isn't refused.
+pub(crate) fn taken(answer: Result<Kept, Refused<MemDisk>>) -> Option<Kept> {
+    match answer {
+        Ok(kept) => Some(kept),
+        Err(Refused { disk, fault: _ }) => {
+            drop(disk);
+            None
+        }
+    }
+}
+
+/// Whether the frame is taken, or why it isn't; what is sent is let go.
+pub(crate) fn hand(
+    kept: &mut Kept,
+    moment: u64,
+    from: Party,
+    frame: &[u8],
+) -> Result<(), StepFault> {
+    match kept.step(moment, from, frame) {
+        Ok(out) => {
+            drop(out);
+            Ok(())
+        }
+        Err(fault) => Err(fault),
+    }
+}
+
+/// A disk that has these bytes, if there is memory for them.
+pub(crate) fn disk_with(alloc: Global, bytes: &[u8]) -> Option<MemDisk> {
+    let mut disk = MemDisk::new(alloc);
+    match disk.write_at(0, bytes) {
+        Ok(()) => Some(disk),
+        Err(_) => None,
+    }
+}
