@@ -75,6 +75,13 @@ impl<V: Verifier, S: Signer> StandingReplica<V, S> {
         self.shard == shard && self.index == index
     }
 
+    /// What its clock shows.
+    pub fn moment(&self) -> u64
+        ensures { (s : Setup) (x : Standing) → StandsAs s self.now x → result ≡ x.moment }
+    {
+        self.moment
+    }
+
     /// Sets the clock.
     pub fn set_clock(&mut self, moment: u64)
         ensures { (s : Setup) (x : Standing) → StandsAs s self.old x →

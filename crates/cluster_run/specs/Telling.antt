@@ -14,7 +14,7 @@ use Rattle.node_steps.specs.Lists.{firsts}
 use Rattle.message_pool.specs.Posts.{next_waiting}
 use Rattle.cluster_run.specs.Headline.{committed}
 use Rattle.cluster_run.specs.Parts.{Mail}
-use Rattle.cluster_run.specs.States.{Setup, Posted, BegunValue, FormedValue, State, posted_at, client_at}
+use Rattle.cluster_run.specs.States.{Setup, Posted, BegunValue, FormedValue, Standing, State, posted_at, standing, client_at}
 
 -- ---- messages
 
@@ -28,6 +28,12 @@ as_mail p = record { from = p.from; to = p.to; frame = p.frame }
 -- the sender, the receiver and the frame of a message
 abbrev pub mail_at : State → (message : ℕ) → Option Mail
 mail_at st message = option_map as_mail (posted_at st message)
+
+-- ---- replicas
+
+-- what the clock of a replica of the cluster shows
+abbrev pub moment_at : State → (shard index : ℕ) → Option ℕ
+moment_at st shard index = option_map (λ (x : Standing). x.moment) (standing st shard index)
 
 -- ---- transactions
 

@@ -20,6 +20,7 @@ use Rattle.cluster_nodes.specs.Standings.{StandsAs, at_place}
 use Rattle.cluster_run.specs.Events.{ticks}
 use Rattle.cluster_run.specs.Parts.{replica_did, replica_handles, replica_self}
 use Rattle.cluster_run.specs.States.{Setup, Standing, State, is_at, put_standing, standing}
+use Rattle.cluster_run.specs.Telling.{moment_at}
 use Rattle.cluster_world.specs.declared.engine.Engine.{Engine}
 use Rattle.cluster_world.specs.Pairs.{Pairs}
 use Rattle.cluster_world.specs.Sending.{IsWithin, room_of}
@@ -142,6 +143,21 @@ module _ {V S : Type 0} (v : verifiers.Ghosts V) (g : signers.Ghosts S) (s : Set
       position (at_place shard index) core.replicas.items ≡ None → standing st shard index ≡ None
   replica_nowhere core st shard index h e =
       found_nowhere (is_at shard index) st.replicas (sym (position_same core st shard index h) ∙ e)
+
+-- a replica's clock is told
+module _ {V S : Type 0} (v : verifiers.Ghosts V) (g : signers.Ghosts S) (s : Setup) (core : Engine V S v g) (st : State)
+    (shard index : ℕ) (h : Stands s core st) where
+  pub moment_told : (place : ℕ) (node : StandingReplica V S v g) (moment : ℕ) → slice_get core.replicas.items place ≡ Some node →
+      position (at_place shard index) core.replicas.items ≡ Some place → ((x : Standing) → StandsAs s node x → moment ≡ x.moment) →
+      Some moment ≡ moment_at st shard index
+  moment_told place node moment at found tells =
+      let there = replica_there v g s core st shard index place h found in
+      ap Some (tells there.x (replica_at v g s core st shard index place node h at there))
+      ∙ sym (ap (option_map (λ (x : Standing). x.moment)) there.is)
+
+  pub no_moment : position (at_place shard index) core.replicas.items ≡ None → None ≡ moment_at st shard index
+  no_moment nowhere =
+      sym (ap (option_map (λ (x : Standing). x.moment)) (replica_nowhere v g s core st shard index h nowhere))
 
 both : (a b : Bool) → (a && b) ≡ true → (a ≡ true) × (b ≡ true)
 both true b h = (refl, h)

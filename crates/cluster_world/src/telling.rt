@@ -43,6 +43,16 @@ impl<V: Verifier, S: Signer> Engine<V, S> {
         }
     }
 
+    /// What the clock of a replica of the cluster shows.
+    pub fn moment(&self, shard: u8, index: u8) -> Option<u64>
+        ensures { (s : Setup) (st : State) → Shows s self.now st → result ≡ telling.moment_at st shard index }
+    {
+        match self.place_of_replica(shard, index) {
+            Some(place) => Some(self.replicas[place].moment()),
+            None => None,
+        }
+    }
+
     /// The transaction of a number, from 0 on, once it is formed.
     pub fn transaction(&self, tx: u32) -> Option<TransactionView<'_>>
         ensures { (s : Setup) (st : State) → Shows s self.now st →

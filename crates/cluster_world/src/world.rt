@@ -171,6 +171,20 @@ impl<K: Kit> World<K> {
         self.core.frame(message)
     }
 
+    /// What the clock of a replica of the cluster shows.
+    pub fn moment(&self, shard: u8, index: u8) -> Option<u64>
+        ensures { (s : Setup) (st : State) → Shows s self.now.core st → result ≡ telling.moment_at st shard index }
+    {
+        self.core.moment(shard, index)
+    }
+
+    /// Where the keyrings and the pens of its parties come from.
+    pub fn kit(&self) -> &K
+        ensures { result.now ≡ self.now.kit }
+    {
+        &self.kit
+    }
+
     /// The transaction of a number, from 0 on, once it is formed.
     pub fn transaction(&self, tx: u32) -> Option<TransactionView<'_>>
         ensures { (s : Setup) (st : State) → Shows s self.now.core st →

@@ -12,7 +12,8 @@ use Rattle.replica_core.specs.declared.replica.Replica.{Replica}
 use Rattle.replica_core.specs.Answers.{answer}
 use Rattle.replica_core.specs.Replicas.{ReplicaSelf}
 use Rattle.node_link.specs.Answering.{answer_bytes}
-use Rattle.node_link.specs.Serving.{Served, next_moment, sent_by, book_after, serves, Begins, ShowsBook, Handles, HasServed}
+use Rattle.node_link.specs.Serving.{Served, next_moment, sent_by, book_after, serves, Begins, Handles, HasServed}
+use Rattle.replica_core.specs.Shown.{ShowsBook}
 use Rattle.node_link.proofs.ServingLaws.{serves_none, serves_one, begins_same}
 
 pub on_err : {T E : Type 0} (r : Result T E) {P : Type 0} → P → OnErr r P

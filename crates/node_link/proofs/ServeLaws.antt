@@ -12,7 +12,8 @@ use Rattle.replica_core.specs.declared.replica.Replica.{Replica}
 use Rattle.replica_core.specs.Replicas.{ReplicaSelf}
 use Rattle.node_link.specs.declared.fault.ServeFault.TheVariants as faults
 use Rattle.node_link.specs.Faults.{fault_of}
-use Rattle.node_link.specs.Serving.{Served, IsAt, HasServed, serves_all, own}
+use Rattle.node_link.specs.Serving.{Served, IsAt, HasServed, serves_all}
+use Rattle.replica_core.specs.Shown.{own}
 use Rattle.node_link.specs.Connections.{Node, IsNode, served_of, envelopes_of, after_connection, serves_connection, serves_connections}
 use Rattle.node_link.specs.Connections.{ServesPart, ServesParts, Stopped, listening}
 

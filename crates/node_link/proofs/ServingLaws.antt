@@ -14,7 +14,8 @@ use Rattle.keyring.specs.declared.signer.Signer as signers
 use Rattle.replica_core.specs.declared.replica.Replica.{Replica}
 use Rattle.replica_core.specs.declared.refusal.Refusal.{Refusal}
 use Rattle.node_link.specs.Answering.{answer_bytes}
-use Rattle.node_link.specs.Serving.{Served, serves, serves_all, Begins, Carries, ServedSome, Handles, ShowsBook}
+use Rattle.node_link.specs.Serving.{Served, serves, serves_all, Begins, Carries, ServedSome, Handles}
+use Rattle.replica_core.specs.Shown.{ShowsBook}
 
 -- ---- one after the other
 

@@ -14,7 +14,8 @@ use Rattle.replica_core.specs.Replicas.{ReplicaSelf}
 use Rattle.node_link.specs.declared.cause.EndCause.{EndCause}
 use Rattle.node_link.specs.Dialogue.{Dialogue, dialogue_of, connection_limit}
 use Rattle.node_link.specs.Standing.{Reading, Stands}
-use Rattle.node_link.specs.Serving.{Served, serves_all, ServedSome, IsAt, HasServed, ServesAll, ServesSome, own}
+use Rattle.node_link.specs.Serving.{Served, serves_all, ServedSome, IsAt, HasServed, ServesAll, ServesSome}
+use Rattle.replica_core.specs.Shown.{own}
 use Rattle.node_link.proofs.ServingLaws.{serves_none, serves_then, served_all, served_behind, served_before}
 use Rattle.node_link.proofs.StandingLaws.{Grows, envelopes_grow, few_envelopes, ended_stays, nothing, stands_emptied}
 

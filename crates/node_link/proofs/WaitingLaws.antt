@@ -10,7 +10,8 @@ use Rattle.keyring.specs.declared.signer.Signer as signers
 use Rattle.replica_core.specs.declared.replica.Replica.{Replica}
 use Rattle.replica_core.specs.Replicas.{ReplicaSelf}
 use Rattle.node_link.specs.Standing.{Reading}
-use Rattle.node_link.specs.Serving.{Served, serves, serves_all, ServedSome, IsAt, HasServed, own}
+use Rattle.node_link.specs.Serving.{Served, serves, serves_all, ServedSome, IsAt, HasServed}
+use Rattle.replica_core.specs.Shown.{own}
 use Rattle.node_link.proofs.ServingLaws.{serves_none, serves_one, serves_then, served_behind, served_before}
 
 -- from a first moment of a call to this one, these envelopes were answered

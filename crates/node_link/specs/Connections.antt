@@ -8,7 +8,8 @@ use Rattle.keyring.specs.declared.signer.Signer as signers
 use Rattle.replica_core.specs.declared.replica.Replica.{Replica}
 use Rattle.replica_core.specs.Replicas.{ReplicaSelf, BookValue}
 use Rattle.node_link.specs.Dialogue.{dialogue_of}
-use Rattle.node_link.specs.Serving.{Served, ServedSome, ShowsBook, serves_all}
+use Rattle.node_link.specs.Serving.{Served, ServedSome, serves_all}
+use Rattle.replica_core.specs.Shown.{ShowsBook}
 
 -- the book of a replica, the moments that its clock will give, what its links have, and how many frames it was handed
 pub record Node : Type 0 where

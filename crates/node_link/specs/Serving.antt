@@ -6,15 +6,14 @@ use Rattle.basil_types.specs.Links.{LinkState}
 use Rattle.keyring.specs.declared.verifier.Verifier as verifiers
 use Rattle.keyring.specs.declared.signer.Signer as signers
 use Rattle.node_steps.specs.Framed.{framed}
-use Rattle.node_steps.specs.Pens.{pen_value}
 use Rattle.replica_core.specs.declared.plan.Plan.{Plan}
 use Rattle.replica_core.specs.declared.refusal.Refusal.{Refusal}
 use Rattle.replica_core.specs.declared.replica.Replica.{Replica}
 use Rattle.replica_core.specs.Answers.{answer}
 use Rattle.replica_core.specs.Leads.{kept_next}
-use Rattle.replica_core.specs.Nodes.{Shows, perform_plan}
+use Rattle.replica_core.specs.Nodes.{perform_plan}
 use Rattle.replica_core.specs.Replicas.{ReplicaSelf, BookValue, Done}
-use Rattle.replica_core.specs.Seats.{self_at}
+use Rattle.replica_core.specs.Shown.{ShowsBook}
 use Rattle.replica_core.specs.Telling.{Told, begun}
 use Rattle.node_link.specs.Answering.{answer_bytes}
 
@@ -70,15 +69,6 @@ pub record ServedSome (me : ReplicaSelf) (s : Served) (envelopes : List Envelope
   pub most : Begins t.written (serves_all me s (take handled envelopes)).written
 
 -- ---- code
-
--- what doesn't change of a replica
-abbrev pub own : {V S : Type 0} {v : verifiers.Ghosts V} {g : signers.Ghosts S} → Replica V S v g → ReplicaSelf
-own {V} {S} {v} {g} replica = self_at replica.seat (v.accepted replica.keys) (g.fixed replica.pen)
-
-abbrev pub ShowsBook : {V S : Type 0} {v : verifiers.Ghosts V} {g : signers.Ghosts S} → Replica V S v g → BookValue →
-    Type 0
-ShowsBook {V} {S} {v} {g} replica book =
-    Shows replica.parts (pen_value (g.spent replica.pen) (g.left_of replica.pen)) book
 
 -- the replica shows the book, the clock tells the moments, and the links tell what was written, and for the rest this
 pub record IsAt {V S : Type 0} {v : verifiers.Ghosts V} {g : signers.Ghosts S} (replica : Replica V S v g)

@@ -4,7 +4,8 @@ ghost use Rattle.std.specs.Prelude.{◌≡◌, ◌+◌, ◌-◌, ◌^◌, ◌<�
 ghost use Rattle.basil_types.specs.Causes.{HasLinkCause, Rose};
 ghost use Rattle.basil_types.specs.Links.{LinkState, closes};
 ghost use Rattle.node_link.specs.Dialogue.{dialogue_of};
-ghost use Rattle.node_link.specs.Serving.{HasServed, IsAt, Served, ServesAll, ServesSome, own, serves_all};
+ghost use Rattle.node_link.specs.Serving.{HasServed, IsAt, Served, ServesAll, ServesSome, serves_all};
+ghost use Rattle.replica_core.specs.Shown.{own};
 
 use crate::node::answer_one;
 use crate::reader::{CONNECTION_LIMIT, FrameReader};

@@ -4,7 +4,8 @@ ghost use Rattle.std.specs.Prelude.{◌≡◌, ◌+◌, ◌-◌, ◌^◌, ◌<�
 ghost use Rattle.basil_types.specs.Causes.{HasLinkCause};
 ghost use Rattle.basil_types.specs.Links.{LinkState};
 ghost use Rattle.node_link.specs.Answering.{answer_bytes};
-ghost use Rattle.node_link.specs.Serving.{Carries, Handles, HasServed, IsAt, Served, ShowsBook, own, planned, serves};
+ghost use Rattle.node_link.specs.Serving.{Carries, Handles, HasServed, IsAt, Served, planned, serves};
+ghost use Rattle.replica_core.specs.Shown.{ShowsBook, own};
 ghost use Rattle.replica_core.specs.Answers.{answer};
 ghost use Rattle.replica_core.specs.Nodes.{CanCommit};
 ghost use Rattle.replica_core.specs.Replicas.{BookValue};

@@ -4,7 +4,7 @@ ghost use Rattle.std.specs.Prelude.{◌≡◌, ◌+◌, ◌^◌, ◌<◌, ◌≤
 ghost use Rattle.basil_types.specs.Causes.{Rose};
 ghost use Rattle.node_link.specs.Connections.{HasListened, IsNode, Node, ServesPart, ServesParts, Stopped, listening};
 ghost use Rattle.node_link.specs.Connections.{serves_connection, serves_connections};
-ghost use Rattle.node_link.specs.Serving.{own};
+ghost use Rattle.replica_core.specs.Shown.{own};
 
 use crate::connection::converse;
 use crate::fault::ServeFault;

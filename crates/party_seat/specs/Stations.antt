@@ -10,7 +10,7 @@ use Rattle.keyring_lms.specs.Keys.{lms_accepts}
 use Rattle.keyring_lms.specs.Pens.{lms_signing}
 use Rattle.lms_sign.specs.Sets.{leaves_of}
 use Rattle.lms_sign.specs.Signing.{Key}
-use Rattle.node_link.specs.Serving.{ShowsBook, own}
+use Rattle.replica_core.specs.Shown.{ShowsBook, own}
 use Rattle.node_steps.specs.Pens.{pen_value}
 use Rattle.replica_core.specs.Replicas.{ReplicaSelf, BookValue, empty_book}
 use Rattle.replica_core.specs.declared.replica.Replica.{Replica}

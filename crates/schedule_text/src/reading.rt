@@ -1,8 +1,9 @@
 //! Reading a line.
 
-ghost use Rattle.std.specs.Prelude.{◌≡◌, ◌≢◌, IfOk, IfErr, option_copied, bytes_eq, codes};
+ghost use Rattle.std.specs.Prelude.{◌≡◌, ◌≢◌, IfOk, IfErr, length, nat_lt, option_copied, bytes_eq, codes};
 ghost use Rattle.schedule_text.specs.Tokens.{tokens, tokens_after};
 ghost use Rattle.schedule_text.specs.Lines.{line_of};
+ghost use Rattle.schedule_text.specs.Limits.{longest_line};
 ghost use Rattle.schedule_text.specs.Reading;
 ghost use Rattle.schedule_text.specs.Reading.{line_at, line_value, said, numbered};
 
@@ -112,6 +113,13 @@ fn read_numbered(value: Result<Line, Complaint>, number: u64) -> Result<Line, Co
     Ok(line)
 }
 
+/// Whether a line is longer than any line of a schedule.
+fn is_too_long(line: &[u8]) -> bool
+    ensures { result ≡ nat_lt longest_line (length line.now) }
+{
+    line.len() > LONGEST_LINE
+}
+
 #[tactic(auto, unfolding(crate::specs::Reading::line_at))]
 /// Reads one line of a schedule, without its newline. `number` is its place in the schedule, from 1.
 ///
@@ -125,7 +133,7 @@ pub fn read_line(alloc: Global, line: &[u8], number: u64) -> Result<Line, LineFa
     ensures value { IfOk result (λ value. line_at line.now number ≡ Ok value) }
     ensures refused { IfErr result (λ fault. fault ≢ LineFault.NoMemory → line_at line.now number ≡ Err fault) }
 {
-    if line.len() > LONGEST_LINE {
+    if is_too_long(line) {
         return Err(LineFault::BadLine {
             number,
             reason: Complaint::OutOfSize.reason(),
