@@ -1,10 +1,10 @@
 -- What a write or a stop that it met leaves, in the words of every disk.
-use Rattle.std.proofs.Common.{◌≡◌, ℕ, List, Option, Some, None, Result, Ok, Err, OnOk, OnErr, inl, inr, refl, sym, subst, ap, ◌∙◌}
+use Rattle.std.proofs.Common.{◌≡◌, ℕ, List, Some, Result, Ok, Err, OnOk, OnErr, inl, inr, sym, subst, ap, ◌∙◌}
 use Rattle.std.specs.Prelude.{◌⊎◌}
 use Rattle.journal_disk.specs.Disk.{DiskState, Tears, Writes}
 use Rattle.journal_disk.specs.Contents.{repeated}
 use Rattle.journal_disk.specs.Foreseen.{MayHappen}
-use Rattle.journal_disk.specs.Memory.{Awaits, MayStop, MemDiskState, foretold, puts, stopped}
+use Rattle.journal_disk.specs.Memory.{MayStop, MemDiskState, puts}
 use Rattle.journal_disk.proofs.ContentsLaws.{repeated_length, writes_are, writes_tear}
 
 pub written_of : {T E : Type 0} (result : Result T E) (at : ℕ) (bytes : List ℕ) (old new : MemDiskState) (disk : DiskState) →
@@ -17,9 +17,9 @@ torn_by : (at count : ℕ) (old new : MemDiskState) (disk : DiskState) → disk 
     MayStop at count old new → (Some disk ≡ Some old.disk) ⊎ Tears at count old.disk disk
 torn_by at count old new disk here (inl same) = inl (ap Some (here ∙ ap (λ (s : MemDiskState). s.disk) same))
 torn_by at count old new disk here (inr stops) =
-    let bytes = repeated count stops.awaits.stop.bytes in
+    let bytes = repeated count stops.foreseen.stop.bytes in
     inr (subst (Tears at count old.disk) (sym (here ∙ ap (λ (s : MemDiskState). s.disk) stops.now))
-    (writes_tear at count bytes old.disk (repeated_length count stops.awaits.stop.bytes)))
+    (writes_tear at count bytes old.disk (repeated_length count stops.foreseen.stop.bytes)))
 
 pub torn_of : {T E : Type 0} (result : Result T E) (at count : ℕ) (old new : MemDiskState) (disk : DiskState) →
     disk ≡ new.disk → OnErr result (MayStop at count old new) →
@@ -29,25 +29,24 @@ torn_of (Err failed) at count old new disk here e = torn_by at count old new dis
 
 -- ---- a stop that was foreseen
 
-unchanged : (at count : ℕ) (awaited : Option Awaits) (disk : DiskState) →
-    MayHappen at count (foretold awaited) (foretold awaited) (Some disk) (Some disk)
-unchanged at count None disk = refl
-unchanged at count (Some awaits) disk = inr (refl, refl)
-
 may_happen : (at count : ℕ) (old new : MemDiskState) → MayStop at count old new →
-    MayHappen at count (foretold old.awaited) (foretold new.awaited) (Some old.disk) (Some new.disk)
+    MayHappen at count old.stops new.stops (Some old.disk) (Some new.disk)
 may_happen at count old new (inl same) =
-    subst (λ (s : MemDiskState). MayHappen at count (foretold old.awaited) (foretold s.awaited) (Some old.disk) (Some s.disk)) (sym same)
-    (unchanged at count old.awaited old.disk)
+    inr (record {
+      stops = ap (λ (s : MemDiskState). s.stops) same;
+      unwritten = λ foreseen e. ap (λ (s : MemDiskState). Some s.disk) same;
+    })
 may_happen at count old new (inr stops) =
-    let bytes = repeated count stops.awaits.stop.bytes in
-    let now = stopped at count stops.awaits.stop old in
-    subst (λ (s : MemDiskState). MayHappen at count (foretold old.awaited) (foretold s.awaited) (Some old.disk) (Some s.disk))
-    (sym stops.now)
-    (subst (λ (a : Option Awaits). MayHappen at count (foretold a) None (Some old.disk) (Some now.disk))
-    (sym stops.awaited) (inl (record { last = stops.last; none = refl; leaves = writes_are at bytes old.disk })))
+    let bytes = repeated count stops.foreseen.stop.bytes in
+    inl (record {
+      foreseen = stops.foreseen;
+      awaited = stops.awaited;
+      last = stops.last;
+      stops = ap (λ (s : MemDiskState). s.stops) stops.now;
+      leaves = subst (λ (s : MemDiskState). Writes at bytes old.disk s.disk) (sym stops.now) (writes_are at bytes old.disk);
+    })
 
 pub happen_of : {T E : Type 0} (result : Result T E) (at count : ℕ) (old new : MemDiskState) → OnErr result (MayStop at count old new) →
-    OnErr result (MayHappen at count (foretold old.awaited) (foretold new.awaited) (Some old.disk) (Some new.disk))
+    OnErr result (MayHappen at count old.stops new.stops (Some old.disk) (Some new.disk))
 happen_of (Ok done) at count old new may = tt
 happen_of (Err failed) at count old new may = may_happen at count old new may

@@ -4,16 +4,16 @@ mod awaited;
 mod held;
 
 ghost use Rattle.std.specs.Prelude.{◌≡◌, ◌<◌, ◌⊎◌, [], true, false, Some, length, option_map};
-ghost use Rattle.std.specs.Prelude.{IfOk, OnOk, OnErr, is_err};
+ghost use Rattle.std.specs.Prelude.{IfOk, OnOk, OnErr, is_err, is_some};
 ghost use Rattle.std.specs.Io.{ReadsAtMost};
 ghost use Rattle.basil_types.specs.Causes.{HasCause};
 ghost use Rattle.journal_disk.specs.Disk.{BothTold, MayLeave, OnTold, Reads, Tears, Writes, keeps};
-ghost use Rattle.journal_disk.specs.Foreseen.{MayHappen, Passes};
+ghost use Rattle.journal_disk.specs.Foreseen.{MayHappen, Passes, is_next};
 ghost use Rattle.journal_disk.specs.Memory as disks;
-ghost use Rattle.journal_disk.specs.Memory.{MayStop, Stops, called, fresh, is_last, puts, revived, stops_in, synced};
-ghost use Rattle.journal_disk.specs.Memory.{foretold, write_fails};
+ghost use Rattle.journal_disk.specs.Memory.{MayStop, Stops, called, fresh, puts, revived, stops_in, synced};
+ghost use Rattle.journal_disk.specs.Memory.{write_fails};
 
-use crate::disk::Disk;
+use crate::disk::{Disk, Stop};
 use awaited::Awaited;
 use basil_types::bytes::Bytes;
 use basil_types::calls::Calls;
@@ -22,14 +22,6 @@ use basil_types::source::Failed;
 use held::{Held, copy_from};
 use std::alloc::Global;
 use std::marker::Model;
-
-/// A stop: within which write it happens, counted from 1, and what the written range then holds, repeated from the
-/// front.
-#[derive(Drop)]
-pub struct Stop {
-    pub write: u64,
-    pub bytes: Bytes,
-}
 
 /// A disk in memory. Its reads, writes and syncs are counted together, from 1, and those that are listed fail and
 /// change nothing; so do all calls after a stop. Any other call but a read may find memory wanting, and then it fails
@@ -52,9 +44,7 @@ impl Model for MemDisk {
     ghost view = { λ d. record {
       disk = d.held;
       calls = d.calls;
-      awaited = d.awaited;
-      stops = d.stops.items;
-      is_stopped = d.is_stopped;
+      stops = record { awaits = d.awaited; happened = d.stops.items; is_stopped = d.is_stopped };
     } };
 }
 
@@ -105,9 +95,16 @@ impl MemDisk {
 
     /// The stops that happened, in order, as `stop_in` was given them.
     pub fn stops(&self) -> &[Stop]
-        ensures { result.now ≡ self.now.stops }
+        ensures { result.now ≡ self.now.stops.happened }
     {
         self.stops.as_slice()
+    }
+
+    /// Whether a stop awaits.
+    pub fn awaits(&self) -> bool
+        ensures { result ≡ is_some self.now.stops.awaits }
+    {
+        self.awaited.is_some()
     }
 
     /// What reads give now, which a stop now may leave.
@@ -127,7 +124,7 @@ impl MemDisk {
 
     /// Whether the next write that isn't refused is that of the stop.
     fn stops_next(&self) -> bool
-        ensures { result ≡ is_last self.now.awaited }
+        ensures { result ≡ is_next self.now.stops.awaits }
     {
         match &self.awaited {
             Some(awaited) => awaited.is_last(),
@@ -137,7 +134,7 @@ impl MemDisk {
 
     /// Stops within a write of so many bytes at the place, or finds memory wanting and changes nothing.
     fn stop(&mut self, at: u64, count: usize) -> Result<(), NoMemory>
-        requires { is_last self.old.awaited ≡ true }
+        requires { is_next self.old.stops.awaits ≡ true }
         ensures stopped { OnOk result (Stops at count self.old self.new) }
         ensures as_before { OnErr result (self.new ≡ self.old) }
     {
@@ -156,7 +153,7 @@ impl MemDisk {
 
     /// Writes the bytes at the place, or finds memory wanting and changes nothing.
     fn put(&mut self, at: u64, bytes: &[u8]) -> Result<(), NoMemory>
-        requires { is_last self.old.awaited ≡ false }
+        requires { is_next self.old.stops.awaits ≡ false }
         ensures written { OnOk result (self.new ≡ puts at bytes.now self.old) }
         ensures as_before { OnErr result (self.new ≡ self.old) }
     {
@@ -190,11 +187,10 @@ impl MemDisk {
 
 impl Disk for MemDisk {
     ghost use Rattle.std.specs.Prelude.{Some};
-    ghost use Rattle.journal_disk.specs.Memory.{foretold};
 
     ghost told = { λ d. Some d.disk };
 
-    ghost awaits = { λ d. foretold d.awaited };
+    ghost stops = { λ d. d.stops };
 
     ghost faults = { λ d. d.calls.faults };
 
@@ -202,7 +198,8 @@ impl Disk for MemDisk {
         ensures bound { ReadsAtMost result buf.new }
         ensures bytes { IfOk result (λ count. OnTold (Reads at count buf.new) (Some self.old.disk)) }
         ensures as_before { Some self.new.disk ≡ Some self.old.disk }
-        ensures awaited { foretold self.new.awaited ≡ foretold self.old.awaited }
+        ensures stops { self.new.stops ≡ self.old.stops }
+        ensures after_stop { self.old.stops.is_stopped ≡ true → is_err result ≡ true }
         ensures cause { HasCause self.old.calls.faults self.new.calls.faults result }
         ensures listed { is_err result ≡ disks.is_refused self.old }
         ensures called { self.new ≡ called (is_err result) self.old }
@@ -221,9 +218,10 @@ impl Disk for MemDisk {
             (Some self.new.disk ≡ Some self.old.disk)
             ⊎ BothTold (Tears at (length bytes.now)) (Some self.old.disk) (Some self.new.disk)
             ) }
-        ensures passed { OnOk result (Passes (foretold self.old.awaited) (foretold self.new.awaited)) }
-        ensures stopped { OnErr result (MayHappen at (length bytes.now) (foretold self.old.awaited)
-            (foretold self.new.awaited) (Some self.old.disk) (Some self.new.disk)) }
+        ensures passed { OnOk result (Passes self.old.stops self.new.stops) }
+        ensures stopped { OnErr result (MayHappen at (length bytes.now) self.old.stops self.new.stops
+            (Some self.old.disk) (Some self.new.disk)) }
+        ensures after_stop { self.old.stops.is_stopped ≡ true → is_err result ≡ true }
         ensures cause { HasCause self.old.calls.faults self.new.calls.faults result }
         ensures listed { write_fails self.old ≡ true → is_err result ≡ true }
         ensures refused { disks.is_refused self.old ≡ true → self.new ≡ called true self.old }
@@ -238,7 +236,8 @@ impl Disk for MemDisk {
     fn sync(&mut self) -> Result<(), Failed>
         ensures kept { OnOk result (Some self.new.disk ≡ option_map keeps (Some self.old.disk)) }
         ensures as_before { OnErr result (Some self.new.disk ≡ Some self.old.disk) }
-        ensures awaited { foretold self.new.awaited ≡ foretold self.old.awaited }
+        ensures stops { self.new.stops ≡ self.old.stops }
+        ensures after_stop { self.old.stops.is_stopped ≡ true → is_err result ≡ true }
         ensures cause { HasCause self.old.calls.faults self.new.calls.faults result }
         ensures listed { disks.is_refused self.old ≡ true → is_err result ≡ true }
         ensures done { OnOk result (self.new ≡ called false (synced self.old)) }

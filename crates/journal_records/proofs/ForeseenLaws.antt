@@ -1,33 +1,95 @@
 -- What an append leaves where a stop is foreseen within it.
 use native.Mathlib.Nat.{zero-mod}
 use Rattle.std.proofs.Common.{◌≡◌, ◌≢◌, ℕ, ◌+◌, ◌-◌, ◌<◌, List, [], ◌∷◌, ◌++◌, length, take, drop, get_or, refl, sym, ap, subst, ◌∙◌}
-use Rattle.std.proofs.Common.{inl, inr, Bool, ◌&&◌, ◌==◌, Option, Some, None, arith}
+use Rattle.std.proofs.Common.{inl, inr, Bool, false, ◌&&◌, ◌==◌, Option, Some, None, Result, Ok, Err, OnErr, arith}
 use Rattle.std.specs.Prelude.{slice_index}
 use Rattle.std.proofs.lemmas.Bool.{cases_eq, ne_eqb}
 use Rattle.std.proofs.lemmas.List.{get_or-take, get_or-drop}
 use Rattle.journal_disk.specs.Contents.{repeated}
 use Rattle.journal_disk.specs.Disk.{BothTold, Change, DiskState, OnTold, Writes}
-use Rattle.journal_disk.specs.Foreseen.{Foreseen, MayHappen, OnStopped, Passes}
+use Rattle.journal_disk.specs.declared.disk.Stop.{Stop}
+use Rattle.journal_disk.specs.Foreseen.{Foreseen, HasNotCome, MayHappen, OnStopped, Passes, StopState, came, is_next, nearer}
 use Rattle.journal_records.specs.Journal.{EndsAt, Holds, last_gate}
 use Rattle.journal_records.specs.Steps.{Awaits, IsPrepared, closed_record}
-use Rattle.journal_records.specs.Stopping.{IsNear, after_stop, and_if}
+use Rattle.journal_records.specs.Stopping.{IsNear, after_stop, and_if, leaves_open}
 use Rattle.journal_records.proofs.AppendLaws.{behind-same, gate-same}
 use Rattle.journal_records.proofs.RecordLaws.{awaits-opened, awaits-same, holds-same}
 
-still : (Holding : List ℕ → Type 0) (stop : Foreseen) (a1 : Option Foreseen) (t1 : Option DiskState) → a1 ≡ Some stop →
-    OnStopped Holding a1 t1
-still Holding stop a1 t1 e = subst (λ (a : Option Foreseen). OnStopped Holding a t1) (sym e) tt
+-- ---- where none awaits, none comes
 
--- what a failed write leaves, if what a stop of its bytes leaves is so
-failed : (Holding : List ℕ → Type 0) (at count : ℕ) (stop : Foreseen) (a0 a1 : Option Foreseen) (t0 t1 : Option DiskState) →
-    a0 ≡ Some stop → MayHappen at count a0 a1 t0 t1 →
-    (stop.left ≡ 1 → BothTold (Writes at (repeated count stop.bytes)) t0 t1 → OnTold (λ s. Holding s.contents) t1) →
-    OnStopped Holding a1 t1
-failed Holding at count stop a0 a1 t0 t1 e may leaves =
-    elim (subst (λ (a : Option Foreseen). MayHappen at count a a1 t0 t1) e may) as (λ _. OnStopped Holding a1 t1) [
-      | inl h ↦ subst (λ (a : Option Foreseen). OnStopped Holding a t1) (sym h.none) (leaves h.last h.leaves)
-      | inr same ↦ still Holding stop a1 t1 same.0
-    ]
+none-awaits : {foreseen : Foreseen} → None ≡ Some foreseen → ⊥
+none-awaits e = cc
+
+one-awaits : (one other : Foreseen) → Some one ≡ Some other → one ≡ other
+one-awaits one other e = cc
+
+abbrev with_awaits : StopState → Option Foreseen → StopState
+with_awaits stops awaits = record stops { awaits = awaits }
+
+pub passes-none : (s0 s1 : StopState) → Passes s0 s1 → s0.awaits ≡ None → s1 ≡ s0
+passes-none s0 s1 p e =
+    p.now
+    ∙ ap (λ (a : Option Foreseen). with_awaits s0 (nearer a)) e
+    ∙ ap (with_awaits s0) (sym e)
+
+pub fails-none : (at count : ℕ) (s0 s1 : StopState) (t0 t1 : Option DiskState) → MayHappen at count s0 s1 t0 t1 → s0.awaits ≡ None → s1 ≡ s0
+fails-none at count s0 s1 t0 t1 (inl h) e = absurd (none-awaits (sym e ∙ h.awaited))
+fails-none at count s0 s1 t0 t1 (inr same) e = same.stops
+
+-- ---- a write that passes
+
+module _ (stop : Foreseen) (s0 s1 : StopState) (e : s0.awaits ≡ Some stop) (p : Passes s0 s1) where
+  pub passes-awaits : s1.awaits ≡ Some (record stop { left = stop.left - 1 })
+  passes-awaits = ap (λ (s : StopState). s.awaits) p.now ∙ ap nearer e
+
+  pub passes-not_last : stop.left ≢ 1
+  passes-not_last one =
+      let not_next : (stop.left == 1) ≡ false = subst (λ (a : Option Foreseen). is_next a ≡ false) e p.not_next in
+      let is_last : (1 == 1) ≡ false = subst (λ (n : ℕ). (n == 1) ≡ false) one not_next in
+      absurd cc
+
+  -- after it the stop still awaits
+  pub passes-still : HasNotCome stop.stop s0 s1
+  passes-still =
+      record { left = stop.left - 1; stops = p.now ∙ ap (λ (a : Option Foreseen). with_awaits s0 (nearer a)) e }
+
+-- what comes after it comes after what was before it
+pub passes-later : (Holding : List ℕ → Type 0) (stop : Stop) (s0 s1 s2 : StopState) (t : Option DiskState) → Passes s0 s1 →
+    OnStopped Holding stop s1 s2 t → OnStopped Holding stop s0 s2 t
+passes-later Holding stop s0 s1 s2 t p (inl h) =
+    inl (record {
+      stops = h.stops ∙ ap (λ (s : StopState). came stop s) p.now;
+      leaves = h.leaves;
+    })
+passes-later Holding stop s0 s1 s2 t p (inr n) =
+    inr (record {
+      left = n.left;
+      stops = n.stops ∙ ap (λ (s : StopState). with_awaits s (Some (record { stop = stop; left = n.left }))) p.now;
+    })
+
+-- a sync that fails behind it
+pub passes-fails : {T E : Type 0} (result : Result T E) (Holding : List ℕ → Type 0) (stop : Foreseen) (s0 s1 s2 : StopState)
+    (t : Option DiskState) → s0.awaits ≡ Some stop → Passes s0 s1 → s2 ≡ s1 → OnErr result (OnStopped Holding stop.stop s0 s2 t)
+passes-fails (Ok done) Holding stop s0 s1 s2 t e p same = tt
+passes-fails (Err failed) Holding stop s0 s1 s2 t e p same =
+    inr (subst (HasNotCome stop.stop s0) (sym same) (passes-still stop s0 s1 e p))
+
+-- ---- a write that fails
+
+-- what it leaves, if what a stop of its bytes leaves is so
+failed : (Holding : List ℕ → Type 0) (at count : ℕ) (stop : Foreseen) (s0 s1 : StopState) (t0 t1 : Option DiskState) →
+    s0.awaits ≡ Some stop → MayHappen at count s0 s1 t0 t1 →
+    (stop.left ≡ 1 → BothTold (Writes at (repeated count stop.stop.bytes)) t0 t1 → OnTold (λ s. Holding s.contents) t1) →
+    OnStopped Holding stop.stop s0 s1 t1
+failed Holding at count stop s0 s1 t0 t1 e (inl h) leaves =
+    let same : h.foreseen ≡ stop = one-awaits h.foreseen stop (sym h.awaited ∙ e) in
+    let last : stop.left ≡ 1 = subst (λ (f : Foreseen). f.left ≡ 1) same h.last in
+    inl (record {
+      stops = subst (λ (f : Foreseen). s1 ≡ came f.stop s0) same h.stops;
+      leaves = leaves last (subst (λ (f : Foreseen). BothTold (Writes at (repeated count f.stop.bytes)) t0 t1) same h.leaves);
+    })
+failed Holding at count stop s0 s1 t0 t1 e (inr same) leaves =
+    inr (record { left = stop.left; stops = same.stops ∙ ap (with_awaits s0) e })
 
 -- ---- in the write of the record
 
@@ -43,11 +105,11 @@ module _ (entries : List (List ℕ)) (end : ℕ) (stop : Foreseen) where
   behind-told bytes None (Some s1) at one w = absurd w
   behind-told bytes None None at one w = tt
 
-  pub prepare-fails : (count : ℕ) (a0 a1 : Option Foreseen) (t0 t1 : Option DiskState) → EndsAt entries end t0 → a0 ≡ Some stop →
-      MayHappen (end + 1) count a0 a1 t0 t1 → OnStopped (λ bytes. (stop.left ≡ 1) × Holds entries bytes) a1 t1
-  prepare-fails count a0 a1 t0 t1 at e may =
-      failed (λ bytes. (stop.left ≡ 1) × Holds entries bytes) (end + 1) count stop a0 a1 t0 t1 e may
-      (behind-told (repeated count stop.bytes) t0 t1 at)
+  pub prepare-fails : (count : ℕ) (s0 s1 : StopState) (t0 t1 : Option DiskState) → EndsAt entries end t0 → s0.awaits ≡ Some stop →
+      MayHappen (end + 1) count s0 s1 t0 t1 → OnStopped (λ bytes. (stop.left ≡ 1) × Holds entries bytes) stop.stop s0 s1 t1
+  prepare-fails count s0 s1 t0 t1 at e may =
+      failed (λ bytes. (stop.left ≡ 1) × Holds entries bytes) (end + 1) count stop s0 s1 t0 t1 e may
+      (behind-told (repeated count stop.stop.bytes) t0 t1 at)
 
 -- ---- in the write of the gate
 
@@ -91,23 +153,28 @@ module _ (entries : List (List ℕ)) (entry : List ℕ) (end : ℕ) (ends : end 
   one-byte : (bytes : List ℕ) → repeated 1 bytes ≡ slice_index bytes 0 ∷ []
   one-byte bytes = ap (λ (n : ℕ). slice_index bytes n ∷ []) (zero-mod (length bytes))
 
-  pub gate-fails : (stop : Foreseen) (a0 a1 : Option Foreseen) (t0 t1 : Option DiskState) → OnTold (IsPrepared entries entry then_past) t0 →
-      a0 ≡ Some stop → MayHappen end 1 a0 a1 t0 t1 →
-      OnStopped (Holds (and_if (slice_index stop.bytes 0 == 1) entries entry)) a1 t1
-  gate-fails stop a0 a1 t0 t1 p e may =
-      failed (Holds (and_if (slice_index stop.bytes 0 == 1) entries entry)) end 1 stop a0 a1 t0 t1 e may
-      (λ one w. gate-told (slice_index stop.bytes 0) t0 t1 p
-      (subst (λ (bytes : List ℕ). BothTold (Writes end bytes) t0 t1) (one-byte stop.bytes) w))
+  pub gate-fails : (stop : Foreseen) (s0 s1 : StopState) (t0 t1 : Option DiskState) → OnTold (IsPrepared entries entry then_past) t0 →
+      s0.awaits ≡ Some stop → MayHappen end 1 s0 s1 t0 t1 →
+      OnStopped (Holds (and_if (leaves_open stop) entries entry)) stop.stop s0 s1 t1
+  gate-fails stop s0 s1 t0 t1 p e may =
+      failed (Holds (and_if (leaves_open stop) entries entry)) end 1 stop s0 s1 t0 t1 e may
+      (λ one w. gate-told (slice_index stop.stop.bytes 0) t0 t1 p
+      (subst (λ (bytes : List ℕ). BothTold (Writes end bytes) t0 t1) (one-byte stop.stop.bytes) w))
 
 -- ---- both
 
 module _ (entries : List (List ℕ)) (entry : List ℕ) (stop : Foreseen) where
-  pub append-fails-first : (a1 : Option Foreseen) (t1 : Option DiskState) →
-      OnStopped (λ bytes. (stop.left ≡ 1) × Holds entries bytes) a1 t1 → OnStopped (Holds (after_stop stop entries entry)) a1 t1
-  append-fails-first None (Some s) h =
-      subst (λ (n : ℕ). Holds (and_if ((n == 2) && (slice_index stop.bytes 0 == 1)) entries entry) s.contents) (sym h.0) h.1
-  append-fails-first None None h = tt
-  append-fails-first (Some next) t1 h = tt
+  first-told : (t1 : Option DiskState) → OnTold (λ s. (stop.left ≡ 1) × Holds entries s.contents) t1 →
+      OnTold (λ s. Holds (after_stop stop entries entry) s.contents) t1
+  first-told (Some s) h =
+      subst (λ (n : ℕ). Holds (and_if ((n == 2) && leaves_open stop) entries entry) s.contents) (sym h.0) h.1
+  first-told None h = tt
+
+  pub append-fails-first : (s0 s1 : StopState) (t1 : Option DiskState) →
+      OnStopped (λ bytes. (stop.left ≡ 1) × Holds entries bytes) stop.stop s0 s1 t1 →
+      OnStopped (Holds (after_stop stop entries entry)) stop.stop s0 s1 t1
+  append-fails-first s0 s1 t1 (inl h) = inl (record { stops = h.stops; leaves = first-told t1 h.leaves })
+  append-fails-first s0 s1 t1 (inr n) = inr n
 
   prepared-told : (t0 t1 : Option DiskState) → BothTold (λ old new. IsPrepared entries entry old.past new) t0 t1 →
       (X : Type 0) → ((then_past : List Change) → OnTold (IsPrepared entries entry then_past) t1 → X) → X
@@ -121,12 +188,14 @@ module _ (entries : List (List ℕ)) (entry : List ℕ) (stop : Foreseen) where
   second (inl one) other = absurd (other one)
   second (inr two) other = two
 
-  pub append-fails-second : (Q : Bool → Type 0) (a1 : Option Foreseen) (t0 t1 : Option DiskState) →
-      IsNear stop → Passes (Some stop) a1 → BothTold (λ old new. IsPrepared entries entry old.past new) t0 t1 →
-      ((then_past : List Change) (next : Foreseen) → OnTold (IsPrepared entries entry then_past) t1 → a1 ≡ Some next → next.left ≡ 1 →
-      Q (slice_index next.bytes 0 == 1)) → Q ((stop.left == 2) && (slice_index stop.bytes 0 == 1))
-  append-fails-second Q a1 t0 t1 near passed p next =
-      let two = second near passed.0 in
-      subst (λ (n : ℕ). Q ((n == 2) && (slice_index stop.bytes 0 == 1))) (sym two)
-      (prepared-told t0 t1 p (Q (slice_index stop.bytes 0 == 1))
-      (λ then_past q. next then_past (record stop { left = stop.left - 1 }) q passed.1 (omega (arith, two))))
+  pub append-fails-second : (Q : Bool → Type 0) (s0 s1 : StopState) (t0 t1 : Option DiskState) →
+      IsNear stop → s0.awaits ≡ Some stop → Passes s0 s1 →
+      BothTold (λ old new. IsPrepared entries entry old.past new) t0 t1 →
+      ((then_past : List Change) → OnTold (IsPrepared entries entry then_past) t1 →
+      s1.awaits ≡ Some (record stop { left = stop.left - 1 }) → stop.left - 1 ≡ 1 → Q (leaves_open stop)) →
+      Q ((stop.left == 2) && leaves_open stop)
+  append-fails-second Q s0 s1 t0 t1 near e passed p next =
+      let two = second near (passes-not_last stop s0 s1 e passed) in
+      subst (λ (n : ℕ). Q ((n == 2) && leaves_open stop)) (sym two)
+      (prepared-told t0 t1 p (Q (leaves_open stop))
+      (λ then_past q. next then_past q (passes-awaits stop s0 s1 e passed) (omega (arith, two))))

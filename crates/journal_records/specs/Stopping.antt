@@ -12,6 +12,10 @@ abbrev pub and_if : {T : Type 0} → Bool → List T → T → List T
 and_if true all one = all ++ one ∷ []
 and_if false all one = all
 
+-- the first byte that the stop leaves is that of an open gate
+abbrev pub leaves_open : Foreseen → Bool
+leaves_open foreseen = slice_index foreseen.stop.bytes 0 == OPEN
+
 -- those, and the one more where the stop comes in the write of the gate and leaves it open
 abbrev pub after_stop : {T : Type 0} → Foreseen → List T → T → List T
-after_stop stop all one = and_if (stop.left == 2 && slice_index stop.bytes 0 == OPEN) all one
+after_stop stop all one = and_if (stop.left == 2 && leaves_open stop) all one

@@ -1,6 +1,6 @@
 //! A record behind the last gate.
 
-ghost use Rattle.std.specs.Prelude.{◌≡◌, ◌+◌, ◌<◌, ◌++◌, List, ℕ, [], ◌∷◌, OnOk, IfOk, length};
+ghost use Rattle.std.specs.Prelude.{◌≡◌, ◌+◌, ◌<◌, ◌++◌, List, ℕ, [], ◌∷◌, OnOk, OnErr, IfOk, length};
 ghost use Rattle.std.specs.Prelude.{Some, None, MatchResult};
 ghost use Rattle.basil_types.specs.Causes.{HasCause};
 ghost use Rattle.journal_disk.specs.Disk.{BothTold};
@@ -26,9 +26,10 @@ pub fn append<D: Disk>(disk: &mut D, end: u64, entry: &SpelledRecord) -> Result<
     ensures loses_none { (entries : List (List ℕ)) → EndsAt entries end (D.told disk.old)
         → BothTold (λ old new. LosesNone entries entry.now old.past new) (D.told disk.old) (D.told disk.new) }
     ensures foreseen { (entries : List (List ℕ)) (stop : Foreseen) → EndsAt entries end (D.told disk.old)
-        → D.awaits disk.old ≡ Some stop → IsNear stop → MatchResult result (λ _. ⊥)
-        (λ _. OnStopped (Holds (after_stop stop entries entry.now)) (D.awaits disk.new) (D.told disk.new)) }
-    ensures unforeseen { D.awaits disk.old ≡ None → D.awaits disk.new ≡ None }
+        → (D.stops disk.old).awaits ≡ Some stop → IsNear stop → MatchResult result (λ _. ⊥)
+        (λ _. OnStopped (Holds (after_stop stop entries entry.now)) stop.stop (D.stops disk.old) (D.stops disk.new)
+        (D.told disk.new)) }
+    ensures unforeseen { (D.stops disk.old).awaits ≡ None → D.stops disk.new ≡ D.stops disk.old }
     ensures cause { HasCause (D.faults disk.old) (D.faults disk.new) result }
 {
     prepare(disk, end, entry)?;
@@ -44,9 +45,11 @@ fn prepare<D: Disk>(disk: &mut D, end: u64, entry: &SpelledRecord) -> Result<(),
     ensures loses_none { (entries : List (List ℕ)) → EndsAt entries end (D.told disk.old)
         → BothTold (λ old new. LosesNone entries entry.now old.past new) (D.told disk.old) (D.told disk.new) }
     ensures foreseen { (entries : List (List ℕ)) (stop : Foreseen) → EndsAt entries end (D.told disk.old)
-        → D.awaits disk.old ≡ Some stop → MatchResult result (λ _. Passes (Some stop) (D.awaits disk.new))
-        (λ _. OnStopped (λ bytes. (stop.left ≡ 1) × Holds entries bytes) (D.awaits disk.new) (D.told disk.new)) }
-    ensures unforeseen { D.awaits disk.old ≡ None → D.awaits disk.new ≡ None }
+        → (D.stops disk.old).awaits ≡ Some stop
+        → OnErr result (OnStopped (λ bytes. (stop.left ≡ 1) × Holds entries bytes) stop.stop (D.stops disk.old)
+        (D.stops disk.new) (D.told disk.new)) }
+    ensures passed { OnOk result (Passes (D.stops disk.old) (D.stops disk.new)) }
+    ensures unforeseen { (D.stops disk.old).awaits ≡ None → D.stops disk.new ≡ D.stops disk.old }
     ensures cause { HasCause (D.faults disk.old) (D.faults disk.new) result }
 {
     disk.write_at(end + 1, entry.bytes())?;

@@ -12,8 +12,8 @@ use journal_disk::disk::Disk;
 /// Begins a journal that holds no record: its first gate stands at 0.
 pub fn create<D: Disk>(disk: &mut D) -> Result<(), Failed>
     ensures empty { OnOk result (EndsAt [] 0 (D.told disk.new)) }
-    ensures passed { OnOk result (Passes (D.awaits disk.old) (D.awaits disk.new)) }
-    ensures unforeseen { D.awaits disk.old ≡ None → D.awaits disk.new ≡ None }
+    ensures passed { OnOk result (Passes (D.stops disk.old) (D.stops disk.new)) }
+    ensures unforeseen { (D.stops disk.old).awaits ≡ None → D.stops disk.new ≡ D.stops disk.old }
     ensures cause { HasCause (D.faults disk.old) (D.faults disk.new) result }
 {
     disk.write_at(0, &[CLOSED])?;

@@ -31,7 +31,7 @@ pub fn next<D: Disk>(disk: &mut D, at: u64, buffer: &mut [u8]) -> Result<Found, 
         (λ found. OnTold (λ s. Tells found buffer.new (drop at s.contents)) (D.told disk.old)) }
     ensures within { IfOk result (λ found. FitsBuffer found buffer.new) }
     ensures as_before { D.told disk.new ≡ D.told disk.old }
-    ensures awaited { D.awaits disk.new ≡ D.awaits disk.old }
+    ensures stops { D.stops disk.new ≡ D.stops disk.old }
     ensures cause { HasCause (D.faults disk.old) (D.faults disk.new) result }
 {
     let mut gate = [0; 1];
@@ -53,7 +53,7 @@ fn behind<D: Disk>(disk: &mut D, at: u64, buffer: &mut [u8]) -> Result<Found, Fa
         → Tells found buffer.new (drop at s.contents)) (D.told disk.old)) }
     ensures within { IfOk result (λ found. FitsBuffer found buffer.new) }
     ensures as_before { D.told disk.new ≡ D.told disk.old }
-    ensures awaited { D.awaits disk.new ≡ D.awaits disk.old }
+    ensures stops { D.stops disk.new ≡ D.stops disk.old }
     ensures cause { HasCause (D.faults disk.old) (D.faults disk.new) result }
 {
     let count = match count_at(disk, at + 1)? {
@@ -72,7 +72,7 @@ fn count_at<D: Disk>(disk: &mut D, at: u64) -> Result<Option<usize>, Failed>
     ensures told { IfOk result (λ count. OnTold (λ s. TellsCount count (drop at s.contents)) (D.told disk.old)) }
     ensures bounds { IfOk result (λ count. IfSome count IsCount) }
     ensures as_before { D.told disk.new ≡ D.told disk.old }
-    ensures awaited { D.awaits disk.new ≡ D.awaits disk.old }
+    ensures stops { D.stops disk.new ≡ D.stops disk.old }
     ensures cause { HasCause (D.faults disk.old) (D.faults disk.new) result }
 {
     let mut number = [0; 4];
@@ -101,7 +101,7 @@ fn fill<D: Disk>(disk: &mut D, at: u64, count: usize, buffer: &mut [u8]) -> Resu
     ensures told { IfOk result
         (λ whole. OnTold (λ s. TellsBytes whole count buffer.new (drop at s.contents)) (D.told disk.old)) }
     ensures as_before { D.told disk.new ≡ D.told disk.old }
-    ensures awaited { D.awaits disk.new ≡ D.awaits disk.old }
+    ensures stops { D.stops disk.new ≡ D.stops disk.old }
     ensures cause { HasCause (D.faults disk.old) (D.faults disk.new) result }
 {
     let read = disk.read_at(at, &mut buffer[..count])?;

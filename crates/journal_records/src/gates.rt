@@ -1,13 +1,13 @@
 //! Gates: where they stand, and how one is opened.
 
 ghost use Rattle.std.specs.Prelude.{◌≡◌, ◌+◌, ◌<◌, ◌≤◌, ◌↔◌, ◌++◌, List, ℕ, [], ◌∷◌, OnOk, IsTrue, length};
-ghost use Rattle.std.specs.Prelude.{◌==◌, Some, None, MatchResult, slice_index};
+ghost use Rattle.std.specs.Prelude.{Some, None, MatchResult};
 ghost use Rattle.basil_types.specs.Causes.{HasCause};
 ghost use Rattle.journal_disk.specs.Disk.{Change, OnTold, BothTold};
 ghost use Rattle.journal_disk.specs.Foreseen.{Foreseen, OnStopped};
 ghost use Rattle.journal_records.specs.Journal.{Holds, HoldsForGood, LosesNone, last_gate};
 ghost use Rattle.journal_records.specs.Steps.{IsPrepared};
-ghost use Rattle.journal_records.specs.Stopping.{and_if};
+ghost use Rattle.journal_records.specs.Stopping.{and_if, leaves_open};
 
 use crate::limits::{GATE_AND_LENGTH, GREATEST_ENTRY, JOURNAL_LIMIT};
 use basil_types::source::Failed;
@@ -47,10 +47,10 @@ pub fn open_gate<D: Disk>(disk: &mut D, end: u64) -> Result<(), Failed>
         → BothTold (λ _ new. LosesNone entries entry then_past new) (D.told disk.old) (D.told disk.new) }
     ensures foreseen { (entries : List (List ℕ)) (entry : List ℕ) (then_past : List Change) (stop : Foreseen)
         → end ≡ last_gate entries → OnTold (IsPrepared entries entry then_past) (D.told disk.old)
-        → D.awaits disk.old ≡ Some stop → stop.left ≡ 1
-        → MatchResult result (λ _. ⊥) (λ _. OnStopped (Holds (and_if (slice_index stop.bytes 0 == OPEN) entries entry))
-        (D.awaits disk.new) (D.told disk.new)) }
-    ensures unforeseen { D.awaits disk.old ≡ None → D.awaits disk.new ≡ None }
+        → (D.stops disk.old).awaits ≡ Some stop → stop.left ≡ 1
+        → MatchResult result (λ _. ⊥) (λ _. OnStopped (Holds (and_if (leaves_open stop) entries entry)) stop.stop
+        (D.stops disk.old) (D.stops disk.new) (D.told disk.new)) }
+    ensures unforeseen { (D.stops disk.old).awaits ≡ None → D.stops disk.new ≡ D.stops disk.old }
     ensures cause { HasCause (D.faults disk.old) (D.faults disk.new) result }
 {
     disk.write_at(end, &[OPEN])?;

@@ -12,7 +12,7 @@ use journal_disk::disk::Disk;
 pub fn open<D: Disk>(disk: &mut D) -> Result<(), Failed>
     ensures kept { OnOk result (D.told disk.new ≡ option_map keeps (D.told disk.old)) }
     ensures as_before { OnErr result (D.told disk.new ≡ D.told disk.old) }
-    ensures awaited { D.awaits disk.new ≡ D.awaits disk.old }
+    ensures stops { D.stops disk.new ≡ D.stops disk.old }
     ensures settles { (entries : List (List ℕ)) → OnTold (λ s. Holds entries s.contents) (D.told disk.old)
         → OnOk result (OnTold (HoldsForGood entries) (D.told disk.new)) }
     ensures loses_none { (entries : List (List ℕ)) (entry : List ℕ) (then_past : List Change)

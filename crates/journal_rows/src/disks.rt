@@ -113,6 +113,7 @@ fn a_disk_stops_and_is_revived(rt: HostRuntime) -> Result<(), Fail> {
         assert!(rt; disk.bytes() == contents);
     }
     reads_may_be_left(&disk);
+    assert!(rt; !disk.awaits());
     assert!(rt; disk.stops().len() == STOPS.len());
     for (stop, &(write, bytes)) in disk.stops().iter().zip(STOPS) {
         assert!(rt; stop.write == write);

@@ -18,6 +18,7 @@ use Rattle.replica_core.specs.declared.parts.Parts.{Parts}
 use Rattle.replica_core.specs.declared.refusal.Refusal.{Refusal}
 use Rattle.replica_core.specs.Nodes.{Shows, Steps}
 use Rattle.replica_core.specs.Replicas.{Done, empty_book}
+use Rattle.replica_core.specs.Shown.{ShowsBook, own}
 use Rattle.replica_laws.specs.Steps.{book_after}
 use Rattle.node_journal.specs.declared.journaled.Journaled.{Journaled}
 use Rattle.node_journal.specs.declared.fault.JournalFault.{JournalFault}
@@ -25,7 +26,6 @@ use Rattle.node_journal.specs.declared.fault.JournalFault.TheVariants.{DiskFault
 use Rattle.node_journal.specs.Opening.{HasNext, IsAt, IsBad}
 use Rattle.node_journal.specs.Entries.{entry_of}
 use Rattle.node_journal.specs.Journals.{entries_of}
-use Rattle.node_journal.specs.Replicas.{ShowsBook, own}
 use Rattle.node_journal.specs.Retracing.{GoesOn, StandsBehind, StandsFront, StandsLast}
 use Rattle.node_journal.proofs.KeepingLaws.{entries-push}
 

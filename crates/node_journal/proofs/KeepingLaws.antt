@@ -1,14 +1,13 @@
 -- What a disk holds of some frames, and of one more.
 use Rattle.std.proofs.Common.{◌≡◌, ℕ, ◌<◌, List, [], ◌∷◌, ◌++◌, length, refl, sym, ap, subst, ◌∙◌, inl, inr}
 use Rattle.std.proofs.Common.{Bool, true, false, ◌&&◌, ◌==◌, Option, Some, None, length-append, arith}
-use Rattle.std.specs.Prelude.{slice_index}
 use Rattle.std.proofs.lemmas.List.{map-append, nil_from_length}
-use Rattle.journal_disk.specs.Disk.{BothTold, Change, DiskState, Kept, MayLeave, MightLeave}
-use Rattle.journal_disk.specs.Foreseen.{Foreseen, OnStopped}
+use Rattle.journal_disk.specs.Disk.{BothTold, Change, DiskState, Kept, MayLeave, MightLeave, OnTold}
+use Rattle.journal_disk.specs.Foreseen.{Foreseen, OnStopped, StopState}
 use Rattle.journal_records.specs.declared.limits.TheConstants.{JOURNAL_LIMIT}
 use Rattle.journal_records.specs.Journal.{EndsAt, Holds, HoldsForGood, IsKept, last_gate}
 use Rattle.journal_records.specs.Journal as records
-use Rattle.journal_records.specs.Stopping.{after_stop, and_if}
+use Rattle.journal_records.specs.Stopping.{after_stop, and_if, leaves_open}
 use Rattle.node_steps.specs.Pens.{PenValue}
 use Rattle.replica_core.specs.Replicas.{ReplicaSelf, empty_book}
 use Rattle.replica_laws.specs.Steps.{Handed}
@@ -73,12 +72,17 @@ module _ (me : ReplicaSelf) (begun : PenValue) (hs : List Handed) (near : last_g
     keeps-if false bytes holds = keeps bytes holds
 
     -- a stop came in the write of the record, or in that of the gate
-    pub stopped-keeps : (stop : Foreseen) (awaits : Option Foreseen) (told : Option DiskState) →
-        OnStopped (Holds (after_stop stop (entries_of hs) (entry_of h))) awaits told →
-        OnStopped (Keeps me begun (after_stop stop hs h)) awaits told
-    stopped-keeps stop None (Some s) holds = keeps-if ((stop.left == 2) && (slice_index stop.bytes 0 == 1)) s.contents holds
-    stopped-keeps stop None None holds = tt
-    stopped-keeps stop (Some next) told holds = tt
+    left-keeps : (stop : Foreseen) (told : Option DiskState) →
+        OnTold (λ s. Holds (after_stop stop (entries_of hs) (entry_of h)) s.contents) told →
+        OnTold (λ s. Keeps me begun (after_stop stop hs h) s.contents) told
+    left-keeps stop (Some s) holds = keeps-if ((stop.left == 2) && leaves_open stop) s.contents holds
+    left-keeps stop None holds = tt
+
+    pub stopped-keeps : (stop : Foreseen) (s0 s1 : StopState) (told : Option DiskState) →
+        OnStopped (Holds (after_stop stop (entries_of hs) (entry_of h))) stop.stop s0 s1 told →
+        OnStopped (Keeps me begun (after_stop stop hs h)) stop.stop s0 s1 told
+    stopped-keeps stop s0 s1 told (inl come) = inl (record { stops = come.stops; leaves = left-keeps stop told come.leaves })
+    stopped-keeps stop s0 s1 told (inr waits) = inr waits
 
     more-loses : (past : List Change) (s : DiskState) → records.LosesNone (entries_of hs) (entry_of h) past s →
         LosesNone me begun hs h past s

@@ -8,6 +8,7 @@ use Rattle.keyring.specs.declared.verifier.Verifier as verifiers
 use Rattle.keyring.specs.declared.signer.Signer as signers
 use Rattle.node_steps.specs.Pens.{PenValue}
 use Rattle.replica_core.specs.Replicas.{ReplicaSelf, empty_book}
+use Rattle.replica_core.specs.Shown.{own}
 use Rattle.replica_laws.specs.Steps.{Handed}
 use Rattle.node_journal.specs.declared.fault.JournalFault.{JournalFault}
 use Rattle.node_journal.specs.declared.fault.JournalFault.TheVariants.{DiskFault, BadJournal, NoMemory}
@@ -15,7 +16,7 @@ use Rattle.node_journal.specs.declared.fault.Refused.{Refused}
 use Rattle.node_journal.specs.declared.journaled.Journaled.{Journaled}
 use Rattle.node_journal.specs.Journals.{AcceptsAll, Keeps}
 use Rattle.node_journal.specs.Opening.{IsAt, IsBad, IsBadAt, IsNotBad}
-use Rattle.node_journal.specs.Replicas.{Reflects, own}
+use Rattle.node_journal.specs.Replicas.{Reflects}
 use Rattle.node_journal.specs.Retracing.{StandsLast}
 use Rattle.node_journal.proofs.BadLaws.{bad-one, keeps-one, never-both}
 use Rattle.node_journal.proofs.RetracingLaws.{reflects-behind}

@@ -12,11 +12,12 @@ use Rattle.replica_core.specs.declared.seat.Seat.{Seat}
 use Rattle.replica_core.specs.Nodes.{Shows}
 use Rattle.replica_core.specs.Seats.{self_at}
 use Rattle.replica_core.specs.Replicas.{Done, empty_book}
+use Rattle.replica_core.specs.Shown.{ShowsBook, own}
 use Rattle.replica_laws.specs.Steps.{Handed}
 use Rattle.node_journal.specs.declared.journaled.Journaled.{Journaled}
 use Rattle.node_journal.specs.Entries.{entry_of}
 use Rattle.node_journal.specs.Journals.{entries_of}
-use Rattle.node_journal.specs.Replicas.{HasTaken, Reflects, ShowsBook, own}
+use Rattle.node_journal.specs.Replicas.{HasTaken, Reflects}
 use Rattle.node_journal.specs.Retracing.{StandsBehind}
 use Rattle.node_journal.specs.Steps.{answer_after}
 use Rattle.node_journal.proofs.KeepingLaws.{entries-push}

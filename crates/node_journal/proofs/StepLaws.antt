@@ -1,13 +1,13 @@
 -- A replica that writes down takes one frame more.
 use Rattle.std.proofs.Common.{◌≡◌, ◌≢◌, ℕ, ◌+◌, ◌^◌, ◌<◌, List, [], ◌∷◌, ◌++◌, false, Option, Some, Result, Ok, Err}
-use Rattle.std.proofs.Common.{sym, ap, subst, ◌∙◌, length-append, arith}
+use Rattle.std.proofs.Common.{inr, sym, ap, subst, ◌∙◌, length-append, arith}
 use Rattle.std.specs.Prelude.{IfErr, IsOk, map}
 use Rattle.std.proofs.lemmas.List.{append-nil, map-append}
 use Rattle.basil_types.specs.Words.{SignedWords, words_of}
 use Rattle.basil_types.specs.declared.outbox.Outbox.{Outbox}
 use Rattle.journal_disk.specs.declared.disk.Disk as disks
 use Rattle.journal_disk.specs.Disk.{BothTold, DiskState}
-use Rattle.journal_disk.specs.Foreseen.{Foreseen, OnStopped}
+use Rattle.journal_disk.specs.Foreseen.{Foreseen, OnStopped, StopState}
 use Rattle.journal_records.specs.declared.limits.TheConstants.{JOURNAL_LIMIT}
 use Rattle.journal_records.specs.Journal.{EndsAt, Holds, last_gate}
 use Rattle.journal_records.specs.Journal as records
@@ -25,6 +25,7 @@ use Rattle.replica_core.specs.Nodes.{Performs, Shows, ShowsSame, perform_plan}
 use Rattle.replica_core.specs.Replicas.{ReplicaSelf, BookValue, Done, empty_book}
 use Rattle.replica_core.specs.Seats.{self_at}
 use Rattle.replica_core.specs.Telling.{begun, told_of}
+use Rattle.replica_core.specs.Shown.{ShowsBook, own}
 use Rattle.replica_laws.specs.Steps.{Handed, book_after, left_by, signed_in}
 use Rattle.node_journal.specs.declared.fault.StepFault.{StepFault}
 use Rattle.node_journal.specs.declared.fault.StepFault.TheVariants.{Closed, Refused, Full, DiskFault, NoMemory}
@@ -32,7 +33,7 @@ use Rattle.node_journal.specs.declared.limits.TheConstants.{JOURNAL_BYTES}
 use Rattle.node_journal.specs.declared.journaled.Journaled.{Journaled}
 use Rattle.node_journal.specs.Entries.{entry_of}
 use Rattle.node_journal.specs.Journals.{AcceptsAll, IsTooLong, Keeps, LosesNone, entries_of}
-use Rattle.node_journal.specs.Replicas.{HasTaken, Reflects, ShowsBook, own}
+use Rattle.node_journal.specs.Replicas.{HasTaken, Reflects}
 use Rattle.node_journal.specs.Steps.{IsFaulted, IsTaken, IsWithin, MayHaveWritten, answer_after, words_signed}
 use Rattle.node_journal.proofs.KeepingLaws.{entries-push, stopped-keeps, unwritten-loses, written-loses}
 use Rattle.node_journal.proofs.TakenLaws.{Answered, accepts-push, answered-by, book_after-push, is-ok, shown-same, words-kept}
@@ -225,22 +226,25 @@ step-loses j begun hs h told (Err NoMemory) r all w same loses = still-loses j b
 
 -- ---- what a stop leaves that was foreseen
 
-untouched : (Holding : List ℕ → Type 0) (stop : Foreseen) (a0 a1 : Option Foreseen) (told : Option DiskState) → a0 ≡ Some stop →
-    a1 ≡ a0 → OnStopped Holding a1 told
-untouched Holding stop a0 a1 told e same = subst (λ (a : Option Foreseen). OnStopped Holding a told) (sym (same ∙ e)) tt
+pub untouched : (Holding : List ℕ → Type 0) (stop : Foreseen) (s0 s1 : StopState) (told : Option DiskState) →
+    s0.awaits ≡ Some stop → s1 ≡ s0 → OnStopped Holding stop.stop s0 s1 told
+untouched Holding stop s0 s1 told e same =
+    inr (record { left = stop.left; stops = same ∙ ap (λ (a : Option Foreseen). record s0 { awaits = a }) e })
 
 pub step-stops : {V S D : Type 0} {v : verifiers.Ghosts V} {g : signers.Ghosts S} {d : disks.Ghosts D} (j : Journaled V S D v g d)
-    (begun : PenValue) (hs : List Handed) (h : Handed) (stop : Foreseen) (a1 : Option Foreseen) (told : Option DiskState)
+    (begun : PenValue) (hs : List Handed) (h : Handed) (stop : Foreseen) (s1 : StopState) (told : Option DiskState)
     (fault : StepFault) → Reflects j begun hs → AcceptsAll (own j.replica) (empty_book begun) (hs ++ h ∷ []) →
-    d.awaits j.disk ≡ Some stop → IsWithin (last_gate (entries_of hs ++ entry_of h ∷ []) + 1) (Err fault) →
-    (fault ≢ DiskFault → a1 ≡ d.awaits j.disk) → OnStopped (Holds (after_stop stop (entries_of hs) (entry_of h))) a1 told →
-    OnStopped (Keeps (own j.replica) begun (after_stop stop hs h)) a1 told
-step-stops j begun hs h stop a1 told DiskFault r all e w same holds =
+    (d.stops j.disk).awaits ≡ Some stop → IsWithin (last_gate (entries_of hs ++ entry_of h ∷ []) + 1) (Err fault) →
+    (fault ≢ DiskFault → s1 ≡ d.stops j.disk) →
+    OnStopped (Holds (after_stop stop (entries_of hs) (entry_of h))) stop.stop (d.stops j.disk) s1 told →
+    OnStopped (Keeps (own j.replica) begun (after_stop stop hs h)) stop.stop (d.stops j.disk) s1 told
+step-stops {d = d} j begun hs h stop s1 told DiskFault r all e w same holds =
     stopped-keeps (own j.replica) begun hs (near-of j begun hs r) r.replica.accepted h
-    (subst (λ (es : List (List ℕ)). last_gate es < JOURNAL_LIMIT) (sym (entries-push hs h)) (near-short _ w)) all stop a1 told holds
-step-stops j begun hs h stop a1 told Closed r all e w same holds = absurd w
-step-stops j begun hs h stop a1 told (Refused refusal) r all e w same holds = absurd w
-step-stops {d = d} j begun hs h stop a1 told Full r all e w same holds =
-    untouched _ stop (d.awaits j.disk) a1 told e (same (λ e. absurd cc))
-step-stops {d = d} j begun hs h stop a1 told NoMemory r all e w same holds =
-    untouched _ stop (d.awaits j.disk) a1 told e (same (λ e. absurd cc))
+    (subst (λ (es : List (List ℕ)). last_gate es < JOURNAL_LIMIT) (sym (entries-push hs h)) (near-short _ w)) all stop
+    (d.stops j.disk) s1 told holds
+step-stops j begun hs h stop s1 told Closed r all e w same holds = absurd w
+step-stops j begun hs h stop s1 told (Refused refusal) r all e w same holds = absurd w
+step-stops {d = d} j begun hs h stop s1 told Full r all e w same holds =
+    untouched _ stop (d.stops j.disk) s1 told e (same (λ e. absurd cc))
+step-stops {d = d} j begun hs h stop s1 told NoMemory r all e w same holds =
+    untouched _ stop (d.stops j.disk) s1 told e (same (λ e. absurd cc))

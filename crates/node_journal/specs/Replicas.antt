@@ -4,23 +4,13 @@ use Rattle.journal_disk.specs.declared.disk.Disk as disks
 use Rattle.journal_records.specs.Journal.{EndsAt}
 use Rattle.keyring.specs.declared.verifier.Verifier as verifiers
 use Rattle.keyring.specs.declared.signer.Signer as signers
-use Rattle.node_steps.specs.Pens.{PenValue, pen_value}
+use Rattle.node_steps.specs.Pens.{PenValue}
 use Rattle.replica_core.specs.declared.replica.Replica.{Replica}
-use Rattle.replica_core.specs.Nodes.{Shows}
-use Rattle.replica_core.specs.Replicas.{ReplicaSelf, BookValue, empty_book}
-use Rattle.replica_core.specs.Seats.{self_at}
+use Rattle.replica_core.specs.Replicas.{empty_book}
+use Rattle.replica_core.specs.Shown.{ShowsBook, own}
 use Rattle.replica_laws.specs.Steps.{Handed, book_after}
 use Rattle.node_journal.specs.declared.journaled.Journaled.{Journaled}
 use Rattle.node_journal.specs.Journals.{AcceptsAll, entries_of}
-
--- what doesn't change of a replica
-abbrev pub own : {V S : Type 0} {v : verifiers.Ghosts V} {g : signers.Ghosts S} → Replica V S v g → ReplicaSelf
-own {V} {S} {v} {g} replica = self_at replica.seat (v.accepted replica.keys) (g.fixed replica.pen)
-
-abbrev pub ShowsBook : {V S : Type 0} {v : verifiers.Ghosts V} {g : signers.Ghosts S} → Replica V S v g → BookValue →
-    Type 0
-ShowsBook {V} {S} {v} {g} replica book =
-    Shows replica.parts (pen_value (g.spent replica.pen) (g.left_of replica.pen)) book
 
 -- it accepts each of these frames, its pen at this place before the first, and shows the book after them
 pub record HasTaken {V S : Type 0} {v : verifiers.Ghosts V} {g : signers.Ghosts S} (replica : Replica V S v g)

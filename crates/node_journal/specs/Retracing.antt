@@ -9,13 +9,14 @@ use Rattle.node_steps.specs.Pens.{PenValue}
 use Rattle.replica_core.specs.declared.replica.Replica.{Replica}
 use Rattle.replica_core.specs.Answers.{answer}
 use Rattle.replica_core.specs.Replicas.{ReplicaSelf, BookValue, Done}
+use Rattle.replica_core.specs.Shown.{ShowsBook, own}
 use Rattle.replica_laws.specs.Steps.{Handed}
 use Rattle.node_journal.specs.declared.fault.JournalFault.{JournalFault}
 use Rattle.node_journal.specs.declared.journaled.Journaled.{Journaled}
 use Rattle.node_journal.specs.Entries.{entry_of}
 use Rattle.node_journal.specs.Journals.{entries_of}
 use Rattle.node_journal.specs.Opening.{HasRisen}
-use Rattle.node_journal.specs.Replicas.{HasTaken, ShowsBook, own}
+use Rattle.node_journal.specs.Replicas.{HasTaken}
 
 -- it took these frames, and stands at the gate behind their records
 pub record StandsBehind {V S D : Type 0} {v : verifiers.Ghosts V} {g : signers.Ghosts S} {d : disks.Ghosts D}
@@ -25,12 +26,12 @@ pub record StandsBehind {V S D : Type 0} {v : verifiers.Ghosts V} {g : signers.G
   pub gate : j.end ≡ last_gate (entries_of hs)
   pub replica : HasTaken j.replica begun hs
 
--- the disk gives what it gave and awaits what it awaited, and its count of faults rises with a fault of it; all else is
+-- the disk gives what it gave, its stops are as before, and its count of faults rises with a fault of it; all else is
 -- as before
 pub record ReadsOn {V S D A : Type 0} {v : verifiers.Ghosts V} {g : signers.Ghosts S} {d : disks.Ghosts D}
     (old new : Journaled V S D v g d) (result : Result A JournalFault) : Type 0 where
   pub told : d.told new.disk ≡ d.told old.disk
-  pub awaits : d.awaits new.disk ≡ d.awaits old.disk
+  pub stops : d.stops new.disk ≡ d.stops old.disk
   pub faults : MatchResult result (λ _. d.faults new.disk ≡ d.faults old.disk)
       (λ fault. HasRisen fault (d.faults old.disk) (d.faults new.disk))
   pub own : own new.replica ≡ own old.replica

@@ -28,6 +28,7 @@ impl From<NoMemory> for JournalFault {
 }
 
 /// A disk that is handed back, and why.
+#[derive(Drop)]
 pub struct Refused<D> {
     pub disk: D,
     pub fault: JournalFault,

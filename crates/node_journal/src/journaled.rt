@@ -43,10 +43,11 @@ impl<V: Verifier, S: Signer, D: Disk> Journaled<V, S, D> {
     ghost use Rattle.node_steps.specs.Pens.{PenValue};
     ghost use Rattle.replica_core.specs.Nodes.{CanCommit};
     ghost use Rattle.replica_core.specs.Replicas.{BookValue};
+    ghost use Rattle.replica_core.specs.Shown.{ShowsBook, own};
     ghost use Rattle.replica_laws.specs.Steps.{Handed};
     ghost use Rattle.node_journal.specs.Entries.{entry_of};
     ghost use Rattle.node_journal.specs.Journals.{IsTooLong, Keeps, LosesNone, entries_of, journal_bytes};
-    ghost use Rattle.node_journal.specs.Replicas.{Reflects, ShowsBook, own};
+    ghost use Rattle.node_journal.specs.Replicas.{Reflects};
     ghost use Rattle.node_journal.specs.Steps.{IsTaken, IsWithin, MayHaveWritten, answer_after, handed, words_signed};
 
     /// Answers a frame that this sender sent, at this moment: what is sent and signed, once the record of the frame is
@@ -67,16 +68,17 @@ impl<V: Verifier, S: Signer, D: Disk> Journaled<V, S, D> {
             BothTold (λ old new. LosesNone (own self.old.replica) begun hs (handed now from frame.now) old.past new)
             (D.told self.old.disk) (D.told self.new.disk) }
         ensures foreseen { (begun : PenValue) (hs : List Handed) (stop : Foreseen) → Reflects self.old begun hs →
-            D.awaits self.old.disk ≡ Some stop → IsNear stop → MatchResult result (λ _. ⊥)
+            (D.stops self.old.disk).awaits ≡ Some stop → IsNear stop → MatchResult result (λ _. ⊥)
             (λ _. OnStopped (Keeps (own self.old.replica) begun (after_stop stop hs (handed now from frame.now)))
-            (D.awaits self.new.disk) (D.told self.new.disk)) }
+            stop.stop (D.stops self.old.disk) (D.stops self.new.disk) (D.told self.new.disk)) }
         ensures same_book { (book : BookValue) → ShowsBook self.old.replica book →
             OnErr result (ShowsBook self.new.replica book) }
         ensures unwritten { IfErr result
             (λ fault. fault ≢ StepFault.DiskFault → D.told self.new.disk ≡ D.told self.old.disk) }
         ensures untouched { IfErr result
-            (λ fault. fault ≢ StepFault.DiskFault → D.awaits self.new.disk ≡ D.awaits self.old.disk) }
-        ensures unforeseen { D.awaits self.old.disk ≡ None → D.awaits self.new.disk ≡ None }
+            (λ fault. fault ≢ StepFault.DiskFault → D.stops self.new.disk ≡ D.stops self.old.disk) }
+        ensures unforeseen { (D.stops self.old.disk).awaits ≡ None →
+            D.stops self.new.disk ≡ D.stops self.old.disk }
         ensures closed { IsErrOf result StepFault.Closed ↔ IsTrue self.old.closed }
         ensures closes { IsTrue self.new.closed ↔ (IsTrue self.old.closed ⊎ IsErrOf result StepFault.DiskFault) }
         ensures cause { IsErrOf result StepFault.DiskFault → Rose (D.faults self.old.disk) (D.faults self.new.disk) }
@@ -110,10 +112,10 @@ impl<V: Verifier, S: Signer, D: Disk> Journaled<V, S, D> {
             BothTold (λ old new. records.LosesNone entries (entry_of (handed now from frame.now)) old.past new)
             (D.told self.old.disk) (D.told self.new.disk) }
         ensures foreseen { (entries : List (List ℕ)) (stop : Foreseen) →
-            EndsAt entries self.old.end (D.told self.old.disk) → D.awaits self.old.disk ≡ Some stop → IsNear stop →
-            MatchResult result (λ _. ⊥)
-            (λ _. OnStopped (Holds (after_stop stop entries (entry_of (handed now from frame.now))))
-            (D.awaits self.new.disk) (D.told self.new.disk)) }
+            EndsAt entries self.old.end (D.told self.old.disk) → (D.stops self.old.disk).awaits ≡ Some stop →
+            IsNear stop → MatchResult result (λ _. ⊥)
+            (λ _. OnStopped (Holds (after_stop stop entries (entry_of (handed now from frame.now)))) stop.stop
+            (D.stops self.old.disk) (D.stops self.new.disk) (D.told self.new.disk)) }
         ensures length { (entries : List (List ℕ)) → self.old.end ≡ last_gate entries →
             IsWithin (last_gate (entries ++ entry_of (handed now from frame.now) ∷ []) + 1) result }
         ensures count { OnOk result (self.new.records ≡ self.old.records + 1) }
@@ -124,8 +126,9 @@ impl<V: Verifier, S: Signer, D: Disk> Journaled<V, S, D> {
         ensures unwritten { IfErr result
             (λ fault. fault ≢ StepFault.DiskFault → D.told self.new.disk ≡ D.told self.old.disk) }
         ensures untouched { IfErr result
-            (λ fault. fault ≢ StepFault.DiskFault → D.awaits self.new.disk ≡ D.awaits self.old.disk) }
-        ensures unforeseen { D.awaits self.old.disk ≡ None → D.awaits self.new.disk ≡ None }
+            (λ fault. fault ≢ StepFault.DiskFault → D.stops self.new.disk ≡ D.stops self.old.disk) }
+        ensures unforeseen { (D.stops self.old.disk).awaits ≡ None →
+            D.stops self.new.disk ≡ D.stops self.old.disk }
         ensures closes { IsTrue self.new.closed ↔ (IsTrue self.old.closed ⊎ IsErrOf result StepFault.DiskFault) }
         ensures cause { IsErrOf result StepFault.DiskFault → Rose (D.faults self.old.disk) (D.faults self.new.disk) }
         ensures faults { D.faults self.old.disk ≤ D.faults self.new.disk }

@@ -6,6 +6,7 @@ mod fault;
 mod journaled;
 mod laws;
 mod limits;
+mod memory;
 mod opening;
 
 pub use fault::{JournalFault, Refused, StepFault};

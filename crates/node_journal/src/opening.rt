@@ -10,11 +10,12 @@ ghost use Rattle.node_steps.specs.Pens.{PenValue, pen_value};
 ghost use Rattle.quorum_laws.specs.Numbers.{replicas};
 ghost use Rattle.replica_core.specs.Answers.{answer};
 ghost use Rattle.replica_core.specs.Replicas.{BookValue, Done};
+ghost use Rattle.replica_core.specs.Shown.{ShowsBook, own};
 ghost use Rattle.replica_laws.specs.Steps.{Handed};
 ghost use Rattle.node_journal.specs.Entries.{entry_of, handed_in};
 ghost use Rattle.node_journal.specs.Journals.{Accepts, Keeps};
 ghost use Rattle.node_journal.specs.Opening.{HasRisen, IsAt, IsBad, IsBadAt, IsKeptBut, IsNotBad, IsNotBegun, self_in};
-ghost use Rattle.node_journal.specs.Replicas.{Reflects, ShowsBook, own};
+ghost use Rattle.node_journal.specs.Replicas.{Reflects};
 ghost use Rattle.node_journal.specs.Retracing.{Fronts, GoesOn, Hears, ReadsOn, StandsBehind, StandsFront, StandsLast};
 
 use crate::entry::read;
@@ -36,7 +37,7 @@ fn begin<D: Disk>(disk: &mut D) -> Result<(), JournalFault>
     ensures fault { IfErr result (λ fault. IsNotBegun fault (D.told disk.old)) }
     ensures cause { IfErr result (λ fault. HasRisen fault (D.faults disk.old) (D.faults disk.new)) }
     ensures calm { OnOk result (D.faults disk.new ≡ D.faults disk.old) }
-    ensures unforeseen { D.awaits disk.old ≡ None → D.awaits disk.new ≡ None }
+    ensures unforeseen { (D.stops disk.old).awaits ≡ None → D.stops disk.new ≡ D.stops disk.old }
     ensures unwritten { IfErr result (λ fault. fault ≢ JournalFault.DiskFault → D.told disk.new ≡ D.told disk.old) }
 {
     let mut byte = [0; 1];
@@ -190,8 +191,8 @@ impl<V: Verifier + Drop, S: Signer + Drop, D: Disk> Journaled<V, S, D> {
         ensures fault { IfErr result (λ r. IsNotBegun r.fault (D.told disk)) }
         ensures cause { IfErr result (λ r. HasRisen r.fault (D.faults disk) (D.faults r.disk)) }
         ensures calm { IfOk result (λ j. D.faults j.disk ≡ D.faults disk) }
-        ensures unforeseen { D.awaits disk ≡ None →
-            MatchResult result (λ j. D.awaits j.disk ≡ None) (λ r. D.awaits r.disk ≡ None) }
+        ensures unforeseen { (D.stops disk).awaits ≡ None →
+            MatchResult result (λ j. D.stops j.disk ≡ D.stops disk) (λ r. D.stops r.disk ≡ D.stops disk) }
         ensures unwritten { IfErr result (λ r. r.fault ≢ JournalFault.DiskFault → D.told r.disk ≡ D.told disk) }
     {
         let mut disk = disk;
@@ -241,8 +242,8 @@ impl<V: Verifier + Drop, S: Signer + Drop, D: Disk> Journaled<V, S, D> {
         ensures ready { IfOk result (λ j. j.closed ≡ false) }
         ensures kept { MatchResult result (λ j. D.told j.disk ≡ option_map keeps (D.told disk))
             (λ r. IsKeptBut r.fault (D.told disk) (D.told r.disk)) }
-        ensures awaited { MatchResult result (λ j. D.awaits j.disk ≡ D.awaits disk)
-            (λ r. D.awaits r.disk ≡ D.awaits disk) }
+        ensures stops { MatchResult result (λ j. D.stops j.disk ≡ D.stops disk)
+            (λ r. D.stops r.disk ≡ D.stops disk) }
         ensures faults { MatchResult result (λ j. D.faults j.disk ≡ D.faults disk)
             (λ r. HasRisen r.fault (D.faults disk) (D.faults r.disk)) }
     {
@@ -274,8 +275,8 @@ impl<V: Verifier + Drop, S: Signer + Drop, D: Disk> Journaled<V, S, D> {
         ensures closed { IfOk result (λ j. j.closed ≡ self.closed) }
         ensures told { MatchResult result (λ j. D.told j.disk ≡ D.told self.disk)
             (λ r. D.told r.disk ≡ D.told self.disk) }
-        ensures awaited { MatchResult result (λ j. D.awaits j.disk ≡ D.awaits self.disk)
-            (λ r. D.awaits r.disk ≡ D.awaits self.disk) }
+        ensures stops { MatchResult result (λ j. D.stops j.disk ≡ D.stops self.disk)
+            (λ r. D.stops r.disk ≡ D.stops self.disk) }
         ensures faults { MatchResult result (λ j. D.faults j.disk ≡ D.faults self.disk)
             (λ r. HasRisen r.fault (D.faults self.disk) (D.faults r.disk)) }
     {

@@ -3,7 +3,7 @@
 ghost use Rattle.std.specs.Prelude.{◌≡◌, ◌-◌, ◌<◌, ◌==◌, false, IfOk, length};
 ghost use Rattle.journal_disk.specs.Contents.{repeated};
 
-use super::Stop;
+use crate::disk::Stop;
 use basil_types::bytes::Bytes;
 use basil_types::memory::NoMemory;
 use std::alloc::Global;
@@ -18,9 +18,9 @@ pub(crate) struct Awaited {
 
 impl Model for Awaited {
     ghost use Rattle.std.specs.Prelude.{◌<◌, length};
-    ghost use Rattle.journal_disk.specs.Memory.{Awaits};
+    ghost use Rattle.journal_disk.specs.Foreseen.{Foreseen};
 
-    ghost Value = { Awaits };
+    ghost Value = { Foreseen };
 
     ghost view = { λ a. record { stop = a.stop; left = a.left } };
 

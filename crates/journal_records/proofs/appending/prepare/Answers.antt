@@ -1,6 +1,6 @@
 use Rattle.std.proofs.Common.{rules, length}
 use Rattle.journal_records.proofs.AppendLaws.{prepare-kept, prepare-loses, prepare-torn}
-use Rattle.journal_records.proofs.ForeseenLaws.{prepare-fails}
+use Rattle.journal_records.proofs.ForeseenLaws.{passes-fails, prepare-fails}
 use Rattle.journal_records.proofs.appending.prepare.Goals as goal
 
 pub returns-in_err-write_at-clause-loses_none : goal.returns-in_err-write_at-clause-loses_none
@@ -25,7 +25,8 @@ returns-in_err-write_at-clause-foreseen g c entries stop at awaits =
     search (rules, fails)
 
 pub returns-clause-foreseen : goal.returns-clause-foreseen
-returns-clause-foreseen g c = search rules
+returns-clause-foreseen g c entries stop at awaits =
+    passes-fails _ _ stop _ _ _ _ awaits c.in_ok-write_at.ensures.passed c.sync.ensures.stops
 
 pub returns-clause-cause : goal.returns-clause-cause
 returns-clause-cause g c = search rules

@@ -1,6 +1,6 @@
 use Rattle.std.proofs.Common.{OnErr, Some, ap, length, subst, sym}
 use Rattle.journal_disk.specs.Foreseen.{MayHappen}
-use Rattle.journal_disk.specs.Memory.{MemDiskState, foretold}
+use Rattle.journal_disk.specs.Memory.{MemDiskState}
 use Rattle.journal_disk.proofs.StopLaws.{happen_of, torn_of, written_of}
 use Rattle.journal_disk.proofs.memory.MemDiskDisk.write_at.Goals as goal
 
@@ -19,5 +19,5 @@ returns-clause-stopped c =
     let count = length c.args.bytes.now in
     let old = c.args.self.now in
     subst (λ (s : MemDiskState). OnErr c.write-written.result
-    (MayHappen c.args.at count (foretold old.awaited) (foretold s.awaited) (Some old.disk) (Some s.disk)))
+    (MayHappen c.args.at count old.stops s.stops (Some old.disk) (Some s.disk)))
     (sym c.self.view_is) (happen_of c.write-written.result c.args.at count old c.write-written.new.self c.write-written.ensures.failed)

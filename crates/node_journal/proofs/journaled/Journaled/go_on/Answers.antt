@@ -3,10 +3,10 @@ use Rattle.std.proofs.Common.{ap, refl, arith, length, ◌∙◌}
 use Rattle.journal_records.proofs.RecordLaws.{length-record_of}
 use Rattle.replica_core.specs.Answers.{answer}
 use Rattle.replica_core.specs.Replicas.{empty_book}
+use Rattle.replica_core.specs.Shown.{own}
 use Rattle.replica_laws.specs.Steps.{book_after}
 use Rattle.node_journal.specs.Entries.{entry_of, handed_in}
 use Rattle.node_journal.specs.Journals.{entries_of}
-use Rattle.node_journal.specs.Replicas.{own}
 use Rattle.node_journal.proofs.EntryLaws.{entries-read}
 use Rattle.node_journal.proofs.RetracingLaws.{stands-more}
 use Rattle.node_journal.proofs.TakenLaws.{ok-of}

@@ -3,7 +3,7 @@ use Rattle.std.proofs.Common.{◌≡◌, ◌≤◌, ◌-◌, Some, length}
 use Rattle.journal_disk.specs.Disk.{DiskState}
 use Rattle.journal_records.specs.declared.limits.TheConstants.{JOURNAL_LIMIT, GREATEST_ENTRY}
 use Rattle.node_steps.specs.Pens.{PenValue}
-use Rattle.node_journal.specs.Replicas.{own}
+use Rattle.replica_core.specs.Shown.{own}
 use Rattle.node_journal.specs.Retracing.{StandsFront}
 use Rattle.node_journal.proofs.journaled.Journaled.retrace.Given as goal
 
@@ -11,7 +11,7 @@ abbrev pub invariant-loop-fault : goal.invariant-loop-fault
 invariant-loop-fault g l =
     record {
       same_told : g.D.Disk.told l.self.disk ≡ g.D.Disk.told l.initial.self.disk;
-      same_awaits : g.D.Disk.awaits l.self.disk ≡ g.D.Disk.awaits l.initial.self.disk;
+      same_stops : g.D.Disk.stops l.self.disk ≡ g.D.Disk.stops l.initial.self.disk;
       same_own : own l.self.replica ≡ own l.initial.self.replica;
       same_faults : g.D.Disk.faults l.self.disk ≡ g.D.Disk.faults l.initial.self.disk;
       same_closed : l.self.closed ≡ l.initial.self.closed;

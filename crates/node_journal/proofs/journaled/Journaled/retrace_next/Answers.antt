@@ -6,10 +6,10 @@ use Rattle.journal_records.specs.declared.limits.TheConstants.{JOURNAL_LIMIT}
 use Rattle.journal_records.specs.Found.{Tells}
 use Rattle.journal_records.specs.Journal.{opened}
 use Rattle.replica_core.specs.Replicas.{empty_book}
+use Rattle.replica_core.specs.Shown.{own}
 use Rattle.replica_laws.specs.Steps.{book_after}
 use Rattle.node_journal.specs.declared.fault.JournalFault.TheVariants.{BadJournal}
 use Rattle.node_journal.specs.Entries.{entry_of}
-use Rattle.node_journal.specs.Replicas.{own}
 use Rattle.node_journal.proofs.BadLaws.{same-opened}
 use Rattle.node_journal.proofs.FrontLaws.{bad-front, front-more, not-closed, on_told}
 use Rattle.node_journal.proofs.RetracingLaws.{stands-still}

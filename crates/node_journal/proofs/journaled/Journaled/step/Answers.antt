@@ -1,14 +1,14 @@
 -- A step is a plan, the record that is kept, and what was planned.
 use Rattle.std.proofs.Common.{rules, ◌^◌, ◌<◌, ◌∙◌, Ok, Err, refl, arith}
 use Rattle.replica_core.specs.Replicas.{empty_book}
+use Rattle.replica_core.specs.Shown.{own}
 use Rattle.replica_laws.specs.Steps.{book_after}
 use Rattle.node_steps.specs.Pens.{pen_value}
 use Rattle.node_journal.specs.Journals.{entries_of}
-use Rattle.node_journal.specs.Replicas.{own}
 use Rattle.node_journal.specs.Steps.{answer_after, handed}
 use Rattle.node_journal.proofs.FrameLaws.{sized-by}
 use Rattle.node_journal.proofs.StepLaws.{Commits, Plans, commit-answers, commit-own, faulted-by, is_taken-ok, more-accepted}
-use Rattle.node_journal.proofs.StepLaws.{reflects-more, short-by, signed-more, step-loses, step-stops, still-loses, taken-more}
+use Rattle.node_journal.proofs.StepLaws.{reflects-more, short-by, signed-more, step-loses, step-stops, still-loses, taken-more, untouched}
 use Rattle.node_journal.proofs.TakenLaws.{is-ok, planned-ok}
 use Rattle.node_journal.proofs.journaled.Journaled.step.Goals as goal
 
@@ -138,4 +138,4 @@ pub returns-in-Err-clause-untouched : goal.returns-in-Err-clause-untouched
 returns-in-Err-clause-untouched g c = search rules
 
 pub returns-in-Err-clause-foreseen : goal.returns-in-Err-clause-foreseen
-returns-in-Err-clause-foreseen g c = search rules
+returns-in-Err-clause-foreseen g c begun hs stop r awaits near = untouched _ stop _ _ _ awaits refl

@@ -1,8 +1,11 @@
 -- The next gate stands behind the record.
-use Rattle.std.proofs.Common.{rules, sym, arith}
+use Rattle.std.proofs.Common.{rules, refl, sym, arith}
+use Rattle.journal_records.specs.Journal.{Holds}
+use Rattle.journal_records.specs.Stopping.{after_stop}
 use Rattle.node_journal.specs.Entries.{entry_of}
 use Rattle.node_journal.specs.Steps.{handed}
 use Rattle.node_journal.proofs.EntryLaws.{length-entry_of}
+use Rattle.node_journal.proofs.StepLaws.{untouched}
 use Rattle.node_journal.proofs.journaled.Journaled.write_down.Goals as goal
 
 pub returns-then-too_long-clause-length : goal.returns-then-too_long-clause-length
@@ -40,3 +43,14 @@ returns-clause-loses_none g c = search rules
 
 pub returns-clause-foreseen : goal.returns-clause-foreseen
 returns-clause-foreseen g c = search rules
+
+pub returns-then-too_long-clause-foreseen : goal.returns-then-too_long-clause-foreseen
+returns-then-too_long-clause-foreseen g c entries stop at awaits near = untouched _ stop _ _ _ awaits refl
+
+pub returns-in_err-entry-clause-foreseen : goal.returns-in_err-entry-clause-foreseen
+returns-in_err-entry-clause-foreseen g c entries stop at awaits near =
+    let h = handed c.args.now c.args.from c.args.frame.now in
+    let stops = g.D.Disk.stops c.args.self.now.disk in
+    let told = g.D.Disk.told c.args.self.now.disk in
+    let waits = untouched (Holds (after_stop stop entries (entry_of h))) stop stops stops told awaits refl in
+    search (rules, waits)

@@ -1,0 +1,4 @@
+pub mod Putting
+pub mod Staying
+mod Starting
+mod Taking

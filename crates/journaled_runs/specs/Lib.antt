@@ -1,0 +1,5 @@
+pub mod Journaling
+pub mod Shown
+pub mod Handing
+pub mod Beginning
+pub mod Stopping

@@ -1,0 +1,4 @@
+mod TookLaws
+mod RoomLaws
+mod StopLaws
+mod PairLaws
