@@ -3,7 +3,7 @@
 mod forms;
 mod headers;
 mod sizes;
-mod unbuilt;
+mod stops;
 
 use crate::support::{is_refused, joined};
 use std::alloc::Global;

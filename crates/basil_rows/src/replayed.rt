@@ -265,9 +265,101 @@ fn are_replayed(
     Ok(())
 }
 
+/// A header whose replica keeps a journal.
+const JOURNAL_HEADER: &[u8] =
+    b"basil 1 f=0 shards=1 reads=1 delta=100 clock=50 keys=plain journal\n";
+
+/// Schedules behind that header: the disk of the journal stops as the first stage is handed to the replica.
+const STOPPED: &[Replayed] = &[
+    (
+        "no disk stops",
+        b"\
+        begin t1 1 10\n\
+        write t1 a x1\n\
+        prepare t1\n\
+        round\n\
+        round\n\
+        round\n",
+        b"tx t1 commit\nkey a x1\nend 3\n",
+    ),
+    (
+        "the gate is left open: the vote is signed, and lost",
+        b"\
+        begin t1 1 10\n\
+        write t1 a x1\n\
+        prepare t1\n\
+        stop 0 0 1 2 01\n\
+        round\n\
+        round\n\
+        round\n",
+        b"tx t1 open\nend 2\n",
+    ),
+    (
+        "the gate is left closed: nothing was taken",
+        b"\
+        begin t1 1 10\n\
+        write t1 a x1\n\
+        prepare t1\n\
+        stop 0 0 1 2 4d\n\
+        round\n\
+        round\n\
+        round\n",
+        b"tx t1 commit\nkey a x1\nend 3\n",
+    ),
+    (
+        "the record is torn, though its first byte is that of an open gate",
+        b"\
+        begin t1 1 10\n\
+        write t1 a x1\n\
+        prepare t1\n\
+        stop 0 0 1 1 01\n\
+        round\n\
+        round\n\
+        round\n",
+        b"tx t1 commit\nkey a x1\nend 3\n",
+    ),
+    (
+        "what was signed before the stop is signed again, for the same frame",
+        b"\
+        begin t1 1 10\n\
+        write t1 a x1\n\
+        prepare t1\n\
+        stop 0 0 1 2 01\n\
+        round\n\
+        deliver 1\n\
+        round\n\
+        round\n",
+        b"tx t1 commit\nkey a x1\nend 4\n",
+    ),
+    (
+        "the lost vote may still be delivered",
+        b"\
+        begin t1 1 10\n\
+        write t1 a x1\n\
+        prepare t1\n\
+        stop 0 0 1 2 01\n\
+        deliver 2\n\
+        round\n",
+        b"tx t1 commit\nkey a x1\nend 3\n",
+    ),
+    (
+        "a message of another receiver is diverted; it is refused, and no disk stops",
+        b"\
+        begin t1 1 10\n\
+        write t1 a x1\n\
+        prepare t1\n\
+        round\n\
+        stop 0 0 2 2 01\n\
+        round\n\
+        round\n",
+        b"tx t1 commit\nkey a x1\nend 3\n",
+    ),
+];
+
 #[test]
 fn each_schedule_gives_its_report(rt: HostRuntime) -> Result<(), Fail> {
     are_replayed(&rt, rt.alloc(), HEADER, REPLAYED)?;
+    are_replayed(&rt, rt.alloc(), JOURNAL_HEADER, STOPPED)?;
     are_replayed(&rt, rt.alloc(), b"", WITH_HEADERS)
 }
 

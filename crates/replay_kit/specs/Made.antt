@@ -4,6 +4,7 @@ use Rattle.basil_types.specs.declared.party.Party.{Party}
 use Rattle.keyring_lms.specs.Replay.{is_party_of}
 use Rattle.cluster_run.specs.States.{KitValue}
 use Rattle.replay_kit.specs.Values.{batch_value, lms_value, plain_value}
+use Rattle.replay_kit.specs.declared.kit.ReplayKit.{ReplayKit}
 use Rattle.replay_kit.specs.declared.made.Made.{Made}
 use Rattle.replay_kit.specs.declared.made.Made.TheVariants.{Plain, Lms, Batch}
 
@@ -16,3 +17,7 @@ abbrev pub made_knows : Made → Party → Bool
 made_knows Plain party = true
 made_knows (Lms keys) party = is_party_of keys.cluster party
 made_knows Batch party = true
+
+-- the kit that a replay's kit stands for
+abbrev pub kit_value : ReplayKit → KitValue
+kit_value kit = made_value kit.made

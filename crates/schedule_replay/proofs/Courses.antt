@@ -6,19 +6,18 @@ use Rattle.std.proofs.Math.Seq.{take-suc}
 use Rattle.std.proofs.lemmas.List.{take_all, take-append-drop}
 use Rattle.basil_types.specs.Steps.{◌>>=◌}
 use Rattle.cluster_run.specs.Events as events
-use Rattle.cluster_run.specs.Events.{happens}
-use Rattle.cluster_run.specs.States.{State}
+use Rattle.journaled_runs.specs.Journaling.{JournaledState, happens_in}
 use Rattle.cluster_run.specs.declared.fault.WorldFault.{WorldFault}
 use Rattle.cluster_run.specs.declared.fault.WorldFault.TheVariants as world
 use Rattle.node_steps.specs.Refusing.{unless_refused}
 use Rattle.schedule_text.specs.declared.line.Line.{Line}
 use Rattle.schedule_text.specs.declared.reason.Reason.{Reason}
-use Rattle.schedule_replay.proofs.Deliveries.{IsHanded, delivered}
+use Rattle.schedule_replay.proofs.Deliveries.{IsTaken, delivered_in}
 use Rattle.schedule_replay.specs.Events.{deliver, deliver_all, frame_at, line_does, round_of, waiting}
 use Rattle.schedule_replay.specs.Lines.{answered, line_step, names_after}
 use Rattle.schedule_replay.specs.Reasons.{reason_of}
 use Rattle.schedule_replay.proofs.RoadLaws.{along_own, two_gifts}
-use Rattle.schedule_replay.specs.Replays.{ReplayValue, along}
+use Rattle.schedule_replay.specs.Replays.{ReplayValue, along, journaled, led}
 use Rattle.schedule_replay.specs.Roads.{Road, behind_one, handed, road_with}
 use Rattle.schedule_replay.specs.Shown.{Did, Does, HasStopped, Stands, fault_by}
 use Rattle.schedule_replay.specs.declared.course.Course.{Course}
@@ -72,15 +71,15 @@ reached_one r mid new done m here there a does = record {
 }
 
 -- a delivery is refused as a party's matter by no world
-is_handed : (a : Result State WorldFault) (f : State → ReplayValue) (w : WorldFault) → IsHanded a → (a >>= λ st. Ok (f st)) ≡ Err w →
-    IsHanded (Err w)
-is_handed (Ok st) f w h e = absurd cc
-is_handed (Err x) f w h e = let same : x ≡ w = cc in subst (λ z. IsHanded (Err z)) same h
+led_handed : (a : Result JournaledState WorldFault) (f : JournaledState → ReplayValue) (w : WorldFault) → IsTaken a →
+    (a >>= λ x. Ok (f x)) ≡ Err w → IsTaken {A = JournaledState} (Err w)
+led_handed (Ok x) f w h e = absurd cc
+led_handed (Err z) f w h e = let same : z ≡ w = cc in subst (λ y. IsTaken {A = JournaledState} (Err y)) same h
 
-not_refused : (q : ReplayValue) (m : ℕ) (w : WorldFault) → deliver q m ≡ Err w → IsHanded (Err w)
+not_refused : (q : ReplayValue) (m : ℕ) (w : WorldFault) → deliver q m ≡ Err w → IsTaken {A = JournaledState} (Err w)
 not_refused q m w e =
-    is_handed (happens q.setup (events.Deliver m (handed q.road (frame_at q.state m))) q.state)
-    (λ st. record q { state = st; road = behind_one q.road }) w (delivered q.setup m (handed q.road (frame_at q.state m)) q.state) e
+    led_handed (happens_in q.setup (events.Deliver m (handed q.road (frame_at q.state m))) (journaled q))
+    (λ x. led (behind_one q.road) x q) w (delivered_in q.setup m (handed q.road (frame_at q.state m)) (journaled q)) e
 
 -- where no message was delivered, all is as before
 nothing_done : (r : ReplayValue) (course : Course) (road : Road) → HasStopped [] r course road → Stands course r × (r.road ≡ road)
@@ -188,8 +187,8 @@ module _ (start mid new : Course) (ms : List ℕ) (i : ℕ) (carried : Bool) (be
 
 pub line_done : (r : ReplayValue) (line : Line) (number : ℕ) (mid new : Course) (road : Road) → reason_of r line ≡ None →
     Does (round_of r line) (line_does r line) r mid (Ok tt) road → new.names ≡ names_after line mid.names → new.world ≡ mid.world →
-    new.cluster ≡ mid.cluster → Did (round_of r line) (line_step r line number) r new (Ok tt) road
-line_done r line number mid new road none does names world cluster = let after = does.0 in (
+    new.journals ≡ mid.journals → new.cluster ≡ mid.cluster → Did (round_of r line) (line_step r line number) r new (Ok tt) road
+line_done r line number mid new road none does names world journals cluster = let after = does.0 in (
   record after { names = names_after line after.names },
   ap (λ o. unless_refused (option_map (BadInput number) o) (answered line number (line_does r line))) none
       ∙ ap (answered line number) does.1,
@@ -197,6 +196,7 @@ line_done r line number mid new road none does names world cluster = let after =
     cluster = does.2.cluster ∙ sym cluster;
     names = ap (names_after line) does.2.names ∙ sym names;
     shows = rw world does.2.shows;
+    journals = rw world (rw journals does.2.journals);
   },
   does.3,
 )

@@ -1,12 +1,17 @@
 -- A delivery is refused by no call, and for want of no leaf.
 use Rattle.std.proofs.Common.{ℕ, Bool, true, false, cond, List, [], ◌∷◌, ◌++◌, not, Option, Some, None}
-use Rattle.std.specs.Prelude.{Result, Ok, Err, ⊤, ◌||◌, ◌-◌}
+use Rattle.std.specs.Prelude.{Result, Ok, Err, ⊤, ◌||◌, ◌-◌, length, option_and_then}
 use Rattle.std.specs.Option.{option_map_or}
 use Rattle.basil_types.specs.Steps.{◌>>=◌}
 use Rattle.basil_types.specs.declared.party.Party.{Party}
 use Rattle.basil_types.specs.declared.party.Party.TheVariants.{Replica, Client}
 use Rattle.client_core.specs.Answers.{on_frame}
 use Rattle.client_core.specs.Clients.{ClientValue}
+use Rattle.delivery_laws.specs.Deliveries.{Taking, takes}
+use Rattle.journaled_runs.specs.Journaling.{JournaledState, full, full_by, happens_in, with_state}
+use Rattle.node_journal.specs.Journals.{journal_bytes}
+use Rattle.node_steps.specs.Refusing.{unless_refused, when}
+use Rattle.run_journals.specs.Journals.{JournalValue, is_full_for, journal_at}
 use Rattle.premise_watch.specs.declared.broken.Broken as premises
 use Rattle.replica_core.specs.Answers.{answer}
 use Rattle.cluster_run.specs.Events as events
@@ -19,12 +24,15 @@ use Rattle.cluster_run.specs.declared.fault.WorldFault.{WorldFault}
 use Rattle.cluster_run.specs.declared.fault.WorldFault.TheVariants.{Broken, PoolFull, Call, Exhausted}
 
 -- it is taken, or a premise is broken, or the pool is full
-abbrev pub IsHanded : Result State WorldFault → Type 0
-IsHanded (Ok st) = ⊤
-IsHanded (Err (Broken b)) = ⊤
-IsHanded (Err (PoolFull messages bytes)) = ⊤
-IsHanded (Err (Call f)) = ⊥
-IsHanded (Err (Exhausted party)) = ⊥
+abbrev pub IsTaken : {A : Type 0} → Result A WorldFault → Type 0
+IsTaken (Ok x) = ⊤
+IsTaken (Err (Broken b)) = ⊤
+IsTaken (Err (PoolFull messages bytes)) = ⊤
+IsTaken (Err (Call f)) = ⊥
+IsTaken (Err (Exhausted party)) = ⊥
+
+abbrev IsHanded : Result State WorldFault → Type 0
+IsHanded answer = IsTaken answer
 
 goes_on : (a : Result State WorldFault) (f : State → Result State WorldFault) → IsHanded a → ((st : State) → IsHanded (f st)) →
     IsHanded (a >>= f)
@@ -41,6 +49,28 @@ either false x y h k = k
 broken : (o : Option premises.Broken) (st : State) → IsHanded (unless_broken o st)
 broken None st = tt
 broken (Some b) st = tt
+
+unless_full : {A : Type 0} (journals : List JournalValue) (t : Option Taking) (answer : Result A WorldFault) → IsTaken answer →
+    IsTaken (unless_refused (full journals t) answer)
+unless_full journals None answer h = h
+unless_full journals (Some t) answer h = by (journal_at journals t.shard t.index)
+  where
+    wide : (j : JournalValue) (c : Bool) →
+        IsTaken (unless_refused (when c (PoolFull (length j.taken) (journal_bytes j.taken))) answer)
+    wide j true = tt
+    wide j false = h
+
+    by : (o : Option JournalValue) → IsTaken (unless_refused (option_and_then (full_by t.handed) o) answer)
+    by None = h
+    by (Some j) = wide j (is_full_for j t.handed)
+
+written_on : (taking : Option Taking) (journals : List JournalValue) (a : Result State WorldFault) → IsTaken a →
+    IsTaken (a >>= with_state taking journals)
+written_on taking journals (Ok st) h = tt
+written_on taking journals (Err (Broken b)) h = tt
+written_on taking journals (Err (PoolFull messages bytes)) h = tt
+written_on taking journals (Err (Call f)) h = absurd h
+written_on taking journals (Err (Exhausted party)) h = absurd h
 
 module _ (s : Setup) where
   seen : (frame : List ℕ) (st : State) → IsHanded (see s frame st)
@@ -89,3 +119,12 @@ module _ (s : Setup) where
           IsHanded (option_map_or (λ p. hand s message p.from p.to given (marked (message - 1) Delivered p st)) o (Ok st))
       by None = tt
       by (Some p) = handed message p.from p.to given (marked (message - 1) Delivered p st)
+
+  -- ---- and no journal refuses it otherwise
+
+  pub delivered_in : (message : ℕ) (given : List ℕ) (x : JournaledState) → IsTaken (happens_in s (events.Deliver message given) x)
+  delivered_in message given x =
+      let e = events.Deliver message given in
+      let taking = takes s x.state e in
+      unless_full x.journals taking (happens s e x.state >>= with_state taking x.journals)
+      (written_on taking x.journals (happens s e x.state) (delivered message given x.state))

@@ -6,6 +6,7 @@ pub mod RoadLaws
 pub mod Fitting
 pub mod Joining
 pub mod Running
+pub mod Journaled
 pub mod Lines
 pub mod SoundStages
 mod Reporting

@@ -3,24 +3,27 @@ use Rattle.std.proofs.Common.{◌≡◌, ℕ, List, [], ◌∷◌, Option, Some,
 use Rattle.std.specs.Prelude.{Result, Ok, Err, option_map}
 use Rattle.basil_types.specs.Steps.{◌>>=◌}
 use Rattle.cluster_run.specs.Events as events
-use Rattle.cluster_run.specs.Events.{EventValue, happens}
+use Rattle.cluster_run.specs.Events.{EventValue}
 use Rattle.cluster_run.specs.Safety.{IsEvent}
-use Rattle.cluster_run.specs.States.{State, start}
+use Rattle.cluster_run.specs.States.{Setup, start}
 use Rattle.cluster_run.specs.declared.fault.WorldFault.{WorldFault}
 use Rattle.cluster_run.specs.declared.fault.WorldFault.TheVariants as world
+use Rattle.journaled_runs.specs.Journaling.{JournaledState, happens_in}
 use Rattle.node_steps.specs.Refusing.{unless_refused}
 use Rattle.premise_watch.specs.declared.broken.Broken.{Broken}
 use Rattle.schedule_text.specs.Fitting.{Fits}
 use Rattle.schedule_text.specs.declared.line.Line.{Line}
 use Rattle.schedule_text.specs.declared.reason.Reason.{Reason}
-use Rattle.schedule_text.specs.declared.line.Line.TheVariants.{Round}
+use Rattle.schedule_text.specs.declared.line.Line.TheVariants.{Round, Stop}
 use Rattle.schedule_replay.proofs.Fitting.{event_fits}
-use Rattle.schedule_replay.proofs.Running.{Goes, between, goes_on, one_breaks, one_goes}
-use Rattle.schedule_replay.specs.Events.{deliver, deliver_all, event_of, frame_at, given_to, happen, line_does, road_behind, waiting}
+use Rattle.schedule_replay.proofs.Journaled.{event_breaks, event_goes, is_broken, stop_breaks, stop_goes}
+use Rattle.schedule_replay.proofs.Running.{Goes, between, goes_on, stays}
+use Rattle.schedule_replay.specs.Events.{deliver, deliver_all, event_of, frame_at, given_to, happen, line_does}
+use Rattle.schedule_replay.specs.Events.{one_does, road_behind, waiting}
 use Rattle.schedule_replay.specs.Laws.{IsReplayed}
 use Rattle.schedule_replay.specs.Lines.{answered, line_step, names_after}
 use Rattle.schedule_replay.specs.Reasons.{reason_of}
-use Rattle.schedule_replay.specs.Replays.{NamesValue, ReplayValue}
+use Rattle.schedule_replay.specs.Replays.{NamesValue, ReplayValue, journaled, led}
 use Rattle.schedule_replay.specs.Roads.{Road, behind_one, handed}
 use Rattle.schedule_replay.specs.declared.fault.ReplayFault.{ReplayFault}
 use Rattle.schedule_replay.specs.declared.fault.ReplayFault.TheVariants as fault
@@ -30,55 +33,54 @@ use Rattle.schedule_replay.specs.declared.fault.ReplayFault.TheVariants as fault
 as_goes : (r : ReplayValue) → IsReplayed r → Goes r.setup (start r.setup) (Ok r.state)
 as_goes r i = record { events = i.events; sized = i.sized; ends = i.ends }
 
-at_state : (r : ReplayValue) (st : State) (road : Road) → IsReplayed r → Goes r.setup r.state (Ok st) →
-    IsReplayed (record r { state = st; road = road })
-at_state r st road i g =
-    let whole = goes_on r.setup (start r.setup) r.state (Ok st) (as_goes r i) g in
+led_on : (r : ReplayValue) (x : JournaledState) (road : Road) → IsReplayed r → Goes r.setup r.state (Ok x.state) →
+    IsReplayed (led road x r)
+led_on r x road i g =
+    let whole = goes_on r.setup (start r.setup) r.state (Ok x.state) (as_goes r i) g in
     record { sound = i.sound; events = whole.events; sized = whole.sized; ends = whole.ends }
 
 renamed : (r : ReplayValue) (names : NamesValue) → IsReplayed r → IsReplayed (record r { names = names })
 renamed r names i = record { sound = i.sound; events = i.events; sized = i.sized; ends = i.ends }
 
--- ---- an event
+-- ---- what leads on, and what comes behind it
 
-event_keeps : (r : ReplayValue) (e : EventValue) (road : Road) (after : ReplayValue) → IsEvent e → IsReplayed r →
-    (happens r.setup e r.state >>= λ st. Ok (record r { state = st; road = road })) ≡ Ok after → IsReplayed after
-event_keeps r e road after sized i h =
-    let b = between (happens r.setup e r.state) (λ st. Ok (record r { state = st; road = road })) after h in
-    let same : record r { state = b.start; road = road } ≡ after = cc in
-    subst IsReplayed same (at_state r b.start road i (one_goes r.setup e r.state b.start sized b.first))
+module _ (r : ReplayValue) (answer : Result JournaledState WorldFault) (road : Road) where
+  abbrev Answer : Result ReplayValue WorldFault
+  Answer = answer >>= λ x. Ok (led road x r)
 
-is_broken : {A : Type 0} (x : Result State WorldFault) (f : State → A) (b : Broken) →
-    (x >>= λ st. Ok (f st)) ≡ Err (world.Broken b) → x ≡ Err (world.Broken b)
-is_broken (Ok st) f b h = absurd cc
-is_broken (Err e) f b h = let same : e ≡ world.Broken b = cc in ap (λ (z : WorldFault). Err z) same
+  led_keeps : (after : ReplayValue) → ((x : JournaledState) → answer ≡ Ok x → Goes r.setup r.state (Ok x.state)) → IsReplayed r →
+      Answer ≡ Ok after → IsReplayed after
+  led_keeps after goes i h =
+      let b = between answer (λ x. Ok (led road x r)) after h in
+      let same : led road b.start r ≡ after = cc in
+      subst IsReplayed same (led_on r b.start road i (goes b.start b.first))
 
-event_breaks : (r : ReplayValue) (e : EventValue) (road : Road) (b : Broken) → IsEvent e →
-    (happens r.setup e r.state >>= λ st. Ok (record r { state = st; road = road })) ≡ Err (world.Broken b) →
-    Goes r.setup r.state (Err b)
-event_breaks r e road b sized h =
-    one_breaks r.setup e r.state b sized (is_broken (happens r.setup e r.state) (λ st. record r { state = st; road = road }) b h)
+  led_breaks : (b : Broken) → (answer ≡ Err (world.Broken b) → Goes r.setup r.state (Err b)) → Answer ≡ Err (world.Broken b) →
+      Goes r.setup r.state (Err b)
+  led_breaks b breaks h = breaks (is_broken answer (λ x. led road x r) b h)
 
--- what goes on behind an event
-behind_event : (r : ReplayValue) (e : EventValue) (road : Road) (after : ReplayValue) (b : Broken) → IsEvent e →
-    (happens r.setup e r.state >>= λ st. Ok (record r { state = st; road = road })) ≡ Ok after →
-    Goes after.setup after.state (Err b) → Goes r.setup r.state (Err b)
-behind_event r e road after b sized h g =
-    let x = between (happens r.setup e r.state) (λ st. Ok (record r { state = st; road = road })) after h in
-    let same : record r { state = x.start; road = road } ≡ after = cc in
-    goes_on r.setup r.state x.start (Err b) (one_goes r.setup e r.state x.start sized x.first)
-    (subst (λ (t : ReplayValue). Goes t.setup t.state (Err b)) (sym same) g)
+  led_behind : (after : ReplayValue) (b : Broken) → ((x : JournaledState) → answer ≡ Ok x → Goes r.setup r.state (Ok x.state)) →
+      Answer ≡ Ok after → Goes after.setup after.state (Err b) → Goes r.setup r.state (Err b)
+  led_behind after b goes h g =
+      let x = between answer (λ x. Ok (led road x r)) after h in
+      let same : led road x.start r ≡ after = cc in
+      goes_on r.setup r.state x.start.state (Err b) (goes x.start x.first)
+      (subst (λ (t : ReplayValue). Goes t.setup t.state (Err b)) (sym same) g)
 
 -- ---- a round
 
 abbrev delivered_by : ReplayValue → ℕ → EventValue
 delivered_by r message = events.Deliver message (handed r.road (frame_at r.state message))
 
+abbrev delivered : ReplayValue → ℕ → Result JournaledState WorldFault
+delivered r message = happens_in r.setup (delivered_by r message) (journaled r)
+
 all_keep : (ms : List ℕ) (r after : ReplayValue) → IsReplayed r → deliver_all ms r ≡ Ok after → IsReplayed after
 all_keep [] r after i h = let same : r ≡ after = cc in subst IsReplayed same i
 all_keep (m ∷ ms) r after i h =
     let b = between (deliver r m) (deliver_all ms) after h in
-    all_keep ms b.start after (event_keeps r (delivered_by r m) (behind_one r.road) b.start tt i b.first) b.second
+    all_keep ms b.start after
+    (led_keeps r (delivered r m) (behind_one r.road) b.start (event_goes r.setup (delivered_by r m) (journaled r) tt) i b.first) b.second
 
 all_break : (ms : List ℕ) (r : ReplayValue) (b : Broken) → deliver_all ms r ≡ Err (world.Broken b) → Goes r.setup r.state (Err b)
 all_break [] r b h = absurd cc
@@ -86,40 +88,52 @@ all_break (m ∷ ms) r b h = by (deliver r m) refl h (λ t e. all_break ms t b e
   where
     by : (x : Result ReplayValue WorldFault) → deliver r m ≡ x → (x >>= deliver_all ms) ≡ Err (world.Broken b) →
         ((t : ReplayValue) → deliver_all ms t ≡ Err (world.Broken b) → Goes t.setup t.state (Err b)) → Goes r.setup r.state (Err b)
-    by (Ok t) e h rest = behind_event r (delivered_by r m) (behind_one r.road) t b tt e (rest t h)
+    by (Ok t) e h rest =
+        led_behind r (delivered r m) (behind_one r.road) t b (event_goes r.setup (delivered_by r m) (journaled r) tt) e (rest t h)
     by (Err f) e h rest =
         let same : f ≡ world.Broken b = cc in
-        event_breaks r (delivered_by r m) (behind_one r.road) b tt (e ∙ ap (λ (x : WorldFault). Err x) same)
+        led_breaks r (delivered r m) (behind_one r.road) b (event_breaks r.setup (delivered_by r m) (journaled r) b tt)
+        (e ∙ ap (λ (x : WorldFault). Err x) same)
 
 -- ---- another line
 
-happen_keeps : (r : ReplayValue) (o : Option EventValue) (road : Road) (after : ReplayValue) →
-    ((e : EventValue) → o ≡ Some e → IsEvent e) → IsReplayed r →
-    (happen r.setup r.state o >>= λ st. Ok (record r { state = st; road = road })) ≡ Ok after → IsReplayed after
-happen_keeps r None road after sized i h =
-    let same : record r { road = road } ≡ after = cc in
-    subst IsReplayed same (record { sound = i.sound; events = i.events; sized = i.sized; ends = i.ends })
-happen_keeps r (Some e) road after sized i h = event_keeps r e road after (sized e refl) i h
+happen_goes : (s : Setup) (x : JournaledState) (o : Option EventValue) (y : JournaledState) →
+    ((e : EventValue) → o ≡ Some e → IsEvent e) → happen s x o ≡ Ok y → Goes s x.state (Ok y.state)
+happen_goes s x None y sized h = let same : x ≡ y = cc in subst (λ (z : JournaledState). Goes s x.state (Ok z.state)) same (stays s x.state)
+happen_goes s x (Some e) y sized h = event_goes s e x (sized e refl) y h
 
-happen_breaks : (r : ReplayValue) (o : Option EventValue) (road : Road) (b : Broken) → ((e : EventValue) → o ≡ Some e → IsEvent e) →
-    (happen r.setup r.state o >>= λ st. Ok (record r { state = st; road = road })) ≡ Err (world.Broken b) →
-    Goes r.setup r.state (Err b)
-happen_breaks r None road b sized h = absurd cc
-happen_breaks r (Some e) road b sized h = event_breaks r e road b (sized e refl) h
+happen_breaks : (s : Setup) (x : JournaledState) (o : Option EventValue) (b : Broken) →
+    ((e : EventValue) → o ≡ Some e → IsEvent e) → happen s x o ≡ Err (world.Broken b) → Goes s x.state (Err b)
+happen_breaks s x None b sized h = absurd cc
+happen_breaks s x (Some e) b sized h = event_breaks s e x b (sized e refl) h
+
+one_goes_on : (r : ReplayValue) (given : List ℕ) (line : Line) (y : JournaledState) → Fits line → one_does r given line ≡ Ok y →
+    Goes r.setup r.state (Ok y.state)
+one_goes_on r given (Stop shard replica message write bytes) y f h =
+    stop_goes r.setup message shard replica (record { write = write; bytes = bytes }) given (journaled r) y h
+one_goes_on r given line y f h =
+    happen_goes r.setup (journaled r) (event_of r.names given line) y (λ e k. event_fits r.names given line e f k) h
+
+one_breaks_off : (r : ReplayValue) (given : List ℕ) (line : Line) (b : Broken) → Fits line →
+    one_does r given line ≡ Err (world.Broken b) → Goes r.setup r.state (Err b)
+one_breaks_off r given (Stop shard replica message write bytes) b f h =
+    stop_breaks r.setup message shard replica (record { write = write; bytes = bytes }) given (journaled r) b h
+one_breaks_off r given line b f h =
+    happen_breaks r.setup (journaled r) (event_of r.names given line) b (λ e k. event_fits r.names given line e f k) h
 
 does_keep : (r : ReplayValue) (line : Line) (after : ReplayValue) → Fits line → IsReplayed r → line_does r line ≡ Ok after →
     IsReplayed after
 does_keep r Round after f i h = all_keep (waiting r.state) r after i h
 does_keep r line after f i h =
-    happen_keeps r (event_of r.names (given_to r line) line) (road_behind line r.road) after
-    (λ e k. event_fits r.names (given_to r line) line e f k) i h
+    led_keeps r (one_does r (given_to r line) line) (road_behind line r.road) after
+    (λ x e. one_goes_on r (given_to r line) line x f e) i h
 
 pub does_break : (r : ReplayValue) (line : Line) (b : Broken) → Fits line → line_does r line ≡ Err (world.Broken b) →
     Goes r.setup r.state (Err b)
 does_break r Round b f h = all_break (waiting r.state) r b h
 does_break r line b f h =
-    happen_breaks r (event_of r.names (given_to r line) line) (road_behind line r.road) b
-    (λ e k. event_fits r.names (given_to r line) line e f k) h
+    led_breaks r (one_does r (given_to r line) line) (road_behind line r.road) b
+    (one_breaks_off r (given_to r line) line b f) h
 
 -- ---- no reason holds
 

@@ -1,15 +1,27 @@
 -- Why a line is refused, from what a world and its names tell.
-use Rattle.std.proofs.Common.{◌≡◌, ℕ, ◌≤◌, length, Bool, true, false, not, List, Option, Some, None, refl, sym, ap, ◌∙◌, arith, is_some}
-use Rattle.std.specs.Prelude.{◌&&◌, ◌||◌, find, nat_le, nat_lt, option_and_then, option_map}
+use Rattle.std.proofs.Common.{◌≡◌, ℕ, ◌≤◌, length, Bool, true, false, not, List, Option, Some, None, inl, inr, refl, sym, ap, ◌∙◌}
+use Rattle.std.proofs.Common.{arith, is_some}
+use Rattle.std.specs.Prelude.{◌&&◌, ◌||◌, ◌==◌, ◌⊎◌, find, is_none, nat_le, nat_lt, option_and_then, option_map}
 use Rattle.std.specs.Option.{option_map_or}
+use Rattle.std.proofs.lemmas.Bool.{eqb-true}
 use Rattle.std.proofs.lemmas.Grind.{common_steps}
+use Rattle.basil_types.specs.Built.{or_else}
+use Rattle.basil_types.specs.Setting.{Setting}
 use Rattle.basil_types.specs.Transaction.{TransactionValue}
-use Rattle.basil_types.specs.declared.party.Party.TheVariants.{Client}
+use Rattle.basil_types.specs.declared.party.Party.TheVariants.{Client, Replica}
 use Rattle.cluster_run.specs.States.{State, is_faulty}
 use Rattle.cluster_run.specs.Telling.{transaction_at}
 use Rattle.schedule_replay.specs.Names.{is_begun, is_by_faulty, is_formed, is_named, is_of_faulty, number_of}
-use Rattle.schedule_replay.specs.Reasons.{is_message, misnames}
-use Rattle.schedule_text.specs.declared.line.Line.TheVariants.{Claim}
+use Rattle.schedule_replay.specs.Reasons.{CanStop, is_late_faulty, is_late_header, is_message, is_of_others, is_outside, is_stop}
+use Rattle.schedule_replay.specs.Reasons.{lacks_journal, misnames, misses, reason_of}
+use Rattle.node_steps.specs.Refusing.{when}
+use Rattle.run_journals.specs.Journals.{journal_at}
+use Rattle.keyring_lms.specs.Replay.{is_party_of}
+use Rattle.schedule_text.specs.declared.line.Line.{Line}
+use Rattle.schedule_text.specs.declared.line.Line.TheVariants.{Claim, Stop}
+use Rattle.schedule_text.specs.declared.reason.Reason.{Reason}
+use Rattle.schedule_text.specs.declared.reason.Reason.TheVariants.{CannotBeFaulty, Misspelt, NoJournal, NoMessage, OutOfRange}
+use Rattle.schedule_text.specs.declared.reason.Reason.TheVariants.{WrongName, WrongParty}
 use Rattle.schedule_replay.specs.Replays.{NamedValue, NamesValue, ReplayValue}
 
 there : {A B : Type 0} (f : A → B) (o : Option A) → is_some o ≡ is_some (option_map f o)
@@ -53,3 +65,63 @@ pub claim_misnamed : (r : ReplayValue) (name key : List ℕ) (writer : Option (L
     option_map_or (λ n. not (is_formed r n)) writer false ≡ misnames r (Claim name key writer)
 claim_misnamed r name key None b is h = sym (ap not (sym is ∙ h))
 claim_misnamed r name key (Some w) b is h = sym (ap (λ x. x || not (is_formed r w)) (ap not (sym is ∙ h)))
+
+-- ---- no reason holds
+
+no_first : {A : Type 0} (x y : Option A) → or_else x y ≡ None → y ≡ None
+no_first None y h = h
+no_first (Some a) y h = absurd cc
+
+never : (b : Bool) (reason : Reason) → when b reason ≡ None → b ≡ false
+never true reason h = absurd cc
+never false reason h = refl
+
+-- then a stopped disk has a journal
+pub lacks_none : (r : ReplayValue) (line : Line) → reason_of r line ≡ None → lacks_journal r.journals line ≡ false
+lacks_none r line h =
+    never (lacks_journal r.journals line) NoJournal
+    (no_first (when (misses r.state line) NoMessage) _
+    (no_first (when (is_of_others r line) WrongParty) _
+    (no_first (when (is_late_faulty line) CannotBeFaulty) _
+    (no_first (when (misnames r line) WrongName) _
+    (no_first (when (is_outside r.setup.cluster line) OutOfRange) _
+    (no_first (when (is_late_header line) Misspelt) _ h))))))
+
+-- ---- stops
+
+either_zero : (a b : Bool) → not a || not b ≡ false → b ≡ true
+either_zero true true h = refl
+either_zero true false h = absurd cc
+either_zero false b h = absurd cc
+
+one_of_two : (write : ℕ) → (write == 1) || (write == 2) ≡ true → (write ≡ 1) ⊎ (write ≡ 2)
+one_of_two write h = by (write == 1) refl h
+  where
+    by : (b : Bool) → (write == 1) ≡ b → b || (write == 2) ≡ true → (write ≡ 1) ⊎ (write ≡ 2)
+    by true e h = inl (eqb-true write 1 e)
+    by false e h = inr (eqb-true write 2 h)
+
+both : (a b : Bool) → a && b ≡ true → (a ≡ true) × (b ≡ true)
+both true true h = (refl, refl)
+both true false h = absurd cc
+both false b h = absurd cc
+
+-- a line that isn't outside stops a disk as it can be
+pub can_stop : (c : Setting) (line : Line) → is_outside c line ≡ false → CanStop line
+can_stop c (Stop shard replica message write bytes) h =
+    let is = either_zero (is_party_of c (Replica shard replica)) (is_stop write bytes) h in
+    let b = both ((write == 1) || (write == 2)) (nat_lt 0 (length bytes)) is in
+    (one_of_two write b.0, let some = b.1 in grind (arith, common_steps))
+can_stop c line h = tt
+
+-- ---- journals
+
+has_none : {A : Type 0} (o : Option A) (b : Bool) → b ≡ is_some o → not b ≡ is_none o
+has_none None b h = ap not h
+has_none (Some x) b h = ap not h
+
+pub lacks_at : (r : ReplayValue) (line : Line) (shard replica message write : ℕ) (bytes : List ℕ) (has : Bool) →
+    line ≡ Stop shard replica message write bytes → has ≡ is_some (journal_at r.journals shard replica) →
+    not has ≡ lacks_journal r.journals line
+lacks_at r line shard replica message write bytes has is told =
+    has_none (journal_at r.journals shard replica) has told ∙ sym (ap (lacks_journal r.journals) is)

@@ -111,17 +111,15 @@ module _ (laws : Laws) where
   nobody : (f : ℕ) → AreCounted f []
   nobody f shard = omega arith
 
-  opens : (road : Road) (number : ℕ) (c : Setting) (clock : ℕ) (journal : Bool) (kit : KitValue) (stage : Stage) → IsSetting c →
-      AreSigned kit → opened road number c clock journal kit ≡ Ok stage → IsStage stage
-  opens road number c clock true kit stage i signs h = absurd cc
-  opens road number c clock false kit stage i signs h =
-      let same : Opens (record { cluster = c; clock = clock; kit = kit }) [] road ≡ stage = cc in
-      subst IsStage same (record { setting = i; counted = nobody c.f; signed = signs })
+  opens : (road : Road) (c : Setting) (clock : ℕ) (journal : Bool) (kit : KitValue) → IsSetting c → AreSigned kit →
+      IsStage (opened road c clock journal kit)
+  opens road c clock journal kit i signs = record { setting = i; counted = nobody c.f; signed = signs }
 
   first_keeps : (road : Road) (number : ℕ) (line : Line) (stage : Stage) → Fits line →
       first_line road number line ≡ Ok stage → IsStage stage
   first_keeps road number (Header c clock keys journal) stage f h =
-      opens road number c clock journal (kit_of c keys) stage f.0 (kit_signs c keys) h
+      let same : opened road c clock journal (kit_of c keys) ≡ stage = cc in
+      subst IsStage same (opens road c clock journal (kit_of c keys) f.0 (kit_signs c keys))
   first_keeps road number Skipped stage f h = let same : Begins road ≡ stage = cc in subst IsStage same tt
   first_keeps road number line stage f h = absurd cc
 
@@ -217,13 +215,8 @@ module _ (laws : Laws) where
 
   -- ---- breaches
 
-  opened_breaks : {A : Type 0} (road : Road) (number : ℕ) (c : Setting) (clock : ℕ) (journal : Bool) (kit : KitValue) (b : Broken) →
-      opened road number c clock journal kit ≡ Err (fault.Broken b) → A
-  opened_breaks road number c clock true kit b h = absurd cc
-  opened_breaks road number c clock false kit b h = absurd cc
-
   first_breaks : {A : Type 0} (road : Road) (number : ℕ) (line : Line) (b : Broken) → first_line road number line ≡ Err (fault.Broken b) → A
-  first_breaks road number (Header c clock keys journal) b h = opened_breaks road number c clock journal (kit_of c keys) b h
+  first_breaks road number (Header c clock keys journal) b h = absurd cc
   first_breaks road number Skipped b h = absurd cc
   first_breaks road number line b h = absurd cc
 

@@ -89,12 +89,9 @@ joined_parties c faulty party parties there = by (can_join c.f faulty party)
 
 -- ---- the header
 
-pub with_kit : (road : Road) (number : ℕ) (o : code.Opening) (journal : Bool) (keys : KeysKind) →
-    journal ≡ false → kind_of keys ≡ o.keys →
-    opened road number o.cluster o.clock journal (kit_of o.cluster keys) ≡ Ok (Opens (opening_of o) [] road)
-with_kit road number o journal keys h k =
-    ap (λ b. opened road number o.cluster o.clock b (kit_of o.cluster keys)) h
-    ∙ ap (λ kind. opened road number o.cluster o.clock false (replay_value o.cluster kind)) k
+pub with_kit : (road : Road) (o : code.Opening) (keys : KeysKind) → kind_of keys ≡ o.keys →
+    opened road o.cluster o.clock o.journal (kit_of o.cluster keys) ≡ Opens (opening_of o) [] road
+with_kit road o keys k = ap (λ kind. opened road o.cluster o.clock o.journal (replay_value o.cluster kind)) k
 
 -- ---- a faulty party
 
@@ -199,7 +196,8 @@ at_road (schedules.Opens o) (Opens opening faulty other) road at = at
 at_road (schedules.Opens o) (Runs r) road at = absurd at
 at_road (schedules.Runs replay) (Begins other) road at = absurd at
 at_road (schedules.Runs replay) (Opens opening faulty other) road at = absurd at
-at_road (schedules.Runs replay) (Runs r) road at = record { cluster = at.cluster; names = at.names; shows = at.shows }
+at_road (schedules.Runs replay) (Runs r) road at =
+    record { cluster = at.cluster; names = at.names; shows = at.shows; journals = at.journals }
 
 abbrev refuses : ReplayFault → Result Stage ReplayFault
 refuses f = Err f

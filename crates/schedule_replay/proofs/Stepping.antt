@@ -1,25 +1,29 @@
 -- What a step of a course comes to.
 use Rattle.std.proofs.Common.{◌≡◌, ℕ, Bool, false, List, [], ◌++◌, Option, Some, None, refl, sym, ap, subst, ◌∙◌}
 use Rattle.std.specs.Option.{option_map_or}
-use Rattle.std.specs.Prelude.{Result, Ok, Err, option_map}
+use Rattle.std.specs.Prelude.{◌<◌, ◌⊎◌, Result, Ok, Err, is_none, is_some, length, option_map, true}
 use Rattle.std.specs.Result.{IsErrAnd}
 use Rattle.basil_types.specs.Steps.{◌>>=◌}
-use Rattle.basil_types.specs.declared.party.Party.{Party}
-use Rattle.cluster_run.specs.Events.{EventValue, happens}
+use Rattle.cluster_run.specs.Events.{EventValue}
 use Rattle.cluster_run.specs.Parts.{Mail}
 use Rattle.cluster_run.specs.States.{Posted, State, posted_at}
 use Rattle.cluster_run.specs.Telling.{as_mail, mail_at}
 use Rattle.cluster_run.specs.declared.fault.WorldFault.{WorldFault}
 use Rattle.cluster_run.specs.declared.fault.WorldFault.TheVariants as world
-use Rattle.cluster_world.specs.Comes.{Comes}
 use Rattle.cluster_world.specs.declared.fault.StepFault.{StepFault}
 use Rattle.cluster_world.specs.declared.fault.StepFault.TheVariants as step
+use Rattle.cluster_world.specs.Shows.{Shows}
+use Rattle.journaled_runs.specs.Journaling.{JournaledState, happens_in, stops_in}
+use Rattle.journaled_runs.specs.Shown.{ComesTo, KeepsAll}
+use Rattle.replay_kit.specs.Made.{kit_value}
+use Rattle.run_journals.specs.Journals.{journal_at}
 use Rattle.schedule_text.specs.declared.line.Line.{Line}
-use Rattle.schedule_text.specs.declared.line.Line.TheVariants.{Round, Deliver, Divert}
+use Rattle.schedule_text.specs.declared.line.Line.TheVariants.{Round, Deliver, Divert, Stop}
 use Rattle.schedule_replay.proofs.RoadLaws.{behind_gift, no_gift}
-use Rattle.schedule_replay.specs.Events.{event_of, frame_at, gifts, given_to, happen, line_does, road_behind, round_of}
-use Rattle.schedule_replay.specs.Replays.{ReplayValue, along}
-use Rattle.schedule_replay.specs.Roads.{Road, gift, handed, road_with}
+use Rattle.schedule_replay.specs.Events.{event_of, frame_at, gifts, given_to, happen, line_does, one_does, road_behind, round_of}
+use Rattle.schedule_replay.specs.Reasons.{CanStop, lacks_journal}
+use Rattle.schedule_replay.specs.Replays.{ReplayValue, along, journaled, led}
+use Rattle.schedule_replay.specs.Roads.{Road, road_with}
 use Rattle.schedule_replay.specs.Shown.{Does, Goes, IsOfRoad, Stands, halt_of}
 use Rattle.schedule_replay.specs.declared.course.Course.{Course}
 use Rattle.schedule_replay.specs.declared.fault.Halt.{Halt}
@@ -27,19 +31,35 @@ use Rattle.schedule_replay.specs.declared.fault.Halt.TheVariants as halt
 
 -- ---- an event
 
--- the world does what the event comes to, and the rest is as before
-module _ (r : ReplayValue) (old new : Course) (answer : Result State WorldFault) (h : Stands old r) (cluster : new.cluster ≡ old.cluster)
-    (names : new.names ≡ old.names) where
-  pub stepped : (x : Result (Unit {0}) StepFault) → Comes r.setup r.state answer new.world.core x → Goes answer r new x
-  stepped (Ok done) comes =
-      (comes.0, comes.1, record { cluster = h.cluster ∙ sym cluster; names = h.names ∙ sym names; shows = comes.2 })
+-- the same replay by another road
+pub stands_led : (course : Course) (r : ReplayValue) (x : JournaledState) (here there : Road) → Stands course (led here x r) →
+    Stands course (led there x r)
+stands_led course r x here there h = record { cluster = h.cluster; names = h.names; shows = h.shows; journals = h.journals }
+
+-- the world and the journals do what the event comes to, and the rest is as before
+module _ (r : ReplayValue) (old new : Course) (answer : Result JournaledState WorldFault) (h : Stands old r)
+    (cluster : new.cluster ≡ old.cluster) (names : new.names ≡ old.names) (kit : new.world.kit ≡ old.world.kit) where
+  now : (x : JournaledState) → Shows r.setup new.world.core x.state → KeepsAll r.setup (kit_value old.world.kit) new.journals x →
+      Stands new (led r.road x r)
+  now x shows keeps = record {
+    cluster = h.cluster ∙ sym cluster;
+    names = h.names ∙ sym names;
+    shows = shows;
+    journals = subst (λ k. KeepsAll r.setup (kit_value k) new.journals x) (sym kit) keeps;
+  }
+
+  pub stepped : (x : Result (Unit {0}) StepFault) →
+      ComesTo r.setup (kit_value old.world.kit) (journaled r) answer new.world.core new.journals x → Goes answer r new x
+  stepped (Ok done) comes = (comes.0, comes.1, now comes.0 comes.2 comes.3)
   stepped (Err (step.World (world.Broken b))) comes = comes
   stepped (Err (step.World (world.PoolFull messages bytes))) comes = comes.0
-  stepped (Err (step.World (world.Call f))) comes =
-      (comes.0, record { cluster = h.cluster ∙ sym cluster; names = h.names ∙ sym names; shows = comes.1 })
-  stepped (Err (step.World (world.Exhausted party))) comes =
-      (comes.0, record { cluster = h.cluster ∙ sym cluster; names = h.names ∙ sym names; shows = comes.1 })
+  stepped (Err (step.World (world.Call f))) comes = (comes.0, now (journaled r) comes.1 comes.2)
+  stepped (Err (step.World (world.Exhausted party))) comes = (comes.0, now (journaled r) comes.1 comes.2)
   stepped (Err step.NoMemory) comes = tt
+
+pub has_one : {A : Type 0} (o : Option A) → is_none o ≡ false → is_some o ≡ true
+has_one None h = absurd cc
+has_one (Some x) h = refl
 
 -- ---- the bytes of a message
 
@@ -56,16 +76,9 @@ frame_is told st message e = ap frame_told e ∙ frame_posted (posted_at st mess
 -- ---- what is handed over
 
 pub stands_along : (course : Course) (r : ReplayValue) (road : Road) → Stands course r → Stands course (along road r)
-stands_along course r road h = record { cluster = h.cluster; names = h.names; shows = h.shows }
+stands_along course r road h = record { cluster = h.cluster; names = h.names; shows = h.shows; journals = h.journals }
 
 module _ (carried : Bool) (line : Line) (given : List ℕ) where
-  -- what links give to a delivery
-  pub gifts_are : (message : ℕ) → line ≡ Deliver message → gifts carried line given ≡ gift carried given
-  gifts_are message is = ap (λ l. gifts carried l given) is
-
-  pub gifts_diverted : (message : ℕ) (to : Party) → line ≡ Divert message to → gifts carried line given ≡ gift carried given
-  gifts_diverted message to is = ap (λ l. gifts carried l given) is
-
   pub behind_gifts : (later : List (List ℕ)) →
       road_behind line (road_with carried (gifts carried line given ++ later)) ≡ road_with carried later
   behind_gifts later = by line
@@ -73,6 +86,7 @@ module _ (carried : Bool) (line : Line) (given : List ℕ) where
       by : (line : Line) → road_behind line (road_with carried (gifts carried line given ++ later)) ≡ road_with carried later
       by (Deliver message) = behind_gift carried given later
       by (Divert message to) = behind_gift carried given later
+      by (Stop shard replica message write bytes) = behind_gift carried given later
       by line = refl
 
   pub no_gifts : carried ≡ false → gifts carried line given ≡ []
@@ -81,35 +95,8 @@ module _ (carried : Bool) (line : Line) (given : List ℕ) where
       by : (line : Line) → gifts carried line given ≡ []
       by (Deliver message) = no_gift carried given h
       by (Divert message to) = no_gift carried given h
+      by (Stop shard replica message write bytes) = no_gift carried given h
       by line = refl
-
-module _ (r : ReplayValue) (carried : Bool) (line : Line) (message : ℕ) (frame given : List ℕ) (later : List (List ℕ))
-    (read : frame ≡ frame_at r.state message) (gave : given ≡ handed (road_with carried (gift carried given ++ later)) frame) where
-  abbrev IsGiven : Line → Type 0
-  IsGiven l = given ≡ given_to (along (road_with carried (gifts carried l given ++ later)) r) l
-
-  here : given ≡ handed (road_with carried (gift carried given ++ later)) (frame_at r.state message)
-  here = gave ∙ ap (handed (road_with carried (gift carried given ++ later))) read
-
-  pub delivered_is : line ≡ Deliver message → IsGiven line
-  delivered_is is = subst IsGiven (sym is) here
-
-  pub diverted_is : (to : Party) → line ≡ Divert message to → IsGiven line
-  diverted_is to is = subst IsGiven (sym is) here
-
--- of another line nothing
-pub rest_given : (r : ReplayValue) (carried : Bool) (line : Line) (given : List ℕ) (later : List (List ℕ)) → given ≡ [] →
-    ((message : ℕ) → line ≡ Deliver message → ⊥) → ((message : ℕ) (to : Party) → line ≡ Divert message to → ⊥) →
-    given ≡ given_to (along (road_with carried (gifts carried line given ++ later)) r) line
-rest_given r carried (Deliver message) given later none d e = absurd (d message refl)
-rest_given r carried (Divert message to) given later none d e = absurd (e message to refl)
-rest_given r carried line given later none d e = none
-
-pub rest_gifts : (carried : Bool) (line : Line) (given : List ℕ) → ((message : ℕ) → line ≡ Deliver message → ⊥) →
-    ((message : ℕ) (to : Party) → line ≡ Divert message to → ⊥) → gifts carried line given ≡ []
-rest_gifts carried (Deliver message) given d e = absurd (d message refl)
-rest_gifts carried (Divert message to) given d e = absurd (e message to refl)
-rest_gifts carried line given d e = refl
 
 -- ---- a call that did nothing
 
@@ -146,18 +133,18 @@ abbrev Halted : Result (Unit {0}) StepFault → Result (Unit {0}) Halt
 Halted (Ok done) = Ok done
 Halted (Err e) = Err (halt_of e)
 
-module _ (r : ReplayValue) (course : Course) (answer : Result State WorldFault) (road left : Road) where
+module _ (r : ReplayValue) (course : Course) (answer : Result JournaledState WorldFault) (road left : Road) where
   abbrev Answer : Result ReplayValue WorldFault
-  Answer = answer >>= λ st. Ok (record r { state = st; road = road })
+  Answer = answer >>= λ x. Ok (led road x r)
 
   fails : (f : WorldFault) → answer ≡ Err f → Answer ≡ Err f
-  fails f e = ap (λ (x : Result State WorldFault). x >>= λ st. Ok (record r { state = st; road = road })) e
+  fails f e = ap (λ (a : Result JournaledState WorldFault). a >>= λ x. Ok (led road x r)) e
 
   pub event_done : (done : Unit {0}) → road ≡ left → Goes answer r course (Ok done) → Does [] Answer r course (Ok tt) left
   event_done done same goes = (
-    record r { state = goes.0; road = road },
-    ap (λ (x : Result State WorldFault). x >>= λ st. Ok (record r { state = st; road = road })) goes.1,
-    record { cluster = goes.2.cluster; names = goes.2.names; shows = goes.2.shows },
+    led road goes.0 r,
+    ap (λ (a : Result JournaledState WorldFault). a >>= λ x. Ok (led road x r)) goes.1,
+    stands_led course r goes.0 r.road road goes.2,
     same,
   )
 
@@ -177,53 +164,71 @@ module _ (r : ReplayValue) (course : Course) (answer : Result State WorldFault) 
 
 -- ---- another line than a round
 
--- the event that was made is that of the line
-pub same_event : (q : ReplayValue) (course : Course) (line : Line) (o : Option EventValue) (given : List ℕ) →
-    o ≡ event_of course.names given line → given ≡ given_to q line → q.names ≡ course.names →
-    o ≡ event_of q.names (given_to q line) line
-same_event q course line o given made is names =
-    made ∙ (ap (λ g. event_of course.names g line) is ∙ ap (λ n. event_of n (given_to q line) line) (sym names))
-
 pub rest_does : (r : ReplayValue) (line : Line) → (line ≡ Round → ⊥) →
-    line_does r line ≡ (happen r.setup r.state (event_of r.names (given_to r line) line)
-    >>= λ st. Ok (record r { state = st; road = road_behind line r.road }))
+    line_does r line ≡ (one_does r (given_to r line) line >>= λ x. Ok (led (road_behind line r.road) x r))
 rest_does r Round h = absurd (h refl)
 rest_does r line h = refl
 
-module _ (q : ReplayValue) (line : Line) (course : Course) (o : Option EventValue) (left : Road) (single : line ≡ Round → ⊥)
-    (same : o ≡ event_of q.names (given_to q line) line) (behind : road_behind line q.road ≡ left) where
-  abbrev After : Result State WorldFault → Result ReplayValue WorldFault
-  After answer = answer >>= λ st. Ok (record q { state = st; road = road_behind line q.road })
+module _ (q : ReplayValue) (line : Line) (course : Course) (given : List ℕ) (left : Road) (single : line ≡ Round → ⊥)
+    (is : given ≡ given_to q line) (behind : road_behind line q.road ≡ left) where
+  abbrev After : Result JournaledState WorldFault → Result ReplayValue WorldFault
+  After answer = answer >>= λ x. Ok (led (road_behind line q.road) x q)
 
-  turn : (result : Result (Unit {0}) Halt) → Does (round_of q line) (After (happen q.setup q.state o)) q course result left →
+  turn : (result : Result (Unit {0}) Halt) → Does (round_of q line) (After (one_does q given line)) q course result left →
       Does (round_of q line) (line_does q line) q course result left
   turn result d =
       subst (λ a. Does (round_of q line) a q course result left)
-      (ap (λ x. After (happen q.setup q.state x)) same ∙ sym (rest_does q line single)) d
+      (ap (λ g. After (one_does q g line)) is ∙ sym (rest_does q line single)) d
 
-  pub happened : (e : EventValue) → o ≡ Some e → Goes (happens q.setup e q.state) q course (Ok tt) →
-      Does (round_of q line) (line_does q line) q course (Ok tt) left
-  happened e is goes =
-      turn (Ok tt)
-      (subst (λ x. Does (round_of q line) (After (happen q.setup q.state x)) q course (Ok tt) left) (sym is)
-      (event_done q course (happens q.setup e q.state) (road_behind line q.road) left tt behind goes))
+  pub line_done : Goes (one_does q given line) q course (Ok tt) → Does (round_of q line) (line_does q line) q course (Ok tt) left
+  line_done goes = turn (Ok tt) (event_done q course (one_does q given line) (road_behind line q.road) left tt behind goes)
 
-  pub happened_not : (e : EventValue) (x : StepFault) (result : Result (Unit {0}) Halt) → o ≡ Some e →
-      IsErrAnd result (λ y. y ≡ halt_of x) → Goes (happens q.setup e q.state) q course (Err x) →
-      Does (round_of q line) (line_does q line) q course result left
-  happened_not e x (Ok done) is h goes = absurd h
-  happened_not e x (Err y) is h goes =
+  pub line_failed : (x : StepFault) (result : Result (Unit {0}) Halt) → IsErrAnd result (λ y. y ≡ halt_of x) →
+      Goes (one_does q given line) q course (Err x) → Does (round_of q line) (line_does q line) q course result left
+  line_failed x (Ok done) h goes = absurd h
+  line_failed x (Err y) h goes =
       subst (λ z. Does (round_of q line) (line_does q line) q course (Err z) left) (sym h)
       (turn (Err (halt_of x))
-      (subst (λ z. Does (round_of q line) (After (happen q.setup q.state z)) q course (Err (halt_of x)) left) (sym is)
-      (event_refused q course (happens q.setup e q.state) (road_behind line q.road) left (round_of q line) x goes)))
+      (event_refused q course (one_does q given line) (road_behind line q.road) left (round_of q line) x goes))
 
-  pub nothing_happened : o ≡ None → Stands course q → Does (round_of q line) (line_does q line) q course (Ok tt) left
-  nothing_happened is stands =
-      turn (Ok tt)
-      (subst (λ x. Does (round_of q line) (After (happen q.setup q.state x)) q course (Ok tt) left) (sym is) (
-        record q { road = road_behind line q.road },
-        refl,
-        record { cluster = stands.cluster; names = stands.names; shows = stands.shows },
-        behind,
-      ))
+-- ---- what a line but a round comes to
+
+-- it stops no disk
+abbrev pub IsNoStop : Line → Type 0
+IsNoStop line = (shard replica message write : ℕ) (bytes : List ℕ) → line ≡ Stop shard replica message write bytes → ⊥
+
+no_stop : (r : ReplayValue) (given : List ℕ) (line : Line) → IsNoStop line →
+    one_does r given line ≡ happen r.setup (journaled r) (event_of r.names given line)
+no_stop r given (Stop shard replica message write bytes) h = absurd (h shard replica message write bytes refl)
+no_stop r given line h = refl
+
+module _ (r : ReplayValue) (course : Course) (given : List ℕ) (line : Line) (names : r.names ≡ course.names) (rest : IsNoStop line)
+    (o : Option EventValue) (made : o ≡ event_of course.names given line) where
+  by_event : happen r.setup (journaled r) o ≡ one_does r given line
+  by_event =
+      ap (happen r.setup (journaled r)) (made ∙ ap (λ n. event_of n given line) (sym names)) ∙ sym (no_stop r given line rest)
+
+  pub one_happened : (new : Course) (e : EventValue) (result : Result (Unit {0}) StepFault) → o ≡ Some e →
+      Goes (happens_in r.setup e (journaled r)) r new result → Goes (one_does r given line) r new result
+  one_happened new e result is goes =
+      subst (λ a. Goes a r new result) (ap (happen r.setup (journaled r)) (sym is) ∙ by_event) goes
+
+  pub one_idle : (new : Course) → o ≡ None → Stands new r → Goes (one_does r given line) r new (Ok tt)
+  one_idle new is stands = (journaled r, sym by_event ∙ ap (happen r.setup (journaled r)) is, stands)
+
+-- ---- a stop
+
+module _ (shard replica message write : ℕ) (bytes : List ℕ) (line : Line) (is : line ≡ Stop shard replica message write bytes) where
+  pub stops_so : CanStop line → ((write ≡ 1) ⊎ (write ≡ 2)) × (0 < length bytes)
+  stops_so can = subst CanStop is can
+
+  pub has_journal : (r : ReplayValue) → lacks_journal r.journals line ≡ false → is_none (journal_at r.journals shard replica) ≡ false
+  has_journal r has = subst (λ l. lacks_journal r.journals l ≡ false) is has
+
+  pub one_stops : (r : ReplayValue) (new : Course) (given copy : List ℕ) (result : Result (Unit {0}) StepFault) → copy ≡ bytes →
+      Goes (stops_in r.setup message shard replica (record { write = write; bytes = copy }) given (journaled r)) r new result →
+      Goes (one_does r given line) r new result
+  one_stops r new given copy result same goes =
+      subst (λ l. Goes (one_does r given l) r new result) (sym is)
+      (subst (λ b. Goes (stops_in r.setup message shard replica (record { write = write; bytes = b }) given (journaled r)) r new result)
+      same goes)

@@ -4,17 +4,18 @@ use Rattle.std.specs.Prelude.{None, option_and_then, option_map, Result, Ok, if�
 use Rattle.std.specs.Option.{option_map_or}
 use Rattle.basil_types.specs.Steps.{◌>>=◌}
 use Rattle.cluster_run.specs.Events as events
-use Rattle.cluster_run.specs.Events.{EventValue, happens}
+use Rattle.cluster_run.specs.Events.{EventValue}
 use Rattle.cluster_run.specs.States.{Posted, Setup, State, posted_at}
 use Rattle.cluster_run.specs.declared.fault.WorldFault.{WorldFault}
+use Rattle.journaled_runs.specs.Journaling.{JournaledState, happens_in, stops_in}
 use Rattle.message_pool.specs.Posts.{is_waiting}
 use Rattle.schedule_text.specs.declared.line.Line.{Line}
 use Rattle.schedule_text.specs.declared.line.Line.TheVariants.{Begin, Read, Write, Delete, Claim}
 use Rattle.schedule_text.specs.declared.line.Line.TheVariants.{Prepare, Settle, Recover, Invoke, Round}
 use Rattle.schedule_text.specs.declared.line.Line.TheVariants.{Deliver, Lose, Divert, Clock, Vote}
-use Rattle.schedule_text.specs.declared.line.Line.TheVariants.{Second, Logged, Elect, Decide, Raw, Show}
+use Rattle.schedule_text.specs.declared.line.Line.TheVariants.{Second, Logged, Elect, Decide, Raw, Show, Stop}
 use Rattle.schedule_replay.specs.Names.{number_of}
-use Rattle.schedule_replay.specs.Replays.{NamesValue, ReplayValue}
+use Rattle.schedule_replay.specs.Replays.{NamesValue, ReplayValue, journaled, led}
 use Rattle.schedule_replay.specs.Roads.{Road, behind_one, gift, handed}
 
 -- a message's own bytes
@@ -35,18 +36,21 @@ claim_of names name key (Some writer) =
 abbrev pub given_to : ReplayValue → Line → List ℕ
 given_to r (Deliver message) = handed r.road (frame_at r.state message)
 given_to r (Divert message to) = handed r.road (frame_at r.state message)
+given_to r (Stop shard replica message write bytes) = handed r.road (frame_at r.state message)
 given_to r _ = []
 
 -- what links give to a line that hands over these bytes
 abbrev pub gifts : (carried : Bool) → Line → (given : List ℕ) → List (List ℕ)
 gifts carried (Deliver message) given = gift carried given
 gifts carried (Divert message to) given = gift carried given
+gifts carried (Stop shard replica message write bytes) given = gift carried given
 gifts carried _ given = []
 
 -- the road behind a line that has one event alone
 abbrev pub road_behind : Line → Road → Road
 road_behind (Deliver message) road = behind_one road
 road_behind (Divert message to) road = behind_one road
+road_behind (Stop shard replica message write bytes) road = behind_one road
 road_behind _ road = road
 
 -- the event of a line that has one alone; what is delivered or diverted is handed over as these bytes
@@ -93,8 +97,8 @@ waiting st = waiting_from 1 st.pool
 -- a message is delivered
 abbrev pub deliver : ReplayValue → (message : ℕ) → Result ReplayValue WorldFault
 deliver r message =
-    happens r.setup (events.Deliver message (handed r.road (frame_at r.state message))) r.state
-    >>= λ st. Ok (record r { state = st; road = behind_one r.road })
+    happens_in r.setup (events.Deliver message (handed r.road (frame_at r.state message))) (journaled r)
+    >>= λ x. Ok (led (behind_one r.road) x r)
 
 -- these messages are delivered, one after another
 abbrev pub deliver_all : List ℕ → ReplayValue → Result ReplayValue WorldFault
@@ -108,12 +112,16 @@ round_of r line = []
 
 -- ---- what a line's events come to: a round delivers each message that waits when the line begins
 
-abbrev pub happen : Setup → State → Option EventValue → Result State WorldFault
-happen s st None = Ok st
-happen s st (Some event) = happens s event st
+abbrev pub happen : Setup → JournaledState → Option EventValue → Result JournaledState WorldFault
+happen s x None = Ok x
+happen s x (Some event) = happens_in s event x
+
+-- another line: a stop hands a message to a replica whose disk stops; the others have one event alone
+abbrev pub one_does : ReplayValue → (given : List ℕ) → Line → Result JournaledState WorldFault
+one_does r given (Stop shard replica message write bytes) =
+    stops_in r.setup message shard replica (record { write = write; bytes = bytes }) given (journaled r)
+one_does r given line = happen r.setup (journaled r) (event_of r.names given line)
 
 abbrev pub line_does : ReplayValue → Line → Result ReplayValue WorldFault
 line_does r Round = deliver_all (waiting r.state) r
-line_does r line =
-    happen r.setup r.state (event_of r.names (given_to r line) line)
-    >>= λ st. Ok (record r { state = st; road = road_behind line r.road })
+line_does r line = one_does r (given_to r line) line >>= λ x. Ok (led (road_behind line r.road) x r)

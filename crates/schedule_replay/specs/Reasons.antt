@@ -1,5 +1,5 @@
 -- Why a line is refused before its events, where its own tokens are in the grammar.
-use Rattle.std.specs.Prelude.{ℕ, Bool, true, false, not, ◌&&◌, ◌||◌, Option, Some, None, length, nat_le, nat_lt}
+use Rattle.std.specs.Prelude.{◌≡◌, ◌<◌, ◌⊎◌, ◌==◌, ℕ, ⊤, Bool, true, false, not, ◌&&◌, ◌||◌, Option, Some, None, is_none, List, length, nat_le, nat_lt}
 use Rattle.basil_types.specs.Built.{or_else}
 use Rattle.basil_types.specs.Setting.{Setting}
 use Rattle.basil_types.specs.declared.party.Party.TheVariants.{Replica, Client}
@@ -7,6 +7,7 @@ use Rattle.cluster_run.specs.States.{State, is_faulty}
 use Rattle.keyring_lms.specs.Replay.{is_party_of}
 use Rattle.node_steps.specs.Refusing.{when}
 use Rattle.quorum_laws.specs.Numbers.{replicas}
+use Rattle.run_journals.specs.Journals.{JournalValue, journal_at}
 use Rattle.schedule_text.specs.declared.line.Line.{Line}
 use Rattle.schedule_text.specs.declared.line.Line.TheVariants.{Header, Faulty, Begin, Read, Write, Delete}
 use Rattle.schedule_text.specs.declared.line.Line.TheVariants.{Claim, Prepare, Settle, Recover, Invoke}
@@ -23,7 +24,16 @@ abbrev pub is_late_header : Line → Bool
 is_late_header (Header cluster clock keys journal) = true
 is_late_header _ = false
 
--- reason 3: the cluster has no such replica
+-- a disk stops within one of the two writes of a record, and leaves some bytes there
+abbrev pub is_stop : (write : ℕ) → (bytes : List ℕ) → Bool
+is_stop write bytes = ((write == 1) || (write == 2)) && nat_lt 0 (length bytes)
+
+-- where a line stops a disk, it does so
+abbrev pub CanStop : Line → Type 0
+CanStop (Stop shard replica message write bytes) = ((write ≡ 1) ⊎ (write ≡ 2)) × (0 < length bytes)
+CanStop _ = ⊤
+
+-- reason 3: the cluster has no such replica, or no disk stops so
 abbrev pub is_outside : Setting → Line → Bool
 is_outside c (Faulty party) = not (is_party_of c party)
 is_outside c (Divert message to) = not (is_party_of c to)
@@ -36,7 +46,8 @@ is_outside c (Elect shard replica name decision view) = not (is_party_of c (Repl
 is_outside c (Decide shard replica name decision view to) =
     not (is_party_of c (Replica shard replica)) || not (is_party_of c (Replica shard to))
 is_outside c (Raw from to frame) = not (is_party_of c from) || not (is_party_of c to)
-is_outside c (Stop shard replica message write bytes) = not (is_party_of c (Replica shard replica))
+is_outside c (Stop shard replica message write bytes) =
+    not (is_party_of c (Replica shard replica)) || not (is_stop write bytes)
 is_outside c _ = false
 
 -- reason 4: a name that isn't begun, is begun twice, or isn't formed where it must be
@@ -91,10 +102,10 @@ misses st (Divert message to) = not (is_message st message)
 misses st (Stop shard replica message write bytes) = not (is_message st message)
 misses st _ = false
 
--- reason 11: a disk is stopped where no replica has a journal
-abbrev pub is_stop : Line → Bool
-is_stop (Stop shard replica message write bytes) = true
-is_stop _ = false
+-- reason 11: a disk is stopped of a replica that keeps no journal
+abbrev pub lacks_journal : List JournalValue → Line → Bool
+lacks_journal journals (Stop shard replica message write bytes) = is_none (journal_at journals shard replica)
+lacks_journal journals _ = false
 
 -- the first reason that holds
 abbrev pub reason_of : ReplayValue → Line → Option Reason
@@ -104,4 +115,4 @@ reason_of r line =
     (or_else (when (misnames r line) WrongName)
     (or_else (when (is_late_faulty line) CannotBeFaulty)
     (or_else (when (is_of_others r line) WrongParty)
-    (or_else (when (misses r.state line) NoMessage) (when (is_stop line) NoJournal))))))
+    (or_else (when (misses r.state line) NoMessage) (when (lacks_journal r.journals line) NoJournal))))))

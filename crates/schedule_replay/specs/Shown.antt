@@ -1,12 +1,14 @@
 -- What a replay shows.
 use Rattle.std.specs.Prelude.{◌≡◌, ℕ, List, ◌++◌, Bool, true, false, ⊤, Option, Result, Ok, Err}
 use Rattle.basil_types.specs.Links.{LinkState}
-use Rattle.cluster_run.specs.States.{State}
 use Rattle.cluster_run.specs.declared.fault.WorldFault.{WorldFault}
 use Rattle.cluster_run.specs.declared.fault.WorldFault.TheVariants as world
 use Rattle.cluster_world.specs.declared.fault.StepFault.{StepFault}
 use Rattle.cluster_world.specs.declared.fault.StepFault.TheVariants as step
 use Rattle.cluster_world.specs.Shows.{Shows}
+use Rattle.journaled_runs.specs.Journaling.{JournaledState}
+use Rattle.journaled_runs.specs.Shown.{KeepsAll}
+use Rattle.replay_kit.specs.Made.{kit_value}
 use Rattle.replay_kit.specs.Values.{replay_value}
 use Rattle.schedule_text.specs.declared.line.Line.{Line}
 use Rattle.schedule_text.specs.declared.line.Line.TheVariants.{Begin}
@@ -20,18 +22,20 @@ use Rattle.schedule_replay.specs.declared.fault.ReplayFault.TheVariants.{LinkFau
 use Rattle.schedule_replay.specs.declared.replay.Opening as code
 use Rattle.schedule_replay.specs.Events.{deliver_all}
 use Rattle.schedule_replay.specs.Names.{is_begun}
-use Rattle.schedule_replay.specs.Replays.{NamesValue, Opening, ReplayValue, along}
+use Rattle.schedule_replay.specs.Replays.{NamesValue, Opening, ReplayValue, along, journaled, led}
 use Rattle.schedule_replay.specs.Roads.{Carries, Road, road_with}
 
--- a replay shows these names, and a state of a run
+-- a replay shows these names, and a state of a run with these journals
 pub record Stands (course : Course) (r : ReplayValue) : Type 0 where
   pub cluster : r.setup.cluster ≡ course.cluster
   pub names : r.names ≡ course.names
   pub shows : Shows r.setup course.world.core r.state
+  pub journals : KeepsAll r.setup (kit_value course.world.kit) course.journals (journaled r)
 
 -- what a header opens
 abbrev pub opening_of : code.Opening → Opening
-opening_of o = record { cluster = o.cluster; clock = o.clock; kit = replay_value o.cluster o.keys }
+opening_of o =
+    record { cluster = o.cluster; clock = o.clock; kit = replay_value o.cluster o.keys; journal = o.journal }
 
 -- a call comes to what it should, by every road that begins with what its links gave
 abbrev pub ByRoads : (carried : Bool) → (old new : Option LinkState) → Course → (ReplayValue → Road → Type 0) → Type 0
@@ -41,9 +45,9 @@ ByRoads carried old new course Should = Carries carried old new (λ gave.
 
 -- ---- events
 
--- an event comes to this: the world shows it, and the names are as before; a refusal is that
-abbrev pub Goes : Result State WorldFault → ReplayValue → Course → Result (Unit {0}) StepFault → Type 0
-Goes answer r course (Ok done) = (st : State) × (answer ≡ Ok st) × Stands course (record r { state = st })
+-- an event comes to this: the world and the journals show it, and the names are as before; a refusal is that
+abbrev pub Goes : Result JournaledState WorldFault → ReplayValue → Course → Result (Unit {0}) StepFault → Type 0
+Goes answer r course (Ok done) = (x : JournaledState) × (answer ≡ Ok x) × Stands course (led r.road x r)
 Goes answer r course (Err (step.World (world.Broken b))) = answer ≡ Err (world.Broken b)
 Goes answer r course (Err (step.World (world.PoolFull messages bytes))) = answer ≡ Err (world.PoolFull messages bytes)
 Goes answer r course (Err (step.World (world.Call f))) = (answer ≡ Err (world.Call f)) × Stands course r

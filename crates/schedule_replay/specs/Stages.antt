@@ -1,5 +1,5 @@
 -- The stages of a schedule, and its lines.
-use Rattle.std.specs.Prelude.{◌≡◌, ℕ, ◌+◌, List, [], ◌∷◌, ◌++◌, Bool, true, false, not}
+use Rattle.std.specs.Prelude.{◌≡◌, ℕ, ◌+◌, List, [], ◌∷◌, ◌++◌, Bool, true, not}
 use Rattle.std.specs.Prelude.{Option, option_map, Result, Ok, Err, if◌then◌else◌}
 use Rattle.basil_types.specs.Built.{or_else}
 use Rattle.basil_types.specs.Setting.{Setting}
@@ -15,7 +15,7 @@ use Rattle.schedule_text.specs.declared.line.Line.TheVariants.{Header, Skipped, 
 use Rattle.schedule_text.specs.declared.line.LineFault.{LineFault}
 use Rattle.schedule_text.specs.declared.line.LineFault.TheVariants as line_fault
 use Rattle.schedule_text.specs.declared.reason.Reason.{Reason}
-use Rattle.schedule_text.specs.declared.reason.Reason.TheVariants.{NoHeader, OutOfRange, CannotBeFaulty, NotBuilt}
+use Rattle.schedule_text.specs.declared.reason.Reason.TheVariants.{NoHeader, OutOfRange, CannotBeFaulty}
 use Rattle.schedule_replay.specs.Kits.{kit_of}
 use Rattle.schedule_replay.specs.Lines.{line_step, bad_line}
 use Rattle.schedule_replay.specs.Replays.{Opening, ReplayValue, along, first_replay}
@@ -46,14 +46,13 @@ on_road road (Runs r) = Runs (along road r)
 
 -- ---- the header
 
--- a journal is reason 10
-abbrev pub opened : Road → (number : ℕ) → Setting → (clock : ℕ) → (journal : Bool) → KitValue → Result Stage ReplayFault
-opened road number c clock true kit = Err (BadInput number NotBuilt)
-opened road number c clock false kit = Ok (Opens (record { cluster = c; clock = clock; kit = kit }) [] road)
+abbrev pub opened : Road → Setting → (clock : ℕ) → (journal : Bool) → KitValue → Stage
+opened road c clock journal kit =
+    Opens (record { cluster = c; clock = clock; kit = kit; journal = journal }) [] road
 
 abbrev pub first_line : Road → (number : ℕ) → Line → Result Stage ReplayFault
 first_line road number (Header cluster clock keys journal) =
-    opened road number cluster clock journal (kit_of cluster keys)
+    Ok (opened road cluster clock journal (kit_of cluster keys))
 first_line road number Skipped = Ok (Begins road)
 first_line road number _ = Err (BadInput number NoHeader)
 

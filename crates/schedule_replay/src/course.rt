@@ -1,14 +1,20 @@
 //! The course of a replay: what lines do to a world and to the names of its transactions.
 
-ghost use Rattle.std.specs.Prelude.{◌≡◌, ◌<◌, ◌++◌, [], ℕ, List, true, false};
-ghost use Rattle.std.specs.Prelude.{IfErr, IfOk, IfSome, OnErr, OnOk, option_map};
-ghost use Rattle.cluster_run.specs.Events as events;
+ghost use Rattle.std.specs.Prelude.{◌≡◌, ◌<◌, ◌⊎◌, ◌++◌, [], ℕ, List, length, true, false};
+ghost use Rattle.std.specs.Prelude.{IfErr, IfOk, IfSome, OnErr, OnOk, is_none, option_map};
 ghost use Rattle.cluster_world.specs.EventValues.{event_value};
 ghost use Rattle.cluster_world.specs.Worlds.{is_end};
+ghost use Rattle.cluster_run.specs.States.{Setup, start};
+ghost use Rattle.cluster_world.specs.Shows.{Shows};
+ghost use Rattle.journaled_runs.specs.Journaling.{first_state, happens_in, stops_in};
+ghost use Rattle.journaled_runs.specs.Shown.{KeepsAll};
+ghost use Rattle.replay_kit.specs.Made.{kit_value};
 ghost use Rattle.message_pool.specs.Posts as posts;
 ghost use Rattle.schedule_replay.specs.Events as lines;
 ghost use Rattle.schedule_replay.specs.Lines.{line_step, names_after};
-ghost use Rattle.schedule_replay.specs.Replays.{ReplayValue, along};
+ghost use Rattle.run_journals.specs.Journals.{journal_at};
+ghost use Rattle.schedule_replay.specs.Reasons.{CanStop, lacks_journal};
+ghost use Rattle.schedule_replay.specs.Replays.{ReplayValue, along, journaled};
 ghost use Rattle.schedule_replay.specs.Roads.{Uses, carries_all, road_with};
 ghost use Rattle.schedule_replay.specs.Shown.{ByRoads, CanName, Did, Does, Goes, IsOfRoad, Stands};
 ghost use Rattle.schedule_replay.specs.Shown.{ends_by, ends_world, failed_by_link, fault_by, is_link_fault};
@@ -18,6 +24,7 @@ use crate::events::event_of;
 use crate::fault::{Halt, ReplayFault};
 use crate::names::Names;
 use crate::road::hand_over;
+use basil_types::bytes::Bytes;
 use basil_types::cluster::Cluster;
 use basil_types::links::Links;
 use basil_types::memory::NoMemory;
@@ -25,17 +32,21 @@ use cluster_run::fault::WorldFault;
 use cluster_world::event::Event;
 use cluster_world::fault::StepFault;
 use cluster_world::world::World;
-use replay_kit::ReplayKit;
+use journal_disk::disk::Stop;
+use journaled_runs::{begin_journals, no_journals};
+use replay_kit::{ReplayKit, ReplayPen, ReplayRing};
+use run_journals::Journals;
 use schedule_text::line::Line;
 use schedule_text::reason::Reason;
 use std::alloc::Global;
 
-/// A world, and the names of its transactions.
+/// A world, the journals of its replicas, and the names of its transactions.
 #[derive(Drop)]
 pub(crate) struct Course {
     pub(crate) alloc: Global,
     pub(crate) cluster: Cluster,
     pub(crate) world: World<ReplayKit>,
+    pub(crate) journals: Journals<ReplayRing, ReplayPen>,
     pub(crate) names: Names,
 }
 
@@ -58,6 +69,23 @@ fn fault_of(halt: Halt, number: u64) -> ReplayFault
         },
         Halt::Link => ReplayFault::LinkFault,
         Halt::NoMemory => ReplayFault::NoMemory,
+    }
+}
+
+/// The journals of the correct replicas of a world before its first event, or none.
+pub(crate) fn first_journals(
+    alloc: Global,
+    cluster: Cluster,
+    world: &World<ReplayKit>,
+    journal: bool,
+) -> Result<Journals<ReplayRing, ReplayPen>, NoMemory>
+    ensures { (s : Setup) → s.cluster ≡ cluster → s.kit ≡ kit_value world.now.kit → Shows s world.now.core (start s) →
+        IfOk result (λ journals. KeepsAll s (kit_value world.now.kit) journals (first_state s journal)) }
+{
+    if journal {
+        begin_journals(alloc, cluster, world)
+    } else {
+        Ok(no_journals(alloc))
     }
 }
 
@@ -94,26 +122,91 @@ impl Course {
                 let frame = self.frame_of(*message)?;
                 hand_over(self.alloc, frame, links, carried)
             }
+            Line::Stop { message, .. } => {
+                let frame = self.frame_of(*message)?;
+                hand_over(self.alloc, frame, links, carried)
+            }
             _ => Ok(Vec::new(self.alloc)),
         }
     }
 
-    /// An event happens.
+    /// An event happens, and what a replica takes then is written down.
     fn step(&mut self, event: Event<'_>) -> Result<(), StepFault>
         requires { self.old.world.ended ≡ false }
         ensures goes { (r : ReplayValue) → Stands self.old r →
-            Goes (events.happens r.setup (event_value event.entry) r.state) r self.new result }
+            Goes (happens_in r.setup (event_value event.entry) (journaled r)) r self.new result }
         ensures names { self.new.names ≡ self.old.names }
         ensures going { is_end result ≡ false → self.new.world.ended ≡ false }
     {
-        self.world.step(event)
+        journaled_runs::step(&mut self.world, &mut self.journals, event)
     }
 
-    /// The event of a line that has one alone happens.
+    /// A message is handed to a replica with a journal, whose disk stops within a write; these are its bytes.
+    fn stop(
+        &mut self,
+        message: u64,
+        shard: u8,
+        replica: u8,
+        stop: Stop,
+        given: &[u8],
+    ) -> Result<(), StepFault>
+        requires going { self.old.world.ended ≡ false }
+        requires write { (stop.write ≡ 1) ⊎ (stop.write ≡ 2) }
+        requires bytes { 0 < length stop.bytes }
+        ensures goes { (r : ReplayValue) → Stands self.old r → is_none (journal_at r.journals shard replica) ≡ false →
+            Goes (stops_in r.setup message shard replica stop given.now (journaled r)) r self.new result }
+        ensures names { self.new.names ≡ self.old.names }
+        ensures going { is_end result ≡ false → self.new.world.ended ≡ false }
+    {
+        journaled_runs::stop(
+            &mut self.world,
+            &mut self.journals,
+            message,
+            shard,
+            replica,
+            stop,
+            given,
+        )
+    }
+
+    /// What a line but a round does; what it hands over are these bytes.
+    fn one(&mut self, line: &Line, given: &[u8]) -> Result<(), StepFault>
+        requires going { self.old.world.ended ≡ false }
+        requires stop { CanStop line.now }
+        ensures goes { (r : ReplayValue) → Stands self.old r → lacks_journal r.journals line.now ≡ false →
+            Goes (lines.one_does r given.now line.now) r self.new result }
+        ensures names { self.new.names ≡ self.old.names }
+        ensures going { is_end result ≡ false → self.new.world.ended ≡ false }
+    {
+        match line {
+            Line::Stop {
+                shard,
+                replica,
+                message,
+                write,
+                bytes,
+            } => {
+                let bytes = Bytes::copy_of(self.alloc, bytes.as_slice())?;
+                let stop = Stop {
+                    write: *write,
+                    bytes,
+                };
+                self.stop(*message, *shard, *replica, stop, given)
+            }
+            line => match event_of(&self.names, line, given) {
+                Some(event) => self.step(event),
+                None => Ok(()),
+            },
+        }
+    }
+
+    /// A line but a round is done.
     fn happen<L: Links>(&mut self, line: &Line, links: &mut L, carried: bool) -> Result<(), Halt>
         requires going { self.old.world.ended ≡ false }
+        requires stop { CanStop line.now }
         requires single { line.now ≡ Line.Round → ⊥ }
         ensures does { ByRoads carried (L.told links.old) (L.told links.new) self.old (λ r road.
+            lacks_journal r.journals line.now ≡ false →
             Does (lines.round_of r line.now) (lines.line_does r line.now) r self.new result road) }
         ensures links { Uses carried links.old links.new (L.faults links.old) (L.faults links.new)
             (failed_by_link result) }
@@ -121,13 +214,8 @@ impl Course {
         ensures going { ends_world result ≡ false → self.new.world.ended ≡ false }
     {
         let given = self.given_to(line, links, carried)?;
-        match event_of(&self.names, line, &given) {
-            Some(event) => {
-                self.step(event)?;
-                Ok(())
-            }
-            None => Ok(()),
-        }
+        self.one(line, &given)?;
+        Ok(())
     }
 
     /// A message is delivered.
@@ -195,8 +283,10 @@ impl Course {
 
     /// The events of a line happen.
     fn does<L: Links>(&mut self, line: &Line, links: &mut L, carried: bool) -> Result<(), Halt>
-        requires { self.old.world.ended ≡ false }
+        requires going { self.old.world.ended ≡ false }
+        requires stop { CanStop line.now }
         ensures does { ByRoads carried (L.told links.old) (L.told links.new) self.old (λ r road.
+            lacks_journal r.journals line.now ≡ false →
             Does (lines.round_of r line.now) (lines.line_does r line.now) r self.new result road) }
         ensures links { Uses carried links.old links.new (L.faults links.old) (L.faults links.new)
             (failed_by_link result) }
@@ -214,6 +304,7 @@ impl Course {
         requires { CanName self.old.names line.now }
         ensures names { OnOk result (self.new.names ≡ names_after line.now self.old.names) }
         ensures world { self.new.world ≡ self.old.world }
+        ensures journals { self.new.journals ≡ self.old.journals }
         ensures cluster { self.new.cluster ≡ self.old.cluster }
     {
         match line {

@@ -5,6 +5,7 @@ ghost use Rattle.std.specs.Option.{option_map_or};
 ghost use Rattle.cluster_run.specs.States.{is_faulty};
 ghost use Rattle.schedule_replay.specs.Names as naming;
 ghost use Rattle.schedule_replay.specs.Reasons as reasons;
+ghost use Rattle.schedule_replay.specs.Reasons.{CanStop};
 ghost use Rattle.schedule_replay.specs.Replays.{ReplayValue};
 ghost use Rattle.schedule_replay.specs.Shown.{CanName, Stands};
 ghost use Rattle.keyring_lms.specs.Replay.{is_party_of};
@@ -31,7 +32,14 @@ fn has_no_replica(cluster: &Cluster, shard: u8, index: u8) -> bool
     !has_party(cluster, Party::Replica { shard, index })
 }
 
-/// Reason 3: the cluster has no such replica.
+/// Whether a disk can stop so: within one of the two writes of a record, and it leaves some bytes there.
+fn is_stop(write: u64, bytes: &[u8]) -> bool
+    ensures { result ≡ reasons.is_stop write bytes.now }
+{
+    (write == 1 || write == 2) && !bytes.is_empty()
+}
+
+/// Reason 3: the cluster has no such replica, or no disk stops so.
 fn is_outside(cluster: &Cluster, line: &Line) -> bool
     ensures { result ≡ reasons.is_outside cluster.now line.now }
 {
@@ -50,7 +58,13 @@ fn is_outside(cluster: &Cluster, line: &Line) -> bool
             ..
         } => { has_no_replica(cluster, *shard, *replica) || has_no_replica(cluster, *shard, *to) }
         Line::Raw { from, to, .. } => !has_party(cluster, *from) || !has_party(cluster, *to),
-        Line::Stop { shard, replica, .. } => has_no_replica(cluster, *shard, *replica),
+        Line::Stop {
+            shard,
+            replica,
+            write,
+            bytes,
+            ..
+        } => has_no_replica(cluster, *shard, *replica) || !is_stop(*write, bytes.as_slice()),
         _ => false,
     }
 }
@@ -60,13 +74,6 @@ fn is_late_faulty(line: &Line) -> bool
     ensures { result ≡ reasons.is_late_faulty line.now }
 {
     matches!(line, Line::Faulty { .. })
-}
-
-/// Reason 11: a disk is stopped where no replica has a journal.
-fn is_stop(line: &Line) -> bool
-    ensures { result ≡ reasons.is_stop line.now }
-{
-    matches!(line, Line::Stop { .. })
 }
 
 impl Course {
@@ -190,10 +197,21 @@ impl Course {
         }
     }
 
+    /// Reason 11: a disk is stopped of a replica that keeps no journal.
+    fn lacks_journal(&self, line: &Line) -> bool
+        ensures { (r : ReplayValue) → Stands self.now r → result ≡ reasons.lacks_journal r.journals line.now }
+    {
+        match line {
+            Line::Stop { shard, replica, .. } => !self.journals.has(*shard, *replica),
+            _ => false,
+        }
+    }
+
     /// The first reason why a line is refused before its events, if there is one.
     pub(crate) fn reason_of(&self, line: &Line) -> Option<Reason>
         ensures exact { (r : ReplayValue) → Stands self.now r → result ≡ reasons.reason_of r line.now }
         ensures names { result ≡ None → CanName self.now.names line.now }
+        ensures stop { result ≡ None → CanStop line.now }
     {
         if is_late_header(line) {
             Some(Reason::Misspelt)
@@ -207,7 +225,7 @@ impl Course {
             Some(Reason::WrongParty)
         } else if self.misses(line) {
             Some(Reason::NoMessage)
-        } else if is_stop(line) {
+        } else if self.lacks_journal(line) {
             Some(Reason::NoJournal)
         } else {
             None

@@ -1,11 +1,13 @@
 //! A replay: a run of a cluster by the lines of a schedule.
 
-ghost use Rattle.std.specs.Prelude.{◌≡◌, ◌<◌, false, IfErr, IfOk, OnOk};
+ghost use Rattle.std.specs.Prelude.{◌≡◌, ◌<◌, false, IfErr, IfOk, OnOk, option_map};
 ghost use Rattle.std.specs.Result.{IsErrOf};
 ghost use Rattle.basil_types.specs.Causes.{Rose, TookAll, TookPrefix};
 ghost use Rattle.cluster_world.specs.Shows.{AreMembers};
 ghost use Rattle.cluster_world.specs.Worlds.{RanSafely};
 ghost use Rattle.premise_watch.specs.Parties.{AreCounted};
+ghost use Rattle.run_journals.specs.Journals.{journal_at};
+ghost use Rattle.run_journals.specs.Kept.{ShowsDisk};
 ghost use Rattle.schedule_replay.specs.Events.{round_of};
 ghost use Rattle.schedule_replay.specs.Lines.{line_step};
 ghost use Rattle.schedule_replay.specs.Replays.{ReplayValue, first_replay, most_bytes, most_messages};
@@ -14,7 +16,7 @@ ghost use Rattle.schedule_replay.specs.Roads.{Road, Uses};
 ghost use Rattle.schedule_replay.specs.Totals.{totals};
 ghost use Rattle.schedule_replay.specs.Shown.{ByRoads, Did, IsOfReport, Stands, ends_by, is_link_fault, opening_of};
 
-use crate::course::Course;
+use crate::course::{Course, first_journals};
 use crate::fault::ReplayFault;
 use crate::names::Names;
 use crate::report::text_of;
@@ -25,6 +27,7 @@ use basil_types::memory::NoMemory;
 use basil_types::sink::Sink;
 use cluster_world::building::Beginning;
 use cluster_world::world::World;
+use journal_disk::memory::MemDisk;
 use message_pool::Room;
 use premise_watch::faulty::Faulty;
 use replay_kit::{KitKind, ReplayKit};
@@ -40,6 +43,8 @@ pub struct Opening {
     pub clock: u64,
     /// The keys of the parties.
     pub keys: KitKind,
+    /// Whether each correct replica keeps a journal of what it takes, on a disk that lines may stop.
+    pub journal: bool,
 }
 
 /// A run of a cluster by the lines of a schedule, with the names of its transactions. Contracts see by `Stands` which
@@ -90,11 +95,13 @@ impl Replay {
             limits: limits(),
         };
         let world = World::new(alloc, beginning, faulty, kit)?;
+        let journals = first_journals(alloc, cluster, &world, opening.journal)?;
         let names = Names::new(alloc);
         let course = Course {
             alloc,
             cluster,
             world,
+            journals,
             names,
         };
         Ok(Replay {
@@ -141,6 +148,15 @@ impl Replay {
             ∥ RanSafely world.core (⟦<ReplayKit as Kit>⟧.value world.kit) ∥₁ }
     {
         self.course.world.is_safe();
+    }
+
+    /// The disk of a replica's journal: what stands on it, and the stops that it had. There is none where the header has
+    /// no `journal`, or names no correct replica.
+    pub fn disk(&self, shard: u8, index: u8) -> Option<&MemDisk>
+        ensures { (r : ReplayValue) → Stands self.now.course.value r →
+            ShowsDisk (option_map (λ disk. disk.now) result) (journal_at r.journals shard index) }
+    {
+        self.course.journals.disk(shard, index)
     }
 
     /// The report.

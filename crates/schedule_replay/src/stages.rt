@@ -163,30 +163,23 @@ impl Schedule {
         Schedule::Begins
     }
 
-    /// What a header opens: a journal is reason 10.
+    /// What a header opens.
     fn open(
         alloc: Global,
-        number: u64,
         cluster: Cluster,
         clock: u64,
         keys: KeysKind,
         journal: bool,
     ) -> Result<Schedule, ReplayFault>
         ensures took { (road : Road) →
-            Took result (stages.opened road number cluster clock journal (kit_of cluster keys)) road }
+            Took result (Ok (stages.opened road cluster clock journal (kit_of cluster keys))) road }
         ensures unlinked { is_link_fault result ≡ false }
     {
-        if journal {
-            return Err(ReplayFault::BadInput {
-                line: number,
-                reason: Reason::NotBuilt,
-            });
-        }
-        let keys = KitKind::of(keys);
         let opening = Opening {
             cluster,
             clock,
-            keys,
+            keys: KitKind::of(keys),
+            journal,
         };
         let faulty = Box::new(alloc, Faulty::new())?;
         Ok(Schedule::Opens(Opened { opening, faulty }))
@@ -203,7 +196,7 @@ impl Schedule {
                 clock,
                 keys,
                 journal,
-            } => Schedule::open(alloc, number, *cluster, *clock, *keys, *journal),
+            } => Schedule::open(alloc, *cluster, *clock, *keys, *journal),
             Line::Skipped => Ok(Schedule::Begins),
             _ => Err(ReplayFault::BadInput {
                 line: number,

@@ -41,6 +41,7 @@ fn plain_replay(alloc: Global, f: u8) -> Result<Replay, Fail> {
         cluster: cluster_of(f)?,
         clock: 50,
         keys: KitKind::Plain,
+        journal: false,
     };
     Ok(Replay::new(alloc, &opening, Faulty::new())?)
 }

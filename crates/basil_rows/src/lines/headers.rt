@@ -13,7 +13,7 @@ const ROWS: &[Row] = &[
         b"basil 1 f=0 shards=1 reads=1 delta=0 clock=0 keys=plain journal",
         0,
     ),
-    // The greatest numbers, keys of batches, and a journal: the grammar has what isn't built yet too.
+    // The greatest numbers, keys of batches, and a journal.
     (
         b"basil 1 f=6 shards=8 reads=25 delta=18446744073709551615 clock=18446744073709551615 keys=batch journal",
         0,

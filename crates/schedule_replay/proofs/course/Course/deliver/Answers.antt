@@ -1,8 +1,8 @@
 use Rattle.std.proofs.Common.{[], Ok, Err, refl, ap, subst, ◌++◌, ◌∙◌}
 use Rattle.cluster_run.specs.Events as events
-use Rattle.cluster_run.specs.Events.{happens}
+use Rattle.journaled_runs.specs.Journaling.{happens_in}
 use Rattle.schedule_replay.specs.Events.{deliver, frame_at}
-use Rattle.schedule_replay.specs.Replays.{along}
+use Rattle.schedule_replay.specs.Replays.{along, journaled}
 use Rattle.schedule_replay.specs.Roads.{behind_one, gift, handed, road_with}
 use Rattle.schedule_replay.specs.Shown.{Goes}
 use Rattle.schedule_replay.specs.declared.fault.Halt.TheVariants as halt
@@ -34,9 +34,9 @@ returns-clause-does g c =
     (λ r later h.
     let road = road_with c.args.carried (gift c.args.carried given ++ later) in
     let q = along road r in
-    event_done q c.step.new.self (happens q.setup (events.Deliver c.args.message (handed road (frame_at r.state c.args.message))) q.state)
+    event_done q c.step.new.self (happens_in q.setup (events.Deliver c.args.message (handed road (frame_at r.state c.args.message))) (journaled q))
     (behind_one road) (road_with c.args.carried later) tt (behind_gift c.args.carried given later)
-    (subst (λ bytes. Goes (happens q.setup (events.Deliver c.args.message bytes) q.state) q c.step.new.self (Ok tt))
+    (subst (λ bytes. Goes (happens_in q.setup (events.Deliver c.args.message bytes) (journaled q)) q c.step.new.self (Ok tt))
     (c.as_slice-given.ensures.value ∙ c.in_ok-given.ensures.given later ∙ ap (handed road) (c.in_ok-frame.ensures r h))
     (c.in_ok-step.ensures.goes q (stands_along c.args.self.now r road h))))
 
@@ -48,8 +48,8 @@ returns-in_err-step-clause-does g c =
     let road = road_with c.args.carried (gift c.args.carried given ++ later) in
     let q = along road r in
     let x = c.in_err-step.field-0.0 in
-    event_fails q c.step.new.self (happens q.setup (events.Deliver c.args.message (handed road (frame_at r.state c.args.message))) q.state)
+    event_fails q c.step.new.self (happens_in q.setup (events.Deliver c.args.message (handed road (frame_at r.state c.args.message))) (journaled q))
     (behind_one road) (road_with c.args.carried later) [] x c.from_residual-in_err-step.result c.from_residual-in_err-step.ensures.1
-    (subst (λ bytes. Goes (happens q.setup (events.Deliver c.args.message bytes) q.state) q c.step.new.self (Err x))
+    (subst (λ bytes. Goes (happens_in q.setup (events.Deliver c.args.message bytes) (journaled q)) q c.step.new.self (Err x))
     (c.as_slice-given.ensures.value ∙ c.in_ok-given.ensures.given later ∙ ap (handed road) (c.in_ok-frame.ensures r h))
     (c.in_err-step.ensures.goes q (stands_along c.args.self.now r road h))))
