@@ -14,7 +14,8 @@ use Rattle.node_steps.specs.Lists.{firsts}
 use Rattle.message_pool.specs.Posts.{next_waiting}
 use Rattle.cluster_run.specs.Headline.{committed}
 use Rattle.cluster_run.specs.Parts.{Mail}
-use Rattle.cluster_run.specs.States.{Setup, Posted, BegunValue, FormedValue, Standing, State, posted_at, standing, client_at}
+use Rattle.cluster_run.specs.States.{Setup, Posted, BegunValue, FormedValue, Standing, State}
+use Rattle.cluster_run.specs.States.{posted_at, standing, client_at}
 
 -- ---- messages
 

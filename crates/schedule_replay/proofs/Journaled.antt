@@ -12,7 +12,8 @@ use Rattle.cluster_run.specs.declared.fault.WorldFault.{WorldFault}
 use Rattle.cluster_run.specs.declared.fault.WorldFault.TheVariants as world
 use Rattle.delivery_laws.specs.Deliveries.{Taking, takes}
 use Rattle.journal_disk.specs.declared.disk.Stop.{Stop}
-use Rattle.journaled_runs.specs.Journaling.{JournaledState, entered_since, full, full_by, handing, happens_in, is_to, lose_all, noted, stopped}
+use Rattle.journaled_runs.specs.Journaling.{JournaledState, entered_since, full, full_by, handing}
+use Rattle.journaled_runs.specs.Journaling.{happens_in, is_to, lose_all, noted, stopped}
 use Rattle.journaled_runs.specs.Journaling.{stops_in, written}
 use Rattle.node_journal.specs.Journals.{journal_bytes}
 use Rattle.node_steps.specs.Refusing.{unless_refused, when}
@@ -83,7 +84,8 @@ module _ (s : Setup) where
   lost_break [] x b h = absurd cc
   lost_break (m ∷ messages) x b h = by (happens_in s (events.Lose m) x) refl h (λ y. lost_break messages y b)
     where
-      by : (a : Result JournaledState WorldFault) → happens_in s (events.Lose m) x ≡ a → (a >>= lose_all s messages) ≡ Err (world.Broken b) →
+      by : (a : Result JournaledState WorldFault) → happens_in s (events.Lose m) x ≡ a →
+          (a >>= lose_all s messages) ≡ Err (world.Broken b) →
           ((y : JournaledState) → lose_all s messages y ≡ Err (world.Broken b) → Goes s y.state (Err b)) → Goes s x.state (Err b)
       by (Ok y) e h rest = goes_on s x.state y.state (Err b) (event_goes (events.Lose m) x tt y e) (rest y h)
       by (Err f) e h rest =

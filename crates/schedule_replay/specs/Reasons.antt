@@ -1,5 +1,6 @@
 -- Why a line is refused before its events, where its own tokens are in the grammar.
-use Rattle.std.specs.Prelude.{◌≡◌, ◌<◌, ◌⊎◌, ◌==◌, ℕ, ⊤, Bool, true, false, not, ◌&&◌, ◌||◌, Option, Some, None, is_none, List, length, nat_le, nat_lt}
+use Rattle.std.specs.Prelude.{◌≡◌, ◌<◌, ◌⊎◌, ◌==◌, ℕ, ⊤, Bool, true, false, not}
+use Rattle.std.specs.Prelude.{◌&&◌, ◌||◌, Option, Some, None, is_none, List, length, nat_le, nat_lt}
 use Rattle.basil_types.specs.Built.{or_else}
 use Rattle.basil_types.specs.Setting.{Setting}
 use Rattle.basil_types.specs.declared.party.Party.TheVariants.{Replica, Client}

@@ -150,8 +150,8 @@ impl Replay {
         self.course.world.is_safe();
     }
 
-    /// The disk of a replica's journal: what stands on it, and the stops that it had. There is none where the header has
-    /// no `journal`, or names no correct replica.
+    /// The disk of a replica's journal, with its records and the stops that it had. There is none where the header has
+    /// no `journal`, or where the numbers name no correct replica.
     pub fn disk(&self, shard: u8, index: u8) -> Option<&MemDisk>
         ensures { (r : ReplayValue) → Stands self.now.course.value r →
             ShowsDisk (option_map (λ disk. disk.now) result) (journal_at r.journals shard index) }

@@ -12,7 +12,7 @@ use std::test::Fail;
 /// A client writes one key, and asks for its votes.
 const WRITE: &[&str] = &["begin t1 1 10", "write t1 a x1", "prepare t1"];
 
-/// The disk stops within the write of the gate and leaves it closed; then first stage, vote and writeback are delivered.
+/// The disk stops within the write of the gate and leaves it closed; then first stage, vote and writeback go out.
 const CLOSED: &[&str] = &["stop 0 0 1 2 4d", "round", "round", "round"];
 
 /// Nothing stops.

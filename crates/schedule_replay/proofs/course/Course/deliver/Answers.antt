@@ -34,7 +34,8 @@ returns-clause-does g c =
     (λ r later h.
     let road = road_with c.args.carried (gift c.args.carried given ++ later) in
     let q = along road r in
-    event_done q c.step.new.self (happens_in q.setup (events.Deliver c.args.message (handed road (frame_at r.state c.args.message))) (journaled q))
+    event_done q c.step.new.self
+    (happens_in q.setup (events.Deliver c.args.message (handed road (frame_at r.state c.args.message))) (journaled q))
     (behind_one road) (road_with c.args.carried later) tt (behind_gift c.args.carried given later)
     (subst (λ bytes. Goes (happens_in q.setup (events.Deliver c.args.message bytes) (journaled q)) q c.step.new.self (Ok tt))
     (c.as_slice-given.ensures.value ∙ c.in_ok-given.ensures.given later ∙ ap (handed road) (c.in_ok-frame.ensures r h))
@@ -48,7 +49,8 @@ returns-in_err-step-clause-does g c =
     let road = road_with c.args.carried (gift c.args.carried given ++ later) in
     let q = along road r in
     let x = c.in_err-step.field-0.0 in
-    event_fails q c.step.new.self (happens_in q.setup (events.Deliver c.args.message (handed road (frame_at r.state c.args.message))) (journaled q))
+    event_fails q c.step.new.self
+    (happens_in q.setup (events.Deliver c.args.message (handed road (frame_at r.state c.args.message))) (journaled q))
     (behind_one road) (road_with c.args.carried later) [] x c.from_residual-in_err-step.result c.from_residual-in_err-step.ensures.1
     (subst (λ bytes. Goes (happens_in q.setup (events.Deliver c.args.message bytes) (journaled q)) q c.step.new.self (Err x))
     (c.as_slice-given.ensures.value ∙ c.in_ok-given.ensures.given later ∙ ap (handed road) (c.in_ok-frame.ensures r h))
