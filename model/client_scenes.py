@@ -52,7 +52,7 @@ class Tables:
             if token == ("word", "const") and self.tokens[place + 2] == ("mark", ":"):
                 self.at = self.tokens.index(("mark", "="), place) + 1
                 name, value = self.tokens[place + 1][1], self.value()
-                self.constants[name] = value | {"name": name} if isinstance(value, dict) else value
+                self.constants[name] = {**value, "name": name} if isinstance(value, dict) else value
 
     def calls(self, *names):
         """The arguments of each call of one of these functions, in order."""
@@ -105,7 +105,7 @@ class Tables:
                 self.skip(":")
                 fields[name] = self.value()
             self.skip(",")
-        return base | fields | {"name": None}
+        return {**base, **fields, "name": None}
 
 
 # ---- transactions
@@ -370,7 +370,7 @@ class Client:
 
     def send(self, kind, shards, pursuit=None, **parts):
         if pursuit:
-            parts |= {"transaction": pursuit.transaction, "signature": pursuit.signature}
+            parts.update(transaction=pursuit.transaction, signature=pursuit.signature)
         self.outbox.append((Record(kind=kind, **parts), shards))
 
     def begin(self, time):

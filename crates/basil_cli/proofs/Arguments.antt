@@ -7,7 +7,7 @@ use Rattle.basil_types.specs.Links.{LinkState}
 use Rattle.schedule_replay.proofs.RoadLaws.{carries_as, carries_none}
 use Rattle.basil_cli.specs.Answers.{Answers, Counts, IsTold}
 use Rattle.basil_cli.specs.Commands.{reads, runs, arguments_carried}
-use Rattle.basil_cli.specs.Linked.{ByArguments}
+use Rattle.basil_cli.specs.Linked.{ByArguments, OfBytes}
 use Rattle.basil_cli.specs.Outcome.{Outcome, TooLong, Usage, is_too_long, longest_input, unless_too_long}
 use Rattle.basil_cli.specs.Output.{outcome_with, output_of}
 use Rattle.basil_cli.specs.Parts.{outcome_is}
@@ -19,6 +19,7 @@ use Rattle.basil_cli.specs.declared.ending.Ending.{Ending}
 use Rattle.basil_cli.specs.declared.input.InputFail.{InputFail}
 use Rattle.basil_cli.specs.declared.status.Status.{Status}
 use Rattle.basil_cli.specs.declared.status.Status.TheVariants as ends
+use Rattle.basil_cli.proofs.SourceLaws.{of_any, of_map}
 use Rattle.basil_cli.proofs.Stopping.{untaken_for}
 
 -- another command than that of a schedule
@@ -39,9 +40,10 @@ unread_as other none coming bytes = absurd cc
 
 pub unread_all : (command : Command) → reads command ≡ false → (left : Option (List ℕ)) (o : Outcome) →
     ((coming : List (List ℕ)) → o ≡ output_of command coming []) →
-    IfSome left (λ bytes. (coming : List (List ℕ)) → o ≡ output_of command coming bytes)
-unread_all command none None o h = tt
-unread_all command none (Some bytes) o h = λ coming. h coming ∙ unread_as command none coming bytes
+    OfBytes left (λ bytes. (coming : List (List ℕ)) → o ≡ output_of command coming bytes)
+unread_all command none left o h =
+    of_any left (λ bytes. (coming : List (List ℕ)) → o ≡ output_of command coming bytes)
+    (λ bytes coming. h coming ∙ unread_as command none coming bytes)
 
 over : (bytes : List ℕ) (o : Outcome) → longest_input < length bytes → TooLong ≡ unless_too_long bytes o
 over bytes o long = grind (arith, common_steps)
@@ -68,15 +70,27 @@ module _ (o : Option Command) where
   -- a fact of what links give, and one that follows from it
   by_arguments : (a b : Option LinkState) (left : Option (List ℕ)) (P Q : List ℕ → List (List ℕ) → Type 0) →
       ((bytes : List ℕ) (coming : List (List ℕ)) → P bytes coming → Q bytes coming) →
-      IfSome left (λ bytes. ByArguments o a b (P bytes)) → IfSome left (λ bytes. ByArguments o a b (Q bytes))
-  by_arguments a b None P Q turn h = tt
-  by_arguments a b (Some bytes) P Q turn h = carries_as (arguments_carried o) h (λ gave so later. turn bytes (gave ++ later) (so later))
+      OfBytes left (λ bytes. ByArguments o a b (P bytes)) → OfBytes left (λ bytes. ByArguments o a b (Q bytes))
+  by_arguments a b left P Q turn h =
+      of_map left (λ bytes. ByArguments o a b (P bytes)) (λ bytes. ByArguments o a b (Q bytes))
+      (λ bytes is. carries_as (arguments_carried o) is (λ gave so later. turn bytes (gave ++ later) (so later))) h
 
   -- where links aren't used
+  of_unlinked : (a : Option LinkState) (left : Option (List ℕ)) (Q : List ℕ → List (List ℕ) → Type 0) →
+      OfBytes left (λ bytes. (coming : List (List ℕ)) → Q bytes coming) → OfBytes left (λ bytes. ByArguments o a a (Q bytes))
+  of_unlinked a left Q h =
+      of_map left (λ bytes. (coming : List (List ℕ)) → Q bytes coming) (λ bytes. ByArguments o a a (Q bytes))
+      (λ bytes is. carries_none (arguments_carried o) refl (λ later. is later)) h
+
   unlinked : (a : Option LinkState) (left : Option (List ℕ)) (Q : List ℕ → List (List ℕ) → Type 0) →
       IfSome left (λ bytes. (coming : List (List ℕ)) → Q bytes coming) → IfSome left (λ bytes. ByArguments o a a (Q bytes))
   unlinked a None Q h = tt
   unlinked a (Some bytes) Q h = carries_none (arguments_carried o) refl (λ later. h later)
+
+  -- what holds of all
+  of_all : (a : Option LinkState) (left : Option (List ℕ)) (Q : List ℕ → List (List ℕ) → Type 0) →
+      ((bytes : List ℕ) (coming : List (List ℕ)) → Q bytes coming) → OfBytes left (λ bytes. ByArguments o a a (Q bytes))
+  of_all a left Q h = of_unlinked a left Q (of_any left (λ bytes. (coming : List (List ℕ)) → Q bytes coming) h)
 
   always : (left : Option (List ℕ)) (Q : List ℕ → List (List ℕ) → Type 0) → ((bytes : List ℕ) (coming : List (List ℕ)) → Q bytes coming) →
       IfSome left (λ bytes. (coming : List (List ℕ)) → Q bytes coming)
@@ -87,12 +101,10 @@ module _ (o : Option Command) where
 
 module _ (command : Command) (a : Option LinkState) (left : Option (List ℕ)) where
   pub ended_alone : (result : Result Ending InputFail) →
-      IfOk result (λ e. IfSome left (λ bytes. (coming : List (List ℕ)) → outcome_is e ≡ output_of command coming bytes)) →
-      IfSome left (λ bytes. ByArguments (Some command) a a (λ coming. IfOk result (λ e. outcome_is e ≡ output_of command coming bytes)))
-  ended_alone (Ok e) h = unlinked (Some command) a left (λ bytes coming. outcome_is e ≡ output_of command coming bytes) h
-  ended_alone (Err f) h =
-      unlinked (Some command) a left (λ bytes coming. Unit {0})
-      (always (Some command) left (λ bytes coming. Unit {0}) (λ bytes coming. tt))
+      IfOk result (λ e. OfBytes left (λ bytes. (coming : List (List ℕ)) → outcome_is e ≡ output_of command coming bytes)) →
+      OfBytes left (λ bytes. ByArguments (Some command) a a (λ coming. IfOk result (λ e. outcome_is e ≡ output_of command coming bytes)))
+  ended_alone (Ok e) h = of_unlinked (Some command) a left (λ bytes coming. outcome_is e ≡ output_of command coming bytes) h
+  ended_alone (Err f) h = of_all (Some command) a left (λ bytes coming. Unit {0}) (λ bytes coming. tt)
 
   pub through_alone : (new : Option (List ℕ)) (result : Result Ending InputFail) →
       IfOk result (λ _. IfSome left (λ bytes. (coming : List (List ℕ)) → IsReadThrough (is_enough command coming) bytes new)) →
@@ -112,70 +124,64 @@ module _ (command : Command) (a : Option LinkState) (left : Option (List ℕ)) w
 
 module _ (command : Command) (a b : Option LinkState) (left : Option (List ℕ)) (status : Status) where
   pub ending_answers : (ending : Ending) (counts : Counts) (old new : Option (List ℕ)) →
-      IfSome left (λ bytes. ByArguments (Some command) a b (λ coming. outcome_is ending ≡ output_of command coming bytes)) →
+      OfBytes left (λ bytes. ByArguments (Some command) a b (λ coming. outcome_is ending ≡ output_of command coming bytes)) →
       Answers status (outcome_is ending) counts old new →
-      IfSome left (λ bytes. ByArguments (Some command) a b (λ coming. Answers status (output_of command coming bytes) counts old new))
+      OfBytes left (λ bytes. ByArguments (Some command) a b (λ coming. Answers status (output_of command coming bytes) counts old new))
   ending_answers ending counts old new h answers =
       by_arguments (Some command) a b left (λ bytes coming. outcome_is ending ≡ output_of command coming bytes)
       (λ bytes coming. Answers status (output_of command coming bytes) counts old new)
       (λ bytes coming e. subst (λ (o : Outcome). Answers status o counts old new) e answers) h
 
   pub ending_told : (ending : Ending) →
-      IfSome left (λ bytes. ByArguments (Some command) a b (λ coming. outcome_is ending ≡ output_of command coming bytes)) →
+      OfBytes left (λ bytes. ByArguments (Some command) a b (λ coming. outcome_is ending ≡ output_of command coming bytes)) →
       IsTold status (outcome_is ending) →
-      IfSome left (λ bytes. ByArguments (Some command) a b (λ coming. IsTold status (output_of command coming bytes)))
+      OfBytes left (λ bytes. ByArguments (Some command) a b (λ coming. IsTold status (output_of command coming bytes)))
   ending_told ending h told =
       by_arguments (Some command) a b left (λ bytes coming. outcome_is ending ≡ output_of command coming bytes)
       (λ bytes coming. IsTold status (output_of command coming bytes))
       (λ bytes coming e. subst (λ (o : Outcome). IsTold status o) e told) h
 
   -- where there is no ending, whatever the outcome is
-  pub fault_answers : (source : Option (List ℕ)) (counts : Counts) (old new : Option (List ℕ)) →
-      IfSome left (λ bytes. ByArguments (Some command) a b (λ coming. StopsSoon (is_enough command coming) bytes source)) →
+  pub fault_answers : (counts : Counts) (old new : Option (List ℕ)) →
+      OfBytes left (λ bytes. ByArguments (Some command) a b (λ coming. Unit {0})) →
       ((o : Outcome) → Answers status o counts old new) →
-      IfSome left (λ bytes. ByArguments (Some command) a b (λ coming. Answers status (output_of command coming bytes) counts old new))
-  fault_answers source counts old new h answers =
-      by_arguments (Some command) a b left (λ bytes coming. StopsSoon (is_enough command coming) bytes source)
+      OfBytes left (λ bytes. ByArguments (Some command) a b (λ coming. Answers status (output_of command coming bytes) counts old new))
+  fault_answers counts old new h answers =
+      by_arguments (Some command) a b left (λ bytes coming. Unit {0})
       (λ bytes coming. Answers status (output_of command coming bytes) counts old new)
-      (λ bytes coming soon. answers (output_of command coming bytes)) h
+      (λ bytes coming is. answers (output_of command coming bytes)) h
 
-  pub fault_told : (source : Option (List ℕ)) →
-      IfSome left (λ bytes. ByArguments (Some command) a b (λ coming. StopsSoon (is_enough command coming) bytes source)) →
+  pub fault_told : OfBytes left (λ bytes. ByArguments (Some command) a b (λ coming. Unit {0})) →
       ((o : Outcome) → IsTold status o) →
-      IfSome left (λ bytes. ByArguments (Some command) a b (λ coming. IsTold status (output_of command coming bytes)))
-  fault_told source h told =
-      by_arguments (Some command) a b left (λ bytes coming. StopsSoon (is_enough command coming) bytes source)
-      (λ bytes coming. IsTold status (output_of command coming bytes)) (λ bytes coming soon. told (output_of command coming bytes)) h
+      OfBytes left (λ bytes. ByArguments (Some command) a b (λ coming. IsTold status (output_of command coming bytes)))
+  fault_told h told =
+      by_arguments (Some command) a b left (λ bytes coming. Unit {0})
+      (λ bytes coming. IsTold status (output_of command coming bytes)) (λ bytes coming is. told (output_of command coming bytes)) h
 
 -- ---- arguments
 
 module _ (o : Option Command) (a : Option LinkState) (left : Option (List ℕ)) where
   -- arguments that aren't a command
   pub usage_answers : (status : Status) (counts : Counts) (old new : Option (List ℕ)) → o ≡ None → Answers status Usage counts old new →
-      IfSome left (λ bytes. ByArguments o a a (λ coming. Answers status (outcome_with o coming bytes) counts old new))
+      OfBytes left (λ bytes. ByArguments o a a (λ coming. Answers status (outcome_with o coming bytes) counts old new))
   usage_answers status counts old new none answers =
-      unlinked o a left (λ bytes coming. Answers status (outcome_with o coming bytes) counts old new)
-      (always o left (λ bytes coming. Answers status (outcome_with o coming bytes) counts old new)
-      (λ bytes coming. subst (λ (x : Option Command). Answers status (outcome_with x coming bytes) counts old new) (sym none) answers))
+      of_all o a left (λ bytes coming. Answers status (outcome_with o coming bytes) counts old new)
+      (λ bytes coming. subst (λ (x : Option Command). Answers status (outcome_with x coming bytes) counts old new) (sym none) answers)
 
   pub usage_told : (status : Status) → o ≡ None → IsTold status Usage →
-      IfSome left (λ bytes. ByArguments o a a (λ coming. IsTold status (outcome_with o coming bytes)))
+      OfBytes left (λ bytes. ByArguments o a a (λ coming. IsTold status (outcome_with o coming bytes)))
   usage_told status none told =
-      unlinked o a left (λ bytes coming. IsTold status (outcome_with o coming bytes))
-      (always o left (λ bytes coming. IsTold status (outcome_with o coming bytes))
-      (λ bytes coming. subst (λ (x : Option Command). IsTold status (outcome_with x coming bytes)) (sym none) told))
+      of_all o a left (λ bytes coming. IsTold status (outcome_with o coming bytes))
+      (λ bytes coming. subst (λ (x : Option Command). IsTold status (outcome_with x coming bytes)) (sym none) told)
 
   -- where memory is wanting for the arguments
   pub wanting_answers : (counts : Counts) (old : Option (List ℕ)) →
-      IfSome left (λ bytes. ByArguments o a a (λ coming. Answers ends.NoMemory (outcome_with o coming bytes) counts old old))
+      OfBytes left (λ bytes. ByArguments o a a (λ coming. Answers ends.NoMemory (outcome_with o coming bytes) counts old old))
   wanting_answers counts old =
-      unlinked o a left (λ bytes coming. Answers ends.NoMemory (outcome_with o coming bytes) counts old old)
-      (always o left (λ bytes coming. Answers ends.NoMemory (outcome_with o coming bytes) counts old old) (λ bytes coming. refl))
+      of_all o a left (λ bytes coming. Answers ends.NoMemory (outcome_with o coming bytes) counts old old) (λ bytes coming. refl)
 
-  pub wanting_told : IfSome left (λ bytes. ByArguments o a a (λ coming. IsTold ends.NoMemory (outcome_with o coming bytes)))
-  wanting_told =
-      unlinked o a left (λ bytes coming. IsTold ends.NoMemory (outcome_with o coming bytes))
-      (always o left (λ bytes coming. IsTold ends.NoMemory (outcome_with o coming bytes)) (λ bytes coming. inr refl))
+  pub wanting_told : OfBytes left (λ bytes. ByArguments o a a (λ coming. IsTold ends.NoMemory (outcome_with o coming bytes)))
+  wanting_told = of_all o a left (λ bytes coming. IsTold ends.NoMemory (outcome_with o coming bytes)) (λ bytes coming. inr refl)
 
 -- where nothing was taken of the source either
 pub untaken_arguments : (o : Option Command) (a : Option LinkState) (left : Option (List ℕ)) →

@@ -1,13 +1,12 @@
 -- What holds of the end of `unbatch`.
-use Rattle.std.proofs.Common.{◌≡◌, ◌⊎◌, ℕ, List, [], Bool, true, false, Option, Some, None, Result, Ok, Err, inl, inr, refl, subst}
-use Rattle.std.specs.Prelude.{IfSome}
+use Rattle.std.proofs.Common.{◌≡◌, ◌⊎◌, ℕ, List, [], Bool, true, false, Option, Some, Result, Ok, Err, inl, inr, refl, subst}
 use Rattle.basil_types.specs.Links.{LinkState}
 use Rattle.batch_text.specs.Findings.{FindingsAreReal}
 use Rattle.batch_text.specs.Texts.{BadText, kept_in}
 use Rattle.batch_text.specs.declared.reading.Kept.{Kept}
 use Rattle.basil_cli.specs.Answers.{Answers, Counts, Tells}
 use Rattle.basil_cli.specs.Batches.{ToldReally, unbatched, unbatched_with}
-use Rattle.basil_cli.specs.Linked.{ByArguments}
+use Rattle.basil_cli.specs.Linked.{ByArguments, OfBytes}
 use Rattle.basil_cli.specs.Outcome.{TooLong, is_too_long, unless_too_long}
 use Rattle.basil_cli.specs.Output.{output_of}
 use Rattle.basil_cli.specs.declared.command.Claim.{Claim}
@@ -15,6 +14,7 @@ use Rattle.basil_cli.specs.declared.command.Command.{Command}
 use Rattle.basil_cli.specs.declared.command.Command.TheVariants.{Unbatch}
 use Rattle.basil_cli.specs.declared.status.Status.{Status}
 use Rattle.basil_cli.specs.declared.status.Status.TheVariants as ends
+use Rattle.basil_cli.proofs.SourceLaws.{of_map}
 
 -- the statuses that tell a finding, but for a refusal
 abbrev pub TellsFinding : Status → Type 0
@@ -59,13 +59,16 @@ tells-finding status h =
 -- what `unbatch` tells of a finding is real
 pub unbatch_ends : (status : Status) (o : Option Command) (command : Command) (counts : Counts) (old new : Option (List ℕ))
     (told tells : Option LinkState) (left : Option (List ℕ)) → o ≡ Some command →
-    IfSome left
+    OfBytes left
     (λ bytes. ByArguments (Some command) told tells (λ coming. Answers status (output_of command coming bytes) counts old new)) →
     FindingsAreReal → (claim : Claim) → o ≡ Some (Unbatch claim) → (status ≡ ends.Done) ⊎ (status ≡ ends.Broken) →
-    IfSome left (λ bytes. ToldReally claim bytes old new)
-unbatch_ends status o command counts old new told tells None said answers law claim e h = tt
-unbatch_ends status o command counts old new told tells (Some bytes) said answers law claim e h =
+    OfBytes left (λ bytes. ToldReally claim bytes old new)
+unbatch_ends status o command counts old new told tells left said answers law claim e h =
     let same : command ≡ Unbatch claim = cc in
+    of_map left
+    (λ bytes. ByArguments (Some command) told tells (λ coming. Answers status (output_of command coming bytes) counts old new))
+    (λ bytes. ToldReally claim bytes old new)
+    (λ bytes a.
     let own = subst
-    (λ (x : Command). ByArguments (Some x) told tells (λ coming. Answers status (output_of x coming bytes) counts old new)) same answers in
-    told_really claim bytes old new law status counts (tells-finding status h) (own.should [])
+    (λ (x : Command). ByArguments (Some x) told tells (λ coming. Answers status (output_of x coming bytes) counts old new)) same a in
+    told_really claim bytes old new law status counts (tells-finding status h) (own.should [])) answers

@@ -24,6 +24,7 @@ use Rattle.schedule_replay.specs.Totals.{totals}
 use Rattle.schedule_text.specs.Limits.{longest_line}
 use Rattle.basil_cli.specs.Behind.{CanDecide, CanEnd, Closes, HasRead, IsBehind, IsDecided, Reads, ReadsOn}
 use Rattle.basil_cli.specs.Linked as links
+use Rattle.basil_cli.specs.Linked.{OfBytes}
 use Rattle.basil_cli.specs.Outcome.{Outcome, Written}
 use Rattle.basil_cli.specs.Output.{loaded, replayed}
 use Rattle.basil_cli.specs.Parts.{outcome_is}
@@ -34,6 +35,7 @@ use Rattle.basil_cli.specs.declared.replay.Reading.{Reading}
 use Rattle.basil_cli.proofs.LineEnds.{ended_line, fresh_line, joined, longer_line, same_ended}
 use Rattle.basil_cli.proofs.Settling.{faulty_outcome, long_outcome, no_long, one_line, run_append}
 use Rattle.basil_cli.proofs.Settling.{settled_fault, settled_long, settled_more, unsettled, whole_line}
+use Rattle.basil_cli.proofs.SourceLaws.{AtBytes}
 use Rattle.basil_cli.proofs.Stopping.{NotYet, all_through, enough_through, not_settled}
 
 -- ---- a line that ends
@@ -269,11 +271,18 @@ module _ (carried : Bool) (a b : Option LinkState) (old : Option (List ℕ)) whe
   by_all None So c = tt
   by_all (Some bytes) So c = c
 
-  pub outcomes : (result : Result Ending InputFail) →
-      Carries carried a b (λ gave. (later : List (List ℕ)) → IfSome old (λ bytes.
+  -- and of one that doesn't, of the bytes that were read
+  of_read : (left : Option (List ℕ)) (read : List ℕ) (So : List ℕ → Road → Type 0) →
+      Carries carried a b (λ gave. (later : List (List ℕ)) → AtBytes left read (λ bytes. So bytes (road_with carried (gave ++ later)))) →
+      OfBytes left (λ bytes. links.ByRoads carried a b (So bytes))
+  of_read None read So c = (read, c)
+  of_read (Some bytes) read So c = c
+
+  pub outcomes : (read : List ℕ) (result : Result Ending InputFail) →
+      Carries carried a b (λ gave. (later : List (List ℕ)) → AtBytes old read (λ bytes.
       IfOk result (λ e. outcome_is e ≡ replayed (outcome_on (road_with carried (gave ++ later)) bytes)))) →
-      IfSome old (λ bytes. links.ByRoads carried a b (λ road. IfOk result (λ e. outcome_is e ≡ replayed (outcome_on road bytes))))
-  outcomes result c = by_all old (λ bytes road. IfOk result (λ e. outcome_is e ≡ replayed (outcome_on road bytes))) c
+      OfBytes old (λ bytes. links.ByRoads carried a b (λ road. IfOk result (λ e. outcome_is e ≡ replayed (outcome_on road bytes))))
+  outcomes read result c = of_read old read (λ bytes road. IfOk result (λ e. outcome_is e ≡ replayed (outcome_on road bytes))) c
 
   pub throughs : (result : Result Ending InputFail) (new : Option (List ℕ)) →
       Carries carried a b (λ gave. (later : List (List ℕ)) → IfSome old (λ bytes.
@@ -291,6 +300,10 @@ module _ (carried : Bool) (a b : Option LinkState) (old : Option (List ℕ)) whe
 pub untold : (old : Option (List ℕ)) → IfSome old (λ bytes. ⊤)
 untold None = tt
 untold (Some bytes) = tt
+
+pub unended : (old : Option (List ℕ)) (read : List ℕ) → AtBytes old read (λ bytes. ⊤)
+unended None read = tt
+unended (Some bytes) read = tt
 
 -- where a read gave nothing
 pub nothing_taken : (read buf : List ℕ) (count : ℕ) → count ≡ 0 → read ≡ read ++ take count buf
@@ -314,17 +327,18 @@ module _ (road left : Road) where
   decided_by NoMemory read d n = absurd n
 
   decided_told : (old new : Option (List ℕ)) (read : List ℕ) (f : ReplayFault) (o : Outcome) → Consumes old new read →
-      IsDecided road read f → o ≡ replayed (Err f) → IfSome old (λ bytes. o ≡ replayed (outcome_on road bytes))
-  decided_told None new read f o c d e = tt
+      IsDecided road read f → o ≡ replayed (Err f) → AtBytes old read (λ bytes. o ≡ replayed (outcome_on road bytes))
+  decided_told None new read f o c d e =
+      e ∙ ap replayed (sym (ap (outcome_on road) (sym (append-nil read)) ∙ d.leads []))
   decided_told (Some bytes) None read f o c d e = absurd c
   decided_told (Some bytes) (Some rest) read f o c d e = e ∙ ap replayed (sym (ap (outcome_on road) c ∙ d.leads rest))
 
   -- an ending that tells the fault of what was read
   pub fault_told : (result : Result Ending InputFail) (old new : Option (List ℕ)) (read : List ℕ) (f : ReplayFault) →
       Consumes old new read → Reads (Err f) road left read → IfOk result (λ e. outcome_is e ≡ replayed (Err f)) →
-      IfOk result (λ _. CanDecide f) → IfSome old (λ bytes. IfOk result (λ e. outcome_is e ≡ replayed (outcome_on road bytes)))
+      IfOk result (λ _. CanDecide f) → AtBytes old read (λ bytes. IfOk result (λ e. outcome_is e ≡ replayed (outcome_on road bytes)))
   fault_told (Ok e) old new read f c d told decides = decided_told old new read f (outcome_is e) c (decided_by f read d decides) told
-  fault_told (Err e) old new read f c d told decides = untold old
+  fault_told (Err e) old new read f c d told decides = unended old read
 
   pub fault_through : (result : Result Ending InputFail) (old new : Option (List ℕ)) (read : List ℕ) (f : ReplayFault) →
       Consumes old new read → Reads (Err f) road left read → IfOk result (λ _. CanDecide f) →
@@ -336,8 +350,8 @@ module _ (road left : Road) where
   -- an ending that tells what all that was read leads to
   pub whole_told : (result : Result Ending InputFail) (old new : Option (List ℕ)) (read : List ℕ) → Consumes old new read → IsAtEnd new →
       IfOk result (λ e. outcome_is e ≡ replayed (outcome_on road read)) →
-      IfSome old (λ bytes. IfOk result (λ e. outcome_is e ≡ replayed (outcome_on road bytes)))
-  whole_told result None new read c e told = tt
+      AtBytes old read (λ bytes. IfOk result (λ e. outcome_is e ≡ replayed (outcome_on road bytes)))
+  whole_told result None new read c e told = told
   whole_told result (Some bytes) None read c e told = absurd c
   whole_told result (Some bytes) (Some rest) read c e told =
       let same : read ≡ bytes = sym (c ∙ ap (λ xs. read ++ xs) e ∙ append-nil read) in

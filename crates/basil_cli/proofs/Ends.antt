@@ -1,6 +1,5 @@
 -- What holds of the end of each schedule.
-use Rattle.std.proofs.Common.{◌≡◌, ◌⊎◌, ℕ, List, [], ◌++◌, Bool, false, Option, Some, None, Result, Ok, Err, inl, inr, refl, ap, subst}
-use Rattle.std.specs.Prelude.{IfSome}
+use Rattle.std.proofs.Common.{◌≡◌, ◌⊎◌, ℕ, List, [], ◌++◌, Bool, false, Option, Some, Result, Ok, Err, inl, inr, refl, ap, subst}
 use Rattle.basil_types.specs.Causes.{TookPrefix}
 use Rattle.basil_types.specs.Links.{LinkState}
 use Rattle.basil_types.specs.Steps.{◌>>=◌}
@@ -13,9 +12,11 @@ use Rattle.schedule_replay.specs.Reports.{report}
 use Rattle.schedule_replay.specs.Roads.{Direct, Road, road_with}
 use Rattle.schedule_replay.specs.declared.fault.ReplayFault.{ReplayFault}
 use Rattle.schedule_replay.specs.declared.fault.ReplayFault.TheVariants as fault
-use Rattle.basil_cli.specs.Answers.{Answers, Counts, IsBrokenEnd, LoadedSafely, Tells, TookFault, TookSome, WroteSafely, WroteSome}
+use Rattle.basil_cli.specs.Answers.{Answers, Counts, IsBrokenEnd, LoadedInPart, LoadedSafely, Tells, TookFault, TookSome}
+use Rattle.basil_cli.specs.Answers.{WroteSafely, WroteSome}
 use Rattle.basil_cli.specs.Commands.{reads}
-use Rattle.basil_cli.specs.Linked.{ByRoads, ByArguments}
+use Rattle.basil_cli.proofs.SourceLaws.{of_map}
+use Rattle.basil_cli.specs.Linked.{ByRoads, ByArguments, OfBytes}
 use Rattle.basil_cli.specs.Outcome.{text_of}
 use Rattle.basil_cli.specs.Output.{load_text, loaded, output_of, replayed}
 use Rattle.basil_cli.specs.declared.command.Command.{Command}
@@ -66,41 +67,42 @@ module _ (road : Road) (bytes : List ℕ) (old new : Option (List ℕ)) where
 
 module _ (status : Status) (o : Option Command) (command : Command) (counts : Counts) (old new : Option (List ℕ))
     (told tells : Option LinkState) (left : Option (List ℕ)) (said : o ≡ Some command)
-    (answers : IfSome left
+    (answers : OfBytes left
     (λ bytes. ByArguments (Some command) told tells (λ coming. Answers status (output_of command coming bytes) counts old new))) where
   -- what follows from the answer to a schedule follows by every road
-  as_replay : (left : Option (List ℕ)) (carried : Bool) (other : Status) (So : Road → List ℕ → Type 0) → o ≡ Some (Replay carried) →
-      status ≡ other →
-      IfSome left
-      (λ bytes. ByArguments (Some command) told tells (λ coming. Answers status (output_of command coming bytes) counts old new)) →
+  as_replay : (carried : Bool) (other : Status) (So : Road → List ℕ → Type 0) → o ≡ Some (Replay carried) → status ≡ other →
       ((road : Road) (bytes : List ℕ) → Answers other (replayed (outcome_on road bytes)) counts old new → So road bytes) →
-      IfSome left (λ bytes. ByRoads carried told tells (λ road. So road bytes))
-  as_replay None carried other So e f a turn = tt
-  as_replay (Some bytes) carried other So e f a turn =
+      OfBytes left (λ bytes. ByRoads carried told tells (λ road. So road bytes))
+  as_replay carried other So e f turn =
       let same : command ≡ Replay carried = cc in
+      of_map left
+      (λ bytes. ByArguments (Some command) told tells (λ coming. Answers status (output_of command coming bytes) counts old new))
+      (λ bytes. ByRoads carried told tells (λ road. So road bytes))
+      (λ bytes a.
       carries_as carried
       (subst (λ (x : Command). ByArguments (Some x) told tells (λ coming. Answers status (output_of x coming bytes) counts old new)) same a)
       (λ gave so later.
       let road = road_with carried (gave ++ later) in
-      turn road bytes (subst (λ (x : Status). Answers x (replayed (outcome_on road bytes)) counts old new) f (so later)))
+      turn road bytes (subst (λ (x : Status). Answers x (replayed (outcome_on road bytes)) counts old new) f (so later))))
+      answers
 
   pub safe_ends : ReportsAreSafe → (carried : Bool) → o ≡ Some (Replay carried) → status ≡ ends.Done →
-      IfSome left (λ bytes. ByRoads carried told tells (λ road. WroteSafely road bytes old new))
+      OfBytes left (λ bytes. ByRoads carried told tells (λ road. WroteSafely road bytes old new))
   safe_ends law carried e f =
-      as_replay left carried ends.Done (λ road bytes. WroteSafely road bytes old new) e f answers
+      as_replay carried ends.Done (λ road bytes. WroteSafely road bytes old new) e f
       (λ road bytes t. told_safe road bytes old new law t)
 
   pub safe_in_part : ReportsAreSafe → (carried : Bool) → o ≡ Some (Replay carried) → status ≡ ends.WriteFault →
-      IfSome left (λ bytes. ByRoads carried told tells (λ road.
+      OfBytes left (λ bytes. ByRoads carried told tells (λ road.
       WroteSome (outcome_on road bytes) road bytes old new ⊎ TookFault counts old new))
   safe_in_part law carried e f =
-      as_replay left carried ends.WriteFault (λ road bytes. WroteSome (outcome_on road bytes) road bytes old new ⊎ TookFault counts old new)
-      e f answers (λ road bytes t. told_some road bytes old new law counts t)
+      as_replay carried ends.WriteFault (λ road bytes. WroteSome (outcome_on road bytes) road bytes old new ⊎ TookFault counts old new)
+      e f (λ road bytes t. told_some road bytes old new law counts t)
 
   pub broken_ends : BreaksAreReal → (carried : Bool) → o ≡ Some (Replay carried) → status ≡ ends.Broken →
-      IfSome left (λ bytes. ByRoads carried told tells (λ road. IsBrokenEnd road bytes old new))
+      OfBytes left (λ bytes. ByRoads carried told tells (λ road. IsBrokenEnd road bytes old new))
   broken_ends law carried e f =
-      as_replay left carried ends.Broken (λ road bytes. IsBrokenEnd road bytes old new) e f answers
+      as_replay carried ends.Broken (λ road bytes. IsBrokenEnd road bytes old new) e f
       (λ road bytes t. told_broken road bytes old new law t)
 
 -- ---- what a command answers to the arguments of `load`
@@ -129,6 +131,23 @@ module _ (status : Status) (o : Option Command) (command : Command) (counts : Co
       by (Err (fault.Broken b)) e t = absurd (let told = t.told in cc)
       by (Err (fault.Full messages size)) e t = absurd (let told = t.told in cc)
       by (Err other) e t = absurd (let told = t.told in cc)
+
+  pub load_in_part : ReportsAreSafe → (size : LoadSize) → o ≡ Some (Load size) → status ≡ ends.WriteFault →
+      LoadedInPart (replay_of (load_text size)) size old new ⊎ TookFault counts old new
+  load_in_part law size e f = by (as_load size ends.WriteFault e f)
+    where
+      some : (r : Result ReplayValue ReplayFault) → replay_of (load_text size) ≡ r → TookPrefix old new (text_of (loaded r)) →
+          LoadedInPart r size old new
+      some (Ok replay) e t = (
+        law Direct (load_text size) (report replay) (ap (λ (x : Result ReplayValue ReplayFault). x >>= λ r. Ok (report r)) e),
+        t,
+      )
+      some (Err refused) e t = tt
+
+      by : TookSome (loaded (replay_of (load_text size))) counts old new →
+          LoadedInPart (replay_of (load_text size)) size old new ⊎ TookFault counts old new
+      by (inl prefix) = inl (some (replay_of (load_text size)) refl prefix)
+      by (inr fault) = inr fault
 
   pub load_breaks : BreaksAreReal → (size : LoadSize) → o ≡ Some (Load size) → status ≡ ends.Broken →
       IsBrokenEnd Direct (load_text size) old new

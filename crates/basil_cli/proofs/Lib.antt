@@ -5,6 +5,7 @@ pub mod Behind
 pub mod NeedLaws
 pub mod Ends
 pub mod Counts
+pub mod SourceLaws
 pub mod Arguments
 pub mod NodeLaws
 pub mod ClientLaws

@@ -2,30 +2,36 @@
 use Rattle.std.proofs.Common.{◌≡◌, ◌≤◌, ℕ, ◌∷◌, [], List, length, Bool, true, false, Option, Some, None, Result, Ok, Err}
 use Rattle.std.proofs.Common.{refl, sym, ap, subst, ◌∙◌, inl, inr, codes, arith}
 use Rattle.std.specs.Prelude.{IfSome, IfOk, IfErr, if◌then◌else◌, nat_lt}
+use Rattle.std.specs.Result.{IsErrAnd}
 use Rattle.std.specs.Str.{bytes_eq}
 use Rattle.std.proofs.lemmas.Grind.{common_steps}
 use Rattle.std.proofs.lemmas.Slice.Eq.{bytes_eq-Decides}
 use Rattle.basil_types.specs.Causes.{TookAll}
 use Rattle.basil_types.specs.Links.{LinkState}
+use Rattle.basil_types.specs.Setting.{Setting}
 use Rattle.cluster_file.specs.Listing.{Listing}
 use Rattle.cluster_file.specs.Text.{cluster_in}
-use Rattle.node_link.specs.Connections.{Node, ServesParts}
-use Rattle.party_seat.specs.Serving.{Begins, HasStopped, IsOutside, Refuses, ServesAt, serves_at}
+use Rattle.node_link.specs.Connections.{Between, Within, Node, ServesParts, StopsAt, failed_outside}
+use Rattle.node_link.specs.declared.fault.ServeFault.{ServeFault}
+use Rattle.node_link.specs.declared.fault.ServeFault.TheVariants as stops
+use Rattle.party_seat.specs.Serving.{Begins, HasFinished, HasStopped, IsOutside, Refuses, serves_at, stop_of}
 use Rattle.party_seat.specs.Stations.{Station, station_in}
 use Rattle.party_seat.specs.declared.fault.NodeFault.{NodeFault}
 use Rattle.party_seat.specs.declared.fault.NodeFault.TheVariants.{WrongKey, WrongLeaf, LinkFault, NoMemory}
 use Rattle.party_seat.specs.declared.fault.SeatFault.{SeatFault}
 use Rattle.party_seat.specs.declared.station.NodeSeat.{NodeSeat}
+use Rattle.replica_core.specs.Replicas.{ReplicaSelf}
 use Rattle.schedule_text.specs.Tokens.{Token}
 use Rattle.basil_cli.specs.Answers.{Answers, Counts, IsTold}
 use Rattle.basil_cli.specs.Commands.{arguments_read, command_of}
 use Rattle.basil_cli.specs.Nodes.{EndsAt, EndsServed, HasWritten, IsNodeTold, IsServed, TellsServed, WroteAt, WroteServed}
-use Rattle.basil_cli.specs.Nodes.{call_of, node_of, seated_at, seated_in, served_text, station_of}
+use Rattle.basil_cli.specs.Nodes.{call_of, node_of, seated_at, seated_in, served_text, station_of, stop_in, stop_told}
 use Rattle.basil_cli.specs.Outcome.{Outcome, Written, is_too_long, longest_input, text_of, TooLong}
 use Rattle.basil_cli.specs.Parts.{IsWhole, outcome_is}
 use Rattle.basil_cli.specs.declared.command.Command.{Command}
 use Rattle.basil_cli.specs.declared.ending.Ending.{Ending}
 use Rattle.basil_cli.specs.declared.input.InputFail.{InputFail}
+use Rattle.basil_cli.specs.declared.input.InputFail.TheVariants as input
 use Rattle.basil_cli.specs.declared.input.Whole.TheVariants as whole
 use Rattle.basil_cli.specs.declared.node.NodeCall.{NodeCall}
 use Rattle.basil_cli.specs.declared.status.Status.{Status}
@@ -85,21 +91,107 @@ pub refused_any : (left : Option (List ℕ)) (seat : NodeSeat) (P : Outcome → 
     IfSome left (λ bytes. IfErr (station_of seat bytes) P)
 refused_any left seat P h = some_any left (λ bytes. IfErr (station_of seat bytes) P) (λ bytes. err_any (station_of seat bytes) P h)
 
--- ---- a node that didn't begin
+-- ---- a node that didn't begin, or that stopped
 
-pub not_begun : (s : Station) (connections : ℕ) (ticks : Option (List ℕ)) (told : Option LinkState) (n : Node) →
-    Begins s ticks told n → HasStopped s connections n ticks told
+pub not_begun : (s : Station) (connections : ℕ) (ticks : Option (List ℕ)) (told : Option LinkState) (n : Node) (count : ℕ)
+    (stop : Option ServeFault) → failed_outside stop ≡ 0 → Begins s ticks told n →
+    HasStopped s connections n ticks told count count stop
 unfolding ServesParts
-not_begun s connections ticks told n b =
+not_begun s connections ticks told n count stop none b =
     record {
       start = n;
       listened = inl refl;
-      done = 0;
-      within = omega arith;
       new = n;
-      served = refl;
+      failed = 0;
+      served = record { done = 0; within = omega arith; last = n; served = (refl, refl); stop = Between refl };
       is = record { moments = b.outside.moments; links = b.outside.links; frames = refl };
+      risen = omega (arith, none);
     }
+
+-- what failed was no link
+pub no_link : (result : Result Ending InputFail) (fail : InputFail) → IsErrAnd result (λ x. x ≡ fail) → (fail ≡ input.Link → ⊥) →
+    failed_outside (stop_in result) ≡ 0
+no_link (Ok e) fail is unlinked = refl
+no_link (Err input.Failed) fail is unlinked = refl
+no_link (Err input.Link) fail is unlinked = absurd (unlinked (sym is))
+no_link (Err input.NoMemory) fail is unlinked = refl
+
+-- a fault that tells of fewer failed calls
+pub record Weaker (first second : Option ServeFault) : Type 0 where
+  pub fewer : failed_outside second ≤ failed_outside first
+  pub wanting : first ≡ Some stops.NoMemory → second ≡ Some stops.NoMemory
+
+pub weaker_none : (second : Option ServeFault) → failed_outside second ≡ 0 → Weaker None second
+weaker_none second none = record { fewer = omega (arith, none); wanting = λ e. absurd cc }
+
+pub weaker_same : (stop : Option ServeFault) → Weaker stop stop
+weaker_same stop = record { fewer = omega arith; wanting = λ e. e }
+
+pub weaker_link : Weaker (Some stops.LinkFault) None
+weaker_link = record { fewer = omega arith; wanting = λ e. absurd cc }
+
+module _ (s : Station) (connections : ℕ) (n : Node) (ticks : Option (List ℕ)) (told : Option LinkState) (before now : ℕ) where
+  stops_so : (first second : Option ServeFault) → Weaker first second → (cluster : Setting) (me : ReplicaSelf) (old new : Node)
+      (more : ℕ) → StopsAt cluster me old new more first → StopsAt cluster me old new more second
+  stops_so first second w cluster me old new more (Between is) = Between is
+  stops_so first second w cluster me old new more (Within some wanting part) = Within some (w.wanting wanting) part
+
+  pub stopped_so : (first second : Option ServeFault) → Weaker first second →
+      HasStopped s connections n ticks told before now first → HasStopped s connections n ticks told before now second
+  stopped_so first second w h =
+      record {
+        start = h.start;
+        listened = h.listened;
+        new = h.new;
+        failed = h.failed;
+        served = record {
+          done = h.served.done;
+          within = h.served.within;
+          last = h.served.last;
+          served = h.served.served;
+          stop = stops_so first second w _ _ h.served.last h.new _ h.served.stop;
+        };
+        is = h.is;
+        risen = omega (arith, h.risen, w.fewer);
+      }
+
+  pub stopped_as : (result is : Result Ending InputFail) → result ≡ is → (second : Option ServeFault) → Weaker (stop_in is) second →
+      HasStopped s connections n ticks told before now (stop_in result) → HasStopped s connections n ticks told before now second
+  stopped_as result is same second w h =
+      stopped_so (stop_in is) second w (subst (λ r. HasStopped s connections n ticks told before now (stop_in r)) same h)
+
+  unstopped : (result : Result Ending InputFail) → (result ≡ Err input.Link → ⊥) →
+      HasStopped s connections n ticks told before now None → HasStopped s connections n ticks told before now (stop_in result)
+  unstopped (Ok e) unlinked h = h
+  unstopped (Err input.Failed) unlinked h = h
+  unstopped (Err input.Link) unlinked h = absurd (unlinked refl)
+  unstopped (Err input.NoMemory) unlinked h = stopped_so None (Some stops.NoMemory) (weaker_none _ refl) h
+
+  -- as the result tells it
+  pub stopped_in : (served : Result ℕ NodeFault) (result : Result Ending InputFail) → TellsServed served result →
+      (result ≡ Err input.Link → served ≡ Err LinkFault) → HasStopped s connections n ticks told before now (stop_of served) →
+      HasStopped s connections n ticks told before now (stop_in result)
+  stopped_in (Ok count) result t link h = unstopped result (λ e. let other = link e in cc) h
+  stopped_in (Err WrongKey) result t link h = unstopped result (λ e. let other = link e in cc) h
+  stopped_in (Err WrongLeaf) result t link h = unstopped result (λ e. let other = link e in cc) h
+  stopped_in (Err LinkFault) result t link h = subst (λ r. HasStopped s connections n ticks told before now (stop_in r)) (sym t) h
+  stopped_in (Err NoMemory) result t link h = subst (λ r. HasStopped s connections n ticks told before now (stop_in r)) (sym t) h
+
+  -- as the status of an ending does that was written
+  pub stopped_told : (status : Status) → (status ≡ ends.LinkFault → ⊥) → HasStopped s connections n ticks told before now None →
+      HasStopped s connections n ticks told before now (stop_told status)
+  stopped_told ends.LinkFault unlinked h = absurd (unlinked refl)
+  stopped_told ends.NoMemory unlinked h = stopped_so None (Some stops.NoMemory) (weaker_none _ refl) h
+  stopped_told ends.Done unlinked h = h
+  stopped_told ends.BadWords unlinked h = h
+  stopped_told (ends.BadInput line reason) unlinked h = h
+  stopped_told ends.ReadFault unlinked h = h
+  stopped_told ends.WriteFault unlinked h = h
+  stopped_told ends.Broken unlinked h = h
+  stopped_told (ends.Refused reason) unlinked h = h
+  stopped_told (ends.Full messages bytes) unlinked h = h
+  stopped_told (ends.Undecided replies) unlinked h = h
+  stopped_told ends.TooLong unlinked h = h
 
 -- ---- its seat and its file
 
@@ -154,24 +246,17 @@ module _ (seat : NodeSeat) where
 module _ (s : Station) (connections : ℕ) (n : Node) (ticks : Option (List ℕ)) (told : Option LinkState)
     (answer : Result Station SeatFault) (seated : answer ≡ Ok s) where
   pub ends_served : (served : Result ℕ NodeFault) (result : Result Ending InputFail) → TellsServed served result →
-      IfErr served (λ fault. Refuses fault answer) →
-      IfOk served (λ count. (m : Node) × ServesAt s connections n m × IsOutside ticks told count m) →
-      IfOk result (λ e. EndsServed s connections n ticks told (outcome_is e))
-  ends_served (Ok count) (Ok e) t r h =
-      let o = h.2 in
-      record {
-        new = h.0;
-        served = h.1;
-        is = record { moments = o.moments; links = o.links; frames = refl };
-        written = t ∙ ap (λ (f : ℕ). Written (served_text f)) o.frames;
-      }
-  ends_served (Ok count) (Err f) t r h = tt
-  ends_served (Err WrongKey) result t r h = absurd cc
-  ends_served (Err WrongLeaf) result t r h = absurd cc
-  ends_served (Err LinkFault) (Ok e) t r h = absurd cc
-  ends_served (Err LinkFault) (Err f) t r h = tt
-  ends_served (Err NoMemory) (Ok e) t r h = absurd cc
-  ends_served (Err NoMemory) (Err f) t r h = tt
+      IfErr served (λ fault. Refuses fault answer) → (before now : ℕ) →
+      IfOk served (λ count. HasFinished s connections n ticks told count before now) →
+      IfOk result (λ e. EndsServed s connections n ticks told before now (outcome_is e))
+  ends_served (Ok count) (Ok e) t r before now h = record { frames = count; served = h; written = t }
+  ends_served (Ok count) (Err f) t r before now h = tt
+  ends_served (Err WrongKey) result t r before now h = absurd cc
+  ends_served (Err WrongLeaf) result t r before now h = absurd cc
+  ends_served (Err LinkFault) (Ok e) t r before now h = absurd cc
+  ends_served (Err LinkFault) (Err f) t r before now h = tt
+  ends_served (Err NoMemory) (Ok e) t r before now h = absurd cc
+  ends_served (Err NoMemory) (Err f) t r before now h = tt
 
   pub ends_at : (served : Result ℕ NodeFault) (result : Result Ending InputFail) → TellsServed served result →
       IfErr served (λ fault. Refuses fault answer) →
@@ -205,13 +290,12 @@ module _ (status : Status) (outcome : Outcome) (counts : Counts) (before after :
       }
 
   pub wrote_served : status ≡ ends.Done → Answers status outcome counts before after → (s : Station) (connections : ℕ) (n : Node)
-      (ticks : Option (List ℕ)) (told : Option LinkState) → EndsServed s connections n ticks told outcome →
-      WroteServed s connections n ticks told before after
-  wrote_served e answers s connections n ticks told served =
+      (ticks : Option (List ℕ)) (told : Option LinkState) (first last : ℕ) → EndsServed s connections n ticks told first last outcome →
+      WroteServed s connections n ticks told first last before after
+  wrote_served e answers s connections n ticks told first last served =
       record {
-        new = served.new;
+        frames = served.frames;
         served = served.served;
-        is = served.is;
         written = subst (λ (o : Outcome). TookAll before after (text_of o)) served.written (done_text e answers);
       }
 

@@ -155,6 +155,12 @@ pub record LoadedSafely (size : LoadSize) (old new : Option (List ℕ)) : Type 0
   pub replayed : replay_of (load_text size) ≡ Ok replay
   pub written : TookAll old new (totals replay)
 
+-- where a load leads to a replay, its run is safe, and some of its totals were written
+abbrev pub LoadedInPart : Result ReplayValue ReplayFault → LoadSize → (old new : Option (List ℕ)) → Type 0
+LoadedInPart (Ok replay) size old new =
+    IsSafeReport Direct (load_text size) (report replay) × TookPrefix old new (totals replay)
+LoadedInPart (Err refused) size old new = ⊤
+
 -- a schedule leads to a breach, whose text was written; it is real
 pub record IsBrokenEnd (road : Road) (bytes : List ℕ) (old new : Option (List ℕ)) : Type 0 where
   pub broken : premise.Broken

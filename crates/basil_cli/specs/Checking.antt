@@ -1,8 +1,7 @@
 -- What `check` leads to: a header line, and a line with the frame of a writeback.
-use Rattle.std.specs.Prelude.{ℕ, List, [], ◌∷◌, ◌++◌, codes, Option, Some, None, Result, Ok, Err}
+use Rattle.std.specs.Prelude.{ℕ, List, [], ◌∷◌, Option, Some, None, Result, Ok, Err}
 use Rattle.basil_types.specs.Setting.{Setting}
 use Rattle.basil_types.specs.declared.party.Decision.{Decision}
-use Rattle.basil_types.specs.declared.party.Decision.TheVariants.{Commit, Abort}
 use Rattle.basil_types.specs.Transaction.{TransactionValue}
 use Rattle.certificates.specs.Accepted.{Accepted}
 use Rattle.certificates.specs.Numbers.{number_of}
@@ -25,6 +24,7 @@ use Rattle.schedule_text.specs.declared.line.KeysKind.TheVariants.{Plain, W4H5, 
 use Rattle.schedule_text.specs.declared.line.Line.{Line}
 use Rattle.schedule_text.specs.declared.line.Line.TheVariants.{Header}
 use Rattle.schedule_text.specs.declared.line.LineFault.{LineFault}
+use Rattle.client_text.specs.Reports.{decision_line}
 use Rattle.txn_meta.specs.Form.{form_fault}
 use Rattle.txn_meta.specs.declared.form.FormFault.{FormFault}
 use Rattle.schedule_text.specs.TextLines.{lines_of}
@@ -52,12 +52,8 @@ accepted_by cluster ring.Batch = in_batch plain_accepts
 
 -- ---- the certificate
 
-abbrev pub decision_text : Decision → List ℕ
-decision_text Commit = codes "commit" ++ 10 ∷ []
-decision_text Abort = codes "abort" ++ 10 ∷ []
-
 abbrev pub proved : Decision → Option CertRefusal → Outcome
-proved decision None = Written (decision_text decision)
+proved decision None = Written (decision_line decision)
 proved decision (Some r) = Refused (number_of r)
 
 -- a transaction without a good form comes first

@@ -7,7 +7,9 @@ use Rattle.basil_types.specs.Links.{LinkState}
 use Rattle.cluster_file.specs.Listing.{Listing}
 use Rattle.cluster_file.specs.Text.{cluster_in}
 use Rattle.node_link.specs.Connections.{Node}
-use Rattle.party_seat.specs.Serving.{IsOutside, ServesAt}
+use Rattle.node_link.specs.declared.fault.ServeFault.{ServeFault}
+use Rattle.node_link.specs.declared.fault.ServeFault.TheVariants as stops
+use Rattle.party_seat.specs.Serving.{HasFinished, IsOutside}
 use Rattle.party_seat.specs.Stations.{Station, station_in}
 use Rattle.party_seat.specs.declared.fault.NodeFault.{NodeFault}
 use Rattle.party_seat.specs.declared.fault.NodeFault.TheVariants as seats
@@ -106,21 +108,20 @@ TellsServed (Err seats.WrongLeaf) result = IfOk result (λ e. outcome_is e ≡ B
 TellsServed (Err seats.LinkFault) result = result ≡ Err input.Link
 TellsServed (Err seats.NoMemory) result = result ≡ Err input.NoMemory
 
--- so many connections were served, some of the envelopes of each, and it was written how many that were
+-- so many connections were served, all of the envelopes of each, or some where a call failed, as often as the links'
+-- count rose at most; and it was written how many envelopes that were
 pub record WroteServed (s : Station) (connections : ℕ) (old : Node) (ticks : Option (List ℕ)) (told : Option LinkState)
-    (before after : Option (List ℕ)) : Type 0 where
-  pub new : Node
-  pub served : ServesAt s connections old new
-  pub is : IsOutside ticks told new.frames new
-  pub written : TookAll before after (served_text new.frames)
+    (links_before links_now : ℕ) (before after : Option (List ℕ)) : Type 0 where
+  pub frames : ℕ
+  pub served : HasFinished s connections old ticks told frames links_before links_now
+  pub written : TookAll before after (served_text frames)
 
 -- an ending that tells of a node
 pub record EndsServed (s : Station) (connections : ℕ) (old : Node) (ticks : Option (List ℕ)) (told : Option LinkState)
-    (outcome : Outcome) : Type 0 where
-  pub new : Node
-  pub served : ServesAt s connections old new
-  pub is : IsOutside ticks told new.frames new
-  pub written : outcome ≡ Written (served_text new.frames)
+    (links_before links_now : ℕ) (outcome : Outcome) : Type 0 where
+  pub frames : ℕ
+  pub served : HasFinished s connections old ticks told frames links_before links_now
+  pub written : outcome ≡ Written (served_text frames)
 
 -- the same, where it is known behind which node
 pub record EndsAt (new : Node) (ticks : Option (List ℕ)) (told : Option LinkState) (outcome : Outcome) : Type 0 where
@@ -131,6 +132,18 @@ pub record WroteAt (new : Node) (ticks : Option (List ℕ)) (told : Option LinkS
     Type 0 where
   pub is : IsOutside ticks told new.frames new
   pub written : TookAll before after (served_text new.frames)
+
+-- why it stopped before all were served, where a result tells that
+abbrev pub stop_in : Result Ending InputFail → Option ServeFault
+stop_in (Err input.Link) = Some stops.LinkFault
+stop_in (Err input.NoMemory) = Some stops.NoMemory
+stop_in _ = None
+
+-- or a status
+abbrev pub stop_told : Status → Option ServeFault
+stop_told ends.LinkFault = Some stops.LinkFault
+stop_told ends.NoMemory = Some stops.NoMemory
+stop_told _ = None
 
 -- a node that serves is done, and another has the status of what is refused; or memory is wanting
 abbrev pub IsNodeTold : Status → Result Station Outcome → Type 0

@@ -27,7 +27,8 @@ pub data Outcome : Type 0 where
   RefusedAt : (refusal : HssRefusal) → Outcome
   -- the same, told in a line of its own
   Stray : (line : List ℕ) → Outcome
-  -- the messages of an event would pass a limit of the pool, which holds so many messages and bytes
+  -- the messages of an event would pass a limit of the pool, or a record the limit of a journal; that holds so many
+  -- messages or records, and bytes
   Full : (messages bytes : ℕ) → Outcome
   -- a client has no choice of a read, or no decision, by the votes and log replies that it holds, so many
   Undecided : (replies : ℕ) → Outcome

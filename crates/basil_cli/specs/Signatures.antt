@@ -1,6 +1,6 @@
 -- What `keys`, `sign` and `verify` lead to, for LMS and for HSS.
 use Rattle.std.specs.Prelude.{ℕ, List, [], ◌∷◌, ◌++◌, codes, Option, Some, None}
-use Rattle.hex.specs.Hex.{encode_lower}
+use Rattle.batch_text.specs.Texts.{hex_line}
 use Rattle.hss_sign.specs.Keys.{hss_public_of, hss_signature_of, material_of as key_of}
 use Rattle.hss_sign.specs.Verifying.{first_refusal as first_hss_refusal}
 use Rattle.hss_sign.specs.declared.verifying.HssRefusal.{HssRefusal}
@@ -17,10 +17,6 @@ use Rattle.basil_cli.specs.declared.command.SigningLeaf.{SigningLeaf}
 
 abbrev pub tree_named : KeyMaterial → Tree
 tree_named m = tree_of m.set m.ident m.seed
-
--- bytes in lower-case hex, on a line
-abbrev pub hex_line : List ℕ → List ℕ
-hex_line bytes = encode_lower bytes ++ 10 ∷ []
 
 abbrev pub keys_made : KeyMaterial → Outcome
 keys_made m = Written (hex_line (public_of (tree_named m)))

@@ -13,7 +13,7 @@ ghost use Rattle.basil_cli.specs.Commands.{said};
 ghost use Rattle.basil_cli.specs.Nodes as nodes;
 ghost use Rattle.basil_cli.specs.Nodes.{EndsAt, EndsServed, HasWritten, IsNodeTold, IsServed, TellsServed};
 ghost use Rattle.basil_cli.specs.Nodes.{WroteAt, WroteServed, call_of, node_of, seat_of, seated_at, seated_in};
-ghost use Rattle.basil_cli.specs.Nodes.{station_of};
+ghost use Rattle.basil_cli.specs.Nodes.{station_of, stop_in, stop_told};
 ghost use Rattle.basil_cli.specs.Outcome.{is_too_long};
 ghost use Rattle.basil_cli.specs.Parts.{outcome_is};
 ghost use Rattle.basil_cli.specs.Reading.{IsReadThrough, StopsSoon};
@@ -201,14 +201,16 @@ fn serve_in<L: Links, C: Clock>(
         IfOk result (λ e. IsServed (outcome_is e))) }
     ensures served { (s : Station) (n : Node) → seated_at (station_in file.now call.now.seat) ≡ Ok s →
         Begins s (C.moments clock.old) (L.told links.old) n → IfOk result (λ e.
-        EndsServed s call.now.connections n (C.moments clock.new) (L.told links.new) (outcome_is e)) }
+        EndsServed s call.now.connections n (C.moments clock.new) (L.told links.new)
+        (L.faults links.old) (L.faults links.new) (outcome_is e)) }
     ensures whole { (s : Station) (n : Node) → seated_at (station_in file.now call.now.seat) ≡ Ok s →
         Begins s (C.moments clock.old) (L.told links.old) n → (Rose (L.faults links.old) (L.faults links.new) → ⊥) →
         IfOk result (λ e. EndsAt (serves_at s call.now.connections n) (C.moments clock.new) (L.told links.new)
         (outcome_is e)) }
     ensures stands { (s : Station) (n : Node) → seated_at (station_in file.now call.now.seat) ≡ Ok s →
         Begins s (C.moments clock.old) (L.told links.old) n →
-        HasStopped s call.now.connections n (C.moments clock.new) (L.told links.new) }
+        HasStopped s call.now.connections n (C.moments clock.new) (L.told links.new)
+        (L.faults links.old) (L.faults links.new) (stop_in result) }
     ensures link { IsErrOf result InputFail.Link → Rose (L.faults links.old) (L.faults links.new) }
     ensures unread { IsErrOf result InputFail.Failed → ⊥ }
     ensures faults { L.faults links.old ≤ L.faults links.new }
@@ -234,14 +236,16 @@ fn serve_file<L: Links, C: Clock>(
         IfOk result (λ e. IsServed (outcome_is e))) }
     ensures served { (s : Station) (n : Node) → seated_in (cluster_in bytes.now) call.now.seat ≡ Ok s →
         Begins s (C.moments clock.old) (L.told links.old) n → IfOk result (λ e.
-        EndsServed s call.now.connections n (C.moments clock.new) (L.told links.new) (outcome_is e)) }
+        EndsServed s call.now.connections n (C.moments clock.new) (L.told links.new)
+        (L.faults links.old) (L.faults links.new) (outcome_is e)) }
     ensures whole { (s : Station) (n : Node) → seated_in (cluster_in bytes.now) call.now.seat ≡ Ok s →
         Begins s (C.moments clock.old) (L.told links.old) n → (Rose (L.faults links.old) (L.faults links.new) → ⊥) →
         IfOk result (λ e. EndsAt (serves_at s call.now.connections n) (C.moments clock.new) (L.told links.new)
         (outcome_is e)) }
     ensures stands { (s : Station) (n : Node) → seated_in (cluster_in bytes.now) call.now.seat ≡ Ok s →
         Begins s (C.moments clock.old) (L.told links.old) n →
-        HasStopped s call.now.connections n (C.moments clock.new) (L.told links.new) }
+        HasStopped s call.now.connections n (C.moments clock.new) (L.told links.new)
+        (L.faults links.old) (L.faults links.new) (stop_in result) }
     ensures link { IsErrOf result InputFail.Link → Rose (L.faults links.old) (L.faults links.new) }
     ensures unread { IsErrOf result InputFail.Failed → ⊥ }
     ensures faults { L.faults links.old ≤ L.faults links.new }
@@ -276,7 +280,7 @@ fn serve_source<S: Source, L: Links, C: Clock>(
     ensures served { (s : Station) (n : Node) → IfSome (S.left source.old) (λ bytes.
         station_of call.now.seat bytes ≡ Ok s → Begins s (C.moments clock.old) (L.told links.old) n →
         IfOk result (λ e. EndsServed s call.now.connections n (C.moments clock.new) (L.told links.new)
-        (outcome_is e))) }
+        (L.faults links.old) (L.faults links.new) (outcome_is e))) }
     ensures whole { (s : Station) (n : Node) → (Rose (L.faults links.old) (L.faults links.new) → ⊥) →
         IfSome (S.left source.old) (λ bytes.
         station_of call.now.seat bytes ≡ Ok s → Begins s (C.moments clock.old) (L.told links.old) n →
@@ -284,7 +288,8 @@ fn serve_source<S: Source, L: Links, C: Clock>(
         (outcome_is e))) }
     ensures stands { (s : Station) (n : Node) → IfSome (S.left source.old) (λ bytes.
         station_of call.now.seat bytes ≡ Ok s → Begins s (C.moments clock.old) (L.told links.old) n →
-        HasStopped s call.now.connections n (C.moments clock.new) (L.told links.new)) }
+        HasStopped s call.now.connections n (C.moments clock.new) (L.told links.new)
+        (L.faults links.old) (L.faults links.new) (stop_in result)) }
     ensures through { IfOk result (λ _. IfSome (S.left source.old) (λ bytes.
         IsReadThrough is_too_long bytes (S.left source.new))) }
     ensures soon { IfSome (S.left source.old) (λ bytes. StopsSoon is_too_long bytes (S.left source.new)) }
@@ -322,7 +327,7 @@ pub(crate) fn run_node<S: Source, K: Sink, L: Links, C: Clock>(
     ensures served { (s : Station) (n : Node) → result ≡ Status.Done → IfSome (S.left source.old) (λ bytes.
         station_of call.now.seat bytes ≡ Ok s → Begins s (C.moments clock.old) (L.told links.old) n →
         WroteServed s call.now.connections n (C.moments clock.new) (L.told links.new)
-        (K.taken sink.old) (K.taken sink.new)) }
+        (L.faults links.old) (L.faults links.new) (K.taken sink.old) (K.taken sink.new)) }
     ensures whole { (s : Station) (n : Node) → (Rose (L.faults links.old) (L.faults links.new) → ⊥) →
         result ≡ Status.Done → IfSome (S.left source.old) (λ bytes.
         station_of call.now.seat bytes ≡ Ok s → Begins s (C.moments clock.old) (L.told links.old) n →
@@ -330,7 +335,8 @@ pub(crate) fn run_node<S: Source, K: Sink, L: Links, C: Clock>(
         (K.taken sink.old) (K.taken sink.new)) }
     ensures stands { (s : Station) (n : Node) → IfSome (S.left source.old) (λ bytes.
         station_of call.now.seat bytes ≡ Ok s → Begins s (C.moments clock.old) (L.told links.old) n →
-        HasStopped s call.now.connections n (C.moments clock.new) (L.told links.new)) }
+        HasStopped s call.now.connections n (C.moments clock.new) (L.told links.new)
+        (L.faults links.old) (L.faults links.new) (stop_told result)) }
     ensures complete { (Rose (S.faults source.old) (S.faults source.new) → ⊥) →
         (Rose (K.faults sink.old) (K.faults sink.new) → ⊥) → (Rose (L.faults links.old) (L.faults links.new) → ⊥) →
         IfSome (S.left source.old) (λ bytes. IsNodeTold result (station_of call.now.seat bytes)) }

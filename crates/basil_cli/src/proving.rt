@@ -7,7 +7,8 @@ ghost use Rattle.frame_views.specs.Fitting.{FitsCertificate, bounds_of};
 ghost use Rattle.frame_views.specs.Shown.{certificate_of};
 ghost use Rattle.keyring_lms.specs.Replay.{replay_accepts};
 ghost use Rattle.txn_meta.specs.Form.{form_fault};
-ghost use Rattle.basil_cli.specs.Checking.{decision_text, proved_by};
+ghost use Rattle.basil_cli.specs.Checking.{proved_by};
+ghost use Rattle.client_text.specs.Reports.{decision_line};
 ghost use Rattle.basil_cli.specs.Outcome.{Written};
 ghost use Rattle.basil_cli.specs.Parts.{outcome_is};
 ghost use Rattle.basil_cli.specs.Signers.{signers, own_refusal};
@@ -43,7 +44,7 @@ impl Verifier for AnyKeys {
 
 /// `commit` or `abort`
 fn proved_text(alloc: Global, decision: Decision) -> Result<Ending, NoMemory>
-    ensures { IfOk result (λ e. outcome_is e ≡ Written (decision_text decision)) }
+    ensures { IfOk result (λ e. outcome_is e ≡ Written (decision_line decision)) }
 {
     match decision {
         Decision::Commit => Ok(Ending::Written(Bytes::copy_of(alloc, b"commit\n")?)),

@@ -9,7 +9,7 @@ ghost use Rattle.schedule_replay.specs.Roads.{Carries, Uses, road_with};
 ghost use Rattle.schedule_replay.specs.Schedules.{Ends};
 ghost use Rattle.schedule_replay.specs.Shown.{is_link_fault, is_of_link};
 ghost use Rattle.basil_cli.specs.Behind.{CanDecide, CanEnd, Closes, HasRead, IsCut, IsOn, ReadsOn};
-ghost use Rattle.basil_cli.specs.Linked.{ByRoads};
+ghost use Rattle.basil_cli.specs.Linked.{ByRoads, OfBytes};
 ghost use Rattle.basil_cli.specs.Outcome.{Written};
 ghost use Rattle.basil_cli.specs.Output.{load_text, loaded, replayed};
 ghost use Rattle.basil_cli.specs.Parts.{is_link_fail, outcome_is};
@@ -256,7 +256,7 @@ pub(crate) fn replay<S: Source, L: Links>(
     links: &mut L,
     carried: bool,
 ) -> Result<Ending, InputFail>
-    ensures outcome { IfSome (S.left source.old) (λ bytes.
+    ensures outcome { OfBytes (S.left source.old) (λ bytes.
         ByRoads carried (L.told links.old) (L.told links.new) (λ road.
         IfOk result (λ e. outcome_is e ≡ replayed (outcome_on road bytes)))) }
     ensures through { IfSome (S.left source.old) (λ bytes.

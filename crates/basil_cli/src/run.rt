@@ -11,14 +11,15 @@ ghost use Rattle.party_seat.specs.Stations.{Station};
 ghost use Rattle.schedule_replay.specs.Outcomes as schedules;
 ghost use Rattle.schedule_replay.specs.Roads.{Direct, Uses};
 ghost use Rattle.basil_cli.specs.Answers.{Answers, IsBrokenEnd, IsTold};
-ghost use Rattle.basil_cli.specs.Answers.{LoadedSafely, TookFault, WroteSafely, WroteSome};
+ghost use Rattle.basil_cli.specs.Answers.{LoadedInPart, LoadedSafely, TookFault, WroteSafely, WroteSome};
 ghost use Rattle.basil_cli.specs.Answers.{counted, is_outcomes};
 ghost use Rattle.basil_cli.specs.Batches.{ToldReally};
 ghost use Rattle.basil_cli.specs.Commands.{command_of, is_carried, runs, arguments_carried};
 ghost use Rattle.basil_cli.specs.Commands.{arguments_read, reads, HasLeaf};
-ghost use Rattle.basil_cli.specs.Linked.{ByRoads, ByArguments};
+ghost use Rattle.basil_cli.specs.Linked.{ByRoads, ByArguments, OfBytes};
 ghost use Rattle.basil_cli.specs.Clients.{CallsNone, ClientStation, IsClientTold, ToldRun, client_of, client_station};
 ghost use Rattle.basil_cli.specs.Nodes.{HasWritten, IsNodeTold, WroteAt, WroteServed, node_of, station_of};
+ghost use Rattle.basil_cli.specs.Nodes.{stop_told};
 ghost use Rattle.basil_cli.specs.Outcome.{is_too_long, longest_input};
 ghost use Rattle.basil_cli.specs.Output.{load_text, outcome_of, output_of};
 ghost use Rattle.basil_cli.specs.Parts.{is_link_fail, outcome_is};
@@ -82,7 +83,7 @@ fn ending_alone<S: Source>(
 ) -> Result<Ending, InputFail>
     requires leaf { HasLeaf command.now }
     requires other { runs command.now ≡ false }
-    ensures outcome { IfOk result (λ e. IfSome (S.left source.old) (λ bytes.
+    ensures outcome { IfOk result (λ e. OfBytes (S.left source.old) (λ bytes.
         (coming : List (List ℕ)) → outcome_is e ≡ output_of command.now coming bytes)) }
     ensures alone { reads command.now ≡ false → IfOk result (λ e.
         (coming : List (List ℕ)) → outcome_is e ≡ output_of command.now coming []) }
@@ -112,7 +113,7 @@ fn ending_for<S: Source, L: Links>(
     links: &mut L,
 ) -> Result<Ending, InputFail>
     requires { HasLeaf command.now }
-    ensures outcome { IfSome (S.left source.old) (λ bytes.
+    ensures outcome { OfBytes (S.left source.old) (λ bytes.
         ByArguments (Some command.now) (L.told links.old) (L.told links.new) (λ coming.
         IfOk result (λ e. outcome_is e ≡ output_of command.now coming bytes))) }
     ensures alone { reads command.now ≡ false → IfOk result (λ e.
@@ -146,7 +147,7 @@ fn run_command<S: Source, K: Sink, L: Links>(
     requires { HasLeaf command.now }
     ensures answers { let counts =
         counted (S.faults source.old) (S.faults source.new) (L.faults links.old) (L.faults links.new) in
-        IfSome (S.left source.old) (λ bytes.
+        OfBytes (S.left source.old) (λ bytes.
         ByArguments (Some command.now) (L.told links.old) (L.told links.new) (λ coming.
         Answers result (output_of command.now coming bytes) counts (K.taken sink.old) (K.taken sink.new))) }
     ensures alone { let counts =
@@ -162,7 +163,7 @@ fn run_command<S: Source, K: Sink, L: Links>(
         StopsSoon (is_enough command.now coming) bytes (S.left source.new))) }
     ensures complete { (Rose (S.faults source.old) (S.faults source.new) → ⊥) →
         (Rose (K.faults sink.old) (K.faults sink.new) → ⊥) → (Rose (L.faults links.old) (L.faults links.new) → ⊥) →
-        IfSome (S.left source.old) (λ bytes.
+        OfBytes (S.left source.old) (λ bytes.
         ByArguments (Some command.now) (L.told links.old) (L.told links.new) (λ coming.
         IsTold result (output_of command.now coming bytes))) }
     ensures arguments { result ≡ Status.BadWords → ⊥ }
@@ -200,35 +201,40 @@ fn run_alone<S: Source, K: Sink, L: Links>(
 ) -> Status
     ensures answers { let command = command_of (map string_bytes arguments.now) in let counts =
         counted (S.faults source.old) (S.faults source.new) (L.faults links.old) (L.faults links.new) in
-        IfSome (S.left source.old) (λ bytes. ByArguments command (L.told links.old) (L.told links.new) (λ coming.
+        OfBytes (S.left source.old) (λ bytes. ByArguments command (L.told links.old) (L.told links.new) (λ coming.
         Answers result (outcome_of (map string_bytes arguments.now) coming bytes) counts
         (K.taken sink.old) (K.taken sink.new))) }
     ensures safe { (carried : Bool) → command_of (map string_bytes arguments.now) ≡ Some (Command.Replay carried) →
-        result ≡ Status.Done → IfSome (S.left source.old) (λ bytes.
+        result ≡ Status.Done → OfBytes (S.left source.old) (λ bytes.
         ByRoads carried (L.told links.old) (L.told links.new) (λ road.
         WroteSafely road bytes (K.taken sink.old) (K.taken sink.new))) }
     ensures safe_in_part { let counts =
         counted (S.faults source.old) (S.faults source.new) (L.faults links.old) (L.faults links.new) in
         (carried : Bool) → command_of (map string_bytes arguments.now) ≡ Some (Command.Replay carried) →
-        result ≡ Status.WriteFault → IfSome (S.left source.old) (λ bytes.
+        result ≡ Status.WriteFault → OfBytes (S.left source.old) (λ bytes.
         ByRoads carried (L.told links.old) (L.told links.new) (λ road.
         WroteSome (schedules.outcome_on road bytes) road bytes (K.taken sink.old) (K.taken sink.new)
         ⊎ TookFault counts (K.taken sink.old) (K.taken sink.new))) }
     ensures broken { (carried : Bool) → command_of (map string_bytes arguments.now) ≡ Some (Command.Replay carried) →
-        result ≡ Status.Broken → IfSome (S.left source.old) (λ bytes.
+        result ≡ Status.Broken → OfBytes (S.left source.old) (λ bytes.
         ByRoads carried (L.told links.old) (L.told links.new) (λ road.
         IsBrokenEnd road bytes (K.taken sink.old) (K.taken sink.new))) }
     ensures load_safe { (size : LoadSize) → command_of (map string_bytes arguments.now) ≡ Some (Command.Load size) →
         result ≡ Status.Done → LoadedSafely size (K.taken sink.old) (K.taken sink.new) }
+    ensures load_safe_in_part { let counts =
+        counted (S.faults source.old) (S.faults source.new) (L.faults links.old) (L.faults links.new) in
+        (size : LoadSize) → command_of (map string_bytes arguments.now) ≡ Some (Command.Load size) →
+        result ≡ Status.WriteFault → LoadedInPart (schedules.replay_of (load_text size)) size (K.taken sink.old)
+        (K.taken sink.new) ⊎ TookFault counts (K.taken sink.old) (K.taken sink.new) }
     ensures load_broken { (size : LoadSize) → command_of (map string_bytes arguments.now) ≡ Some (Command.Load size) →
         result ≡ Status.Broken → IsBrokenEnd Direct (load_text size) (K.taken sink.old) (K.taken sink.new) }
     ensures unbatched { (claim : Claim) → command_of (map string_bytes arguments.now) ≡ Some (Command.Unbatch claim) →
-        (result ≡ Status.Done) ⊎ (result ≡ Status.Broken) → IfSome (S.left source.old) (λ bytes.
+        (result ≡ Status.Done) ⊎ (result ≡ Status.Broken) → OfBytes (S.left source.old) (λ bytes.
         ToldReally claim bytes (K.taken sink.old) (K.taken sink.new)) }
     ensures complete { let command = command_of (map string_bytes arguments.now) in
         (Rose (S.faults source.old) (S.faults source.new) → ⊥) →
         (Rose (K.faults sink.old) (K.faults sink.new) → ⊥) → (Rose (L.faults links.old) (L.faults links.new) → ⊥) →
-        IfSome (S.left source.old) (λ bytes. ByArguments command (L.told links.old) (L.told links.new) (λ coming.
+        OfBytes (S.left source.old) (λ bytes. ByArguments command (L.told links.old) (L.told links.new) (λ coming.
         IsTold result (outcome_of (map string_bytes arguments.now) coming bytes))) }
     ensures alone { let counts =
         counted (S.faults source.old) (S.faults source.new) (L.faults links.old) (L.faults links.new) in
@@ -298,13 +304,13 @@ pub fn run<S: Source, K: Sink, L: Links, C: Clock>(
     links: &mut L,
     clock: &mut C,
 ) -> Status
-    // Where the source tells its bytes, the status and what was written are those of the arguments, the bytes, and what
-    // the links gave, for every command but `node` and `client`. After a fault of the sink it is some of that text, or,
-    // where another count rose, some of the text of its fault.
+    // The status and what was written are those of the arguments, the bytes, and what the links gave, for every command
+    // but `node` and `client`; of a source that doesn't tell its bytes, there are some of which that holds. After a
+    // fault of the sink it is some of that text, or, where another count rose, some of the text of its fault.
     ensures answers { let command = command_of (map string_bytes arguments.now) in let counts =
         counted (S.faults source.old) (S.faults source.new) (L.faults links.old) (L.faults links.new) in
         CallsNone (map string_bytes arguments.now) →
-        IfSome (S.left source.old) (λ bytes. ByArguments command (L.told links.old) (L.told links.new) (λ coming.
+        OfBytes (S.left source.old) (λ bytes. ByArguments command (L.told links.old) (L.told links.new) (λ coming.
         Answers result (outcome_of (map string_bytes arguments.now) coming bytes) counts
         (K.taken sink.old) (K.taken sink.new))) }
     // Where a report was written, it is that of a run with at most f faulty replicas of each shard, in which each node
@@ -312,14 +318,14 @@ pub fn run<S: Source, K: Sink, L: Links, C: Clock>(
     // and an abort certificate there, and each committed transaction of a correct client read, key by key, what the
     // latest committed writer before it wrote.
     ensures safe { (carried : Bool) → command_of (map string_bytes arguments.now) ≡ Some (Command.Replay carried) →
-        result ≡ Status.Done → IfSome (S.left source.old) (λ bytes.
+        result ≡ Status.Done → OfBytes (S.left source.old) (λ bytes.
         ByRoads carried (L.told links.old) (L.told links.new) (λ road.
         WroteSafely road bytes (K.taken sink.old) (K.taken sink.new))) }
     // So it is where any byte of a report was written before the sink failed.
     ensures safe_in_part { let counts =
         counted (S.faults source.old) (S.faults source.new) (L.faults links.old) (L.faults links.new) in
         (carried : Bool) → command_of (map string_bytes arguments.now) ≡ Some (Command.Replay carried) →
-        result ≡ Status.WriteFault → IfSome (S.left source.old) (λ bytes.
+        result ≡ Status.WriteFault → OfBytes (S.left source.old) (λ bytes.
         ByRoads carried (L.told links.old) (L.told links.new) (λ road.
         WroteSome (schedules.outcome_on road bytes) road bytes (K.taken sink.old) (K.taken sink.new)
         ⊎ TookFault counts (K.taken sink.old) (K.taken sink.new))) }
@@ -327,20 +333,26 @@ pub fn run<S: Source, K: Sink, L: Links, C: Clock>(
     // accepts on words that it had not signed, or two texts that differ and have one SHA-256. Until there the run is
     // safe.
     ensures broken { (carried : Bool) → command_of (map string_bytes arguments.now) ≡ Some (Command.Replay carried) →
-        result ≡ Status.Broken → IfSome (S.left source.old) (λ bytes.
+        result ≡ Status.Broken → OfBytes (S.left source.old) (λ bytes.
         ByRoads carried (L.told links.old) (L.told links.new) (λ road.
         IsBrokenEnd road bytes (K.taken sink.old) (K.taken sink.new))) }
     // Where the totals of a load were written, they are those of such a run by the load's schedule, where each message
     // was handed over as it is.
     ensures load_safe { (size : LoadSize) → command_of (map string_bytes arguments.now) ≡ Some (Command.Load size) →
         result ≡ Status.Done → LoadedSafely size (K.taken sink.old) (K.taken sink.new) }
+    // So they are where some of them were written before the sink failed.
+    ensures load_safe_in_part { let counts =
+        counted (S.faults source.old) (S.faults source.new) (L.faults links.old) (L.faults links.new) in
+        (size : LoadSize) → command_of (map string_bytes arguments.now) ≡ Some (Command.Load size) →
+        result ≡ Status.WriteFault → LoadedInPart (schedules.replay_of (load_text size)) size (K.taken sink.old)
+        (K.taken sink.new) ⊎ TookFault counts (K.taken sink.old) (K.taken sink.new) }
     // A breach that a load leads to is told and real as well.
     ensures load_broken { (size : LoadSize) → command_of (map string_bytes arguments.now) ≡ Some (Command.Load size) →
         result ≡ Status.Broken → IsBrokenEnd Direct (load_text size) (K.taken sink.old) (K.taken sink.new) }
     // Where `unbatch` tells a place, the message stands there in the batch that was kept, and where it tells two texts,
     // these differ and have one SHA-256.
     ensures unbatched { (claim : Claim) → command_of (map string_bytes arguments.now) ≡ Some (Command.Unbatch claim) →
-        (result ≡ Status.Done) ⊎ (result ≡ Status.Broken) → IfSome (S.left source.old) (λ bytes.
+        (result ≡ Status.Done) ⊎ (result ≡ Status.Broken) → OfBytes (S.left source.old) (λ bytes.
         ToldReally claim bytes (K.taken sink.old) (K.taken sink.new)) }
     // Where no count rose, the status is that of the arguments, the bytes, and what the links gave, or memory is
     // wanting: a valid schedule gives its whole report, and every other command its output or its refusal.
@@ -348,7 +360,7 @@ pub fn run<S: Source, K: Sink, L: Links, C: Clock>(
         CallsNone (map string_bytes arguments.now) →
         (Rose (S.faults source.old) (S.faults source.new) → ⊥) →
         (Rose (K.faults sink.old) (K.faults sink.new) → ⊥) → (Rose (L.faults links.old) (L.faults links.new) → ⊥) →
-        IfSome (S.left source.old) (λ bytes. ByArguments command (L.told links.old) (L.told links.new) (λ coming.
+        OfBytes (S.left source.old) (λ bytes. ByArguments command (L.told links.old) (L.told links.new) (λ coming.
         IsTold result (outcome_of (map string_bytes arguments.now) coming bytes))) }
     // Arguments that aren't a command with an input decide alone, and nothing is read.
     ensures alone { let counts =
@@ -406,13 +418,15 @@ pub fn run<S: Source, K: Sink, L: Links, C: Clock>(
         IfOk (station_of call.seat bytes) (λ _. HasWritten (K.taken sink.old) (K.taken sink.new))) }
     // It has served so many connections, one after another: of the envelopes that each held, to the first place where
     // the rules end it, it handled all, or, where a read or write of it failed, some from the front; each at the
-    // clock's next moment, by the replica's rule of answer. It wrote each answer, and in the end how many there were.
+    // clock's next moment, by the replica's rule of answer. The links' count rose by at least as many as those that
+    // ended so, or stands at its last value. It wrote each answer, but for the end of the last where a write failed,
+    // and in the end how many envelopes it handled.
     ensures node_served { (call : NodeCall) (s : Station) (n : Node) →
         node_of (map string_bytes arguments.now) ≡ Some call → result ≡ Status.Done →
         IfSome (S.left source.old) (λ bytes.
         station_of call.seat bytes ≡ Ok s → Begins s (C.moments clock.old) (L.told links.old) n →
         WroteServed s call.connections n (C.moments clock.new) (L.told links.new)
-        (K.taken sink.old) (K.taken sink.new)) }
+        (L.faults links.old) (L.faults links.new) (K.taken sink.old) (K.taken sink.new)) }
     // Where the links' count didn't rise it handled all of them.
     ensures node_whole { (call : NodeCall) (s : Station) (n : Node) →
         node_of (map string_bytes arguments.now) ≡ Some call →
@@ -421,11 +435,14 @@ pub fn run<S: Source, K: Sink, L: Links, C: Clock>(
         station_of call.seat bytes ≡ Ok s → Begins s (C.moments clock.old) (L.told links.old) n →
         WroteAt (serves_at s call.connections n) (C.moments clock.new) (L.told links.new)
         (K.taken sink.old) (K.taken sink.new)) }
-    // Whatever is answered, the links and the clock are as after at most so many connections.
+    // Whatever is answered, the links and the clock are as after at most so many connections. The links' count rose by
+    // at least as many as those that ended at a failed read or write, and by one more where a link fault is told: by a
+    // failed listen or accept. For want of memory alone it may have stopped within a connection.
     ensures node_stands { (call : NodeCall) (s : Station) (n : Node) →
         node_of (map string_bytes arguments.now) ≡ Some call → IfSome (S.left source.old) (λ bytes.
         station_of call.seat bytes ≡ Ok s → Begins s (C.moments clock.old) (L.told links.old) n →
-        HasStopped s call.connections n (C.moments clock.new) (L.told links.new)) }
+        HasStopped s call.connections n (C.moments clock.new) (L.told links.new)
+        (L.faults links.old) (L.faults links.new) (stop_told result)) }
     // Where no count rose a node is done that gets its seat, and another tells its refusal, or memory is wanting.
     ensures node_complete { (call : NodeCall) → node_of (map string_bytes arguments.now) ≡ Some call →
         (Rose (S.faults source.old) (S.faults source.new) → ⊥) →

@@ -2,6 +2,7 @@
 
 ghost use Rattle.std.specs.Prelude.{◌≡◌, ◌<◌, ◌≤◌, IfOk};
 ghost use Rattle.hss_sign.specs.Keys.{hss_signature_of, made_before, material_of as key_of, numbers_of};
+ghost use Rattle.batch_text.specs.Texts as texts;
 ghost use Rattle.basil_cli.specs.Signatures as signatures;
 ghost use Rattle.basil_cli.specs.Commands.{IsLeaf, numbers_in};
 ghost use Rattle.basil_cli.specs.Signatures.{keys_made, signed, verified, hss_keys_made, hss_signed, hss_verified};
@@ -18,7 +19,7 @@ use std::alloc::Global;
 
 /// Bytes in lower-case hex, on a line.
 fn hex_line(alloc: Global, bytes: &[u8]) -> Result<Bytes, NoMemory>
-    ensures { IfOk result (λ line. line ≡ signatures.hex_line bytes.now) }
+    ensures { IfOk result (λ line. line ≡ texts.hex_line bytes.now) }
 {
     let text = hex::encode(alloc, bytes)?;
     let mut line = Vec::from_slice(alloc, text.as_bytes())?;

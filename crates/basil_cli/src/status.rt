@@ -30,8 +30,8 @@ pub enum Status {
     Refused { reason: u8 },
     /// 9: memory is wanting; nothing was written.
     NoMemory,
-    /// 10: the messages of an event would pass a limit of the pool, which holds this; `full MESSAGES BYTES` was
-    /// written.
+    /// 10: the messages of an event would pass a limit of the pool, or a record the limit of a journal; that holds so
+    /// many messages or records, and bytes. `full MESSAGES BYTES`, or `full RECORDS BYTES`, was written.
     Full { messages: u64, bytes: u64 },
     /// 11: a client asked all that it had to ask, and a read is without a choice or there is no decision; it holds so
     /// many valid votes and log replies. `undecided N` was written.

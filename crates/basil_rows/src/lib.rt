@@ -12,6 +12,8 @@ mod causes;
 #[cfg(test)]
 mod checked;
 #[cfg(test)]
+mod failing;
+#[cfg(test)]
 mod levels;
 #[cfg(test)]
 mod lines;
@@ -31,3 +33,5 @@ mod sizes;
 mod support;
 #[cfg(test)]
 mod texts;
+#[cfg(test)]
+mod whole;

@@ -80,6 +80,33 @@ fn a_load_has_the_totals_of_its_schedules_report(rt: HostRuntime) -> Result<(), 
     Ok(())
 }
 
+/// A number, how many transactions, and the totals that a Python program gives, which was written from the rules of the
+/// protocol and of loads alone.
+const TOTALS: &[(&str, &str, &[u8])] = &[
+    ("7", "200", b"commit 200\nabort 0\nopen 0\nend 8052\n"),
+    ("7", "1", b"commit 1\nabort 0\nopen 0\nend 48\n"),
+    ("0", "20", b"commit 20\nabort 0\nopen 0\nend 672\n"),
+    (
+        "18446744073709551615",
+        "20",
+        b"commit 20\nabort 0\nopen 0\nend 834\n",
+    ),
+];
+
+/// Whether a load has these totals.
+fn is_told(alloc: Global, seed: &str, count: &str, totals: &[u8]) -> Result<bool, NoMemory> {
+    let given = run_arguments(alloc, &["load", seed, count], b"", &[], &[])?;
+    Ok(is_answer(&given, Status::Done, totals))
+}
+
+#[test]
+fn a_load_has_the_totals_of_another_program(rt: HostRuntime) -> Result<(), Fail> {
+    for &(seed, count, totals) in TOTALS {
+        assert!(rt; is_told(rt.alloc(), seed, count, totals)?, "{seed} {count}");
+    }
+    Ok(())
+}
+
 const NO_COMMANDS: &[&[&str]] = &[
     &["generate", "7", "0"],
     &["generate", "7", "2001"],

@@ -1,6 +1,6 @@
 //! Schedules whose deliveries are carried by links.
 
-use crate::replayed::{ONE_WRITE, REPLAYED, Replayed, WITH_HEADERS};
+use crate::replayed::{JOURNAL_HEADER, ONE_WRITE, REPLAYED, Replayed, STOPPED, WITH_HEADERS};
 use crate::support::{HEADER, is_answer, joined, loopback, run_arguments};
 use basil_cli::status::Status;
 use basil_types::memory::NoMemory;
@@ -32,10 +32,11 @@ fn are_carried(
 #[test]
 fn what_comes_as_it_was_sent_changes_no_report(rt: HostRuntime) -> Result<(), Fail> {
     are_carried(&rt, rt.alloc(), HEADER, REPLAYED)?;
+    are_carried(&rt, rt.alloc(), JOURNAL_HEADER, STOPPED)?;
     are_carried(&rt, rt.alloc(), b"", WITH_HEADERS)
 }
 
-const SIX_REPLICAS: &[u8] = b"\
+pub(crate) const SIX_REPLICAS: &[u8] = b"\
     basil 1 f=1 shards=1 reads=2 delta=100 clock=50 keys=plain\n\
     begin t1 1 10\n\
     write t1 a x1\n\

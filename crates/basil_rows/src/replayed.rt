@@ -266,11 +266,11 @@ fn are_replayed(
 }
 
 /// A header whose replica keeps a journal.
-const JOURNAL_HEADER: &[u8] =
+pub(crate) const JOURNAL_HEADER: &[u8] =
     b"basil 1 f=0 shards=1 reads=1 delta=100 clock=50 keys=plain journal\n";
 
 /// Schedules behind that header: the disk of the journal stops as the first stage is handed to the replica.
-const STOPPED: &[Replayed] = &[
+pub(crate) const STOPPED: &[Replayed] = &[
     (
         "no disk stops",
         b"\

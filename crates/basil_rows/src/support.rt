@@ -1,5 +1,7 @@
 //! The top call over memory.
 
+ghost use Rattle.std.specs.Prelude.{◌<◌};
+
 use basil_cli::run::run;
 use basil_cli::status::Status;
 use basil_types::clock::MemClock;
@@ -11,6 +13,9 @@ use std::alloc::Global;
 
 /// The header of one replica, the first line where a row begins with the second one.
 pub(crate) const HEADER: &[u8] = b"basil 1 f=0 shards=1 reads=1 delta=100 clock=50 keys=plain\n";
+
+/// How many bytes a read gives.
+const PIECE: usize = 1000;
 
 /// What a call ended with, and what it wrote.
 #[derive(Drop)]
@@ -47,22 +52,25 @@ fn run_owned<L: Links>(
     answer_of(alloc, status, sink.bytes())
 }
 
-/// Runs one argument, and more where given, over a source that gives these bytes in pieces, and over these links;
-/// the listed reads and writes fail.
+/// Runs one argument, and more where given, over a source that gives these bytes in pieces of this length, and over
+/// these links; the listed reads and writes fail.
 fn run_over<L: Links>(
     alloc: Global,
     arguments: &[&str],
     input: &[u8],
+    piece: usize,
     failing_reads: &[u64],
     failing_writes: &[u64],
     links: &mut L,
-) -> Result<Answer, NoMemory> {
+) -> Result<Answer, NoMemory>
+    requires { 0 < piece }
+{
     let given = given_arguments(alloc, arguments)?;
     let bytes = Vec::from_slice(alloc, input)?;
     let failing_reads = Vec::from_slice(alloc, failing_reads)?;
     let failing_writes = Vec::from_slice(alloc, failing_writes)?;
     let sink = MemSink::new(alloc, 100_000, failing_writes)?;
-    let source = MemSource::new(bytes, 1000, failing_reads);
+    let source = MemSource::new(bytes, piece, failing_reads);
     run_owned(alloc, &given, source, sink, links)
 }
 
@@ -79,6 +87,7 @@ pub(crate) fn run_arguments(
         alloc,
         arguments,
         input,
+        PIECE,
         failing_reads,
         failing_writes,
         &mut links,
@@ -101,8 +110,30 @@ pub(crate) fn loopback(
         alloc,
         &["loopback"],
         schedule,
+        PIECE,
         &[],
         failing_writes,
+        &mut links,
+    )
+}
+
+/// Replays a schedule that comes in pieces of this length; the listed reads fail.
+pub(crate) fn replay_in_pieces(
+    alloc: Global,
+    schedule: &[u8],
+    piece: usize,
+    failing_reads: &[u64],
+) -> Result<Answer, NoMemory>
+    requires { 0 < piece }
+{
+    let mut links = SureLinks::new(alloc, Vec::new(alloc), Vec::new(alloc));
+    run_over(
+        alloc,
+        &["replay"],
+        schedule,
+        piece,
+        failing_reads,
+        &[],
         &mut links,
     )
 }

@@ -6,3 +6,5 @@ pub mod Answering
 pub mod BeginLaws
 pub mod StopLaws
 pub mod Diverting
+pub mod Staying
+pub mod FirstOwners

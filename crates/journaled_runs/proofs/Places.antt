@@ -57,7 +57,7 @@ found_own js shard index j h =
     ap (λ (n : ℕ). journal_at js n j.index) here.shard_is ∙ ap (λ (n : ℕ). journal_at js shard n) here.index_is ∙ h
 
 -- one at the place of another passes the same test
-same_test : (shard index : ℕ) (k y : JournalValue) → is_its k.shard k.index y ≡ true → is_its shard index y ≡ is_its shard index k
+pub same_test : (shard index : ℕ) (k y : JournalValue) → is_its k.shard k.index y ≡ true → is_its shard index y ≡ is_its shard index k
 same_test shard index k y h =
     let here = is_there k.shard k.index y h in
     ap (λ (n : ℕ). (n == shard) && (y.index == index)) here.shard_is

@@ -3,3 +3,4 @@ pub mod Shown
 pub mod Handing
 pub mod Beginning
 pub mod Stopping
+pub mod Owners

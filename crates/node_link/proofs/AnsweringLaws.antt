@@ -1,8 +1,11 @@
 -- What a call of a node has served.
 use Rattle.std.proofs.Common.{◌≡◌, ℕ, List, [], ◌∷◌, ◌++◌, drop, take, Option, Some, Result, Ok, Err, OnErr, refl, sym, ap, subst}
-use Rattle.std.proofs.Common.{◌∙◌, append_assoc, arith}
-use Rattle.std.specs.Prelude.{option_map}
+use Rattle.std.proofs.Common.{◌∙◌, append_assoc, arith, inr}
+use Rattle.std.specs.Prelude.{IfErr, option_map}
+use Rattle.std.specs.Result.{IsErrAnd}
 use Rattle.std.proofs.lemmas.List.{take-append-drop}
+use Rattle.basil_types.specs.declared.links.LinkFail.{LinkFail}
+use Rattle.basil_types.specs.declared.links.LinkFail.TheVariants as fails
 use Rattle.basil_types.specs.declared.outbox.Envelope.{Envelope}
 use Rattle.basil_types.specs.Causes.{Ticks}
 use Rattle.basil_types.specs.Links.{LinkState, WrotePrefix, writes}
@@ -14,11 +17,21 @@ use Rattle.replica_core.specs.Replicas.{ReplicaSelf}
 use Rattle.node_link.specs.Answering.{answer_bytes}
 use Rattle.node_link.specs.Serving.{Served, next_moment, sent_by, book_after, serves, Begins, Handles, HasServed}
 use Rattle.replica_core.specs.Shown.{ShowsBook}
-use Rattle.node_link.proofs.ServingLaws.{serves_none, serves_one, begins_same}
+use Rattle.node_link.proofs.ServingLaws.{serves_none, serves_one, begins_same, none_more}
 
 pub on_err : {T E : Type 0} (r : Result T E) {P : Type 0} → P → OnErr r P
 on_err (Ok x) p = tt
 on_err (Err e) p = p
+
+-- at the exit of a `?`
+pub at_err : {T E : Type 0} (r : Result T E) (e : E) (P : E → Type 0) → IsErrAnd r (λ x. x ≡ e) → P e → IfErr r P
+at_err (Ok x) e P is p = absurd is
+at_err (Err x) e P is p = subst P (sym is) p
+
+-- whichever the error is
+pub any_err : {T E : Type 0} (r : Result T E) (P : E → Type 0) → ((e : E) → P e) → IfErr r P
+any_err (Ok x) P p = tt
+any_err (Err e) P p = p e
 
 pub of_err : {T E : Type 0} (r : Result T E) (e : E) {P : Type 0} → r ≡ Err e → OnErr r P → P
 of_err (Ok x) e is p = absurd cc
@@ -46,7 +59,7 @@ pub not_handled : {V S : Type 0} {v : verifiers.Ghosts V} {g : signers.Ghosts S}
     (ticks later : Option (List ℕ)) (told : Option LinkState) (me : ReplicaSelf) (state : LinkState) (s : Served)
     (envelopes : List Envelope) (moment handled : ℕ) → handled ≡ 0 → ShowsBook new s.book → ticks ≡ Some s.moments →
     Ticks ticks later moment → told ≡ Some (record state { written = s.written }) →
-    HasServed new later told me state s envelopes handled
+    HasServed new later told me state s envelopes handled fails.NoMemory
 not_handled new ticks later told me state s envelopes moment handled none book e h l =
     let none-served = serves_none me s in
     rw none (
@@ -55,6 +68,7 @@ not_handled new ticks later told me state s envelopes moment handled none book e
       record {
         within = omega arith;
         book = rw none-served refl;
+        moments = rw none-served (inr refl);
         least = rw none-served (begins_same s.written);
         most = rw none-served (begins_same s.written);
       },
@@ -71,10 +85,11 @@ written_front written bytes count =
 -- its frame was handled, and some of the answer was written
 pub handled_one : {V S : Type 0} {v : verifiers.Ghosts V} {g : signers.Ghosts S} (new : Replica V S v g)
     (ticks later : Option (List ℕ)) (told after : Option LinkState) (me : ReplicaSelf) (state : LinkState) (s : Served)
-    (e : Envelope) (moment handled : ℕ) (bytes : List ℕ) → handled ≡ 1 → ticks ≡ Some s.moments → Ticks ticks later moment →
+    (e : Envelope) (moment handled : ℕ) (bytes : List ℕ) (fail : LinkFail) → handled ≡ 1 → ticks ≡ Some s.moments →
+    Ticks ticks later moment →
     told ≡ Some (record state { written = s.written }) → Handles (answer me moment e.to s.book e.frame) s.book new bytes →
-    WrotePrefix told after bytes → HasServed new later after me state s (e ∷ []) handled
-handled_one new ticks later told after me state s e moment handled bytes one at h l did w =
+    WrotePrefix told after bytes → HasServed new later after me state s (e ∷ []) handled fail
+handled_one new ticks later told after me state s e moment handled bytes fail one at h l did w =
     let tick = ticked s.moments ticks later moment at h in
     let answered = answer me (next_moment s.moments) e.to s.book e.frame in
     let moved : answer me moment e.to s.book e.frame ≡ answered =
@@ -93,6 +108,7 @@ handled_one new ticks later told after me state s e moment handled bytes one at 
       record {
         within = omega arith;
         book = rw single refl;
+        moments = rw single (none_more fail (serves me s e).moments);
         least = rw (serves_none me s) (record { rest = take w.count bytes; is = refl });
         most = rw single
             (subst (λ (text : List ℕ). Begins (s.written ++ take w.count bytes) (s.written ++ text)) bytes-are

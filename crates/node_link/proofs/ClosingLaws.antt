@@ -1,6 +1,7 @@
 -- A connection is closed.
-use Rattle.std.proofs.Common.{◌≡◌, ℕ, List, length, Option, Some, None, ap, ◌∙◌}
+use Rattle.std.proofs.Common.{◌≡◌, ℕ, List, Option, Some, None, ap, ◌∙◌}
 use Rattle.std.specs.Prelude.{option_map}
+use Rattle.basil_types.specs.declared.links.LinkFail.{LinkFail}
 use Rattle.basil_types.specs.declared.outbox.Envelope.{Envelope}
 use Rattle.basil_types.specs.Links.{LinkState, closes}
 use Rattle.keyring.specs.declared.verifier.Verifier as verifiers
@@ -8,7 +9,6 @@ use Rattle.keyring.specs.declared.signer.Signer as signers
 use Rattle.replica_core.specs.declared.replica.Replica.{Replica}
 use Rattle.replica_core.specs.Replicas.{ReplicaSelf}
 use Rattle.node_link.specs.Serving.{Served, serves_all, IsAt, HasServed, ServesAll, ServesSome}
-use Rattle.node_link.proofs.ServingLaws.{served_all}
 
 closed : (told after : Option LinkState) (state : LinkState) (left written : List ℕ) →
     told ≡ Some (record state { rest = Some left; written = written }) → after ≡ option_map closes told →
@@ -28,9 +28,10 @@ closed_all replica ticks told after me state s envelopes c h =
 
 pub closed_some : {V S : Type 0} {v : verifiers.Ghosts V} {g : signers.Ghosts S} (replica : Replica V S v g)
     (ticks : Option (List ℕ)) (told after : Option LinkState) (me : ReplicaSelf) (state : LinkState) (s : Served)
-    (envelopes : List Envelope) (handled : ℕ) → after ≡ option_map closes told →
-    ServesSome replica ticks told me state s envelopes handled → HasServed replica ticks after me (closes state) s envelopes handled
-closed_some replica ticks told after me state s envelopes handled c h = (
+    (envelopes : List Envelope) (handled : ℕ) (fail : LinkFail) → after ≡ option_map closes told →
+    ServesSome replica ticks told me state s envelopes handled fail →
+    HasServed replica ticks after me (closes state) s envelopes handled fail
+closed_some replica ticks told after me state s envelopes handled fail c h = (
   h.1.0,
   record {
     book = h.1.1.book;
@@ -39,11 +40,3 @@ closed_some replica ticks told after me state s envelopes handled c h = (
   },
   h.1.2,
 )
-
--- all of them are some
-pub closed_whole : {V S : Type 0} {v : verifiers.Ghosts V} {g : signers.Ghosts S} (replica : Replica V S v g)
-    (ticks : Option (List ℕ)) (told after : Option LinkState) (me : ReplicaSelf) (state : LinkState) (s : Served)
-    (envelopes : List Envelope) (handled : ℕ) → after ≡ option_map closes told → handled ≡ length envelopes →
-    ServesAll replica ticks told me state s envelopes → HasServed replica ticks after me (closes state) s envelopes handled
-closed_whole replica ticks told after me state s envelopes handled c n h =
-    rw n (serves_all me s envelopes, closed_all replica ticks told after me state s envelopes c h, served_all me s envelopes)

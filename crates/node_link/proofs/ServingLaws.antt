@@ -1,8 +1,10 @@
 -- What was served of some envelopes, and of more.
 use Rattle.std.proofs.Common.{◌≡◌, ℕ, zero, suc, ◌+◌, ◌-◌, ◌≤◌, List, [], ◌∷◌, ◌++◌, length, drop, take, fold, Result, Ok, Err, refl, sym}
-use Rattle.std.proofs.Common.{ap, subst, ◌∙◌, append_assoc, arith}
+use Rattle.std.proofs.Common.{ap, subst, ◌∙◌, append_assoc, arith, inl}
 use Rattle.std.proofs.lemmas.List.{append-nil, length-append, take_all, take-append-le, take-append-drop}
 use Rattle.std.proofs.Math.Seq.{take-append-add}
+use Rattle.basil_types.specs.declared.links.LinkFail.{LinkFail}
+use Rattle.basil_types.specs.declared.links.LinkFail.TheVariants.{Failed, NoMemory}
 use Rattle.basil_types.specs.declared.outbox.Envelope.{Envelope}
 use Rattle.replica_core.specs.Replicas.{ReplicaSelf, BookValue, Done}
 use Rattle.replica_core.specs.declared.parts.Parts.{Parts}
@@ -14,7 +16,7 @@ use Rattle.keyring.specs.declared.signer.Signer as signers
 use Rattle.replica_core.specs.declared.replica.Replica.{Replica}
 use Rattle.replica_core.specs.declared.refusal.Refusal.{Refusal}
 use Rattle.node_link.specs.Answering.{answer_bytes}
-use Rattle.node_link.specs.Serving.{Served, serves, serves_all, Begins, Carries, ServedSome, Handles}
+use Rattle.node_link.specs.Serving.{Served, serves, serves_all, Begins, Carries, HasTicked, ServedSome, Handles}
 use Rattle.replica_core.specs.Shown.{ShowsBook}
 
 -- ---- one after the other
@@ -71,13 +73,19 @@ front_begins me s envelopes count =
     subst (λ (es : List Envelope). Begins (serves_all me s (take count envelopes)).written (serves_all me s es).written)
     (take-append-drop count envelopes) (fewer_begins me s (take count envelopes) (drop count envelopes))
 
-pub served_all : (me : ReplicaSelf) (s : Served) (envelopes : List Envelope) →
-    ServedSome me s envelopes (length envelopes) (serves_all me s envelopes)
-served_all me s envelopes =
+-- the clock gave no more moments
+pub none_more : (fail : LinkFail) (moments : List ℕ) → HasTicked fail moments moments
+none_more Failed moments = refl
+none_more NoMemory moments = inl refl
+
+pub served_all : (me : ReplicaSelf) (s : Served) (envelopes : List Envelope) (fail : LinkFail) →
+    ServedSome me s envelopes (length envelopes) fail (serves_all me s envelopes)
+served_all me s envelopes fail =
     let whole : take (length envelopes) envelopes ≡ envelopes = take_all _ envelopes (omega arith) in
     record {
       within = omega arith;
       book = rw whole refl;
+      moments = rw whole (none_more fail (serves_all me s envelopes).moments);
       least = front_begins me s envelopes (length envelopes - 1);
       most = rw whole (begins_same (serves_all me s envelopes).written);
     }
@@ -100,27 +108,29 @@ least_behind me s some more (suc handled) written b =
     let at : (length some + suc handled) - 1 ≡ length some + (suc handled - 1) = omega arith in
     rw (at, take-append-add some more (suc handled - 1), serves_then me s some (take (suc handled - 1) more)) b
 
-pub served_behind : (me : ReplicaSelf) (s t : Served) (some more : List Envelope) (handled : ℕ) →
-    ServedSome me (serves_all me s some) more handled t → ServedSome me s (some ++ more) (length some + handled) t
-served_behind me s t some more handled p =
+pub served_behind : (me : ReplicaSelf) (s t : Served) (some more : List Envelope) (handled : ℕ) (fail : LinkFail) →
+    ServedSome me (serves_all me s some) more handled fail t → ServedSome me s (some ++ more) (length some + handled) fail t
+served_behind me s t some more handled fail p =
     let at = take-append-add some more handled in
     record {
       within = omega (arith, length-append some more, p.within);
       book = rw (at, serves_then me s some (take handled more)) p.book;
+      moments = rw (at, serves_then me s some (take handled more)) p.moments;
       least = least_behind me s some more handled t.written p.least;
       most = rw (at, serves_then me s some (take handled more)) p.most;
     }
 
 -- ---- with more envelopes that weren't handled
 
-pub served_before : (me : ReplicaSelf) (s t : Served) (envelopes more : List Envelope) (handled : ℕ) →
-    ServedSome me s envelopes handled t → ServedSome me s (envelopes ++ more) handled t
-served_before me s t envelopes more handled p =
+pub served_before : (me : ReplicaSelf) (s t : Served) (envelopes more : List Envelope) (handled : ℕ) (fail : LinkFail) →
+    ServedSome me s envelopes handled fail t → ServedSome me s (envelopes ++ more) handled fail t
+served_before me s t envelopes more handled fail p =
     let at = take-append-le handled envelopes more p.within in
     let before : handled - 1 ≤ length envelopes = omega (arith, p.within) in
     record {
       within = omega (arith, length-append envelopes more, p.within);
       book = rw at p.book;
+      moments = rw at p.moments;
       least = rw (take-append-le (handled - 1) envelopes more before) p.least;
       most = rw at p.most;
     }

@@ -4,6 +4,7 @@ use Rattle.std.proofs.Common.{refl, sym, ap, subst, ◌∙◌, append_assoc, ari
 use Rattle.std.specs.Prelude.{option_map}
 use Rattle.std.specs.Io.KnownBytes.{Consumes, IsAtEnd}
 use Rattle.std.proofs.lemmas.List.{append-nil, length-append, drop_at}
+use Rattle.basil_types.specs.declared.links.LinkFail.{LinkFail}
 use Rattle.basil_types.specs.declared.outbox.Envelope.{Envelope}
 use Rattle.basil_types.specs.Links.{LinkState, reads, unread}
 use Rattle.basil_types.specs.Setting.{Setting}
@@ -90,12 +91,12 @@ serves_whole first now ticks later told after cluster bytes state whole s rest s
 
 pub serves_part : {V S : Type 0} {v : verifiers.Ghosts V} {g : signers.Ghosts S} (first now : Replica V S v g)
     (ticks later : Option (List ℕ)) (told after : Option LinkState) (cluster : Setting) (read bytes : List ℕ)
-    (state : LinkState) (whole : List ℕ) (s : Served) (handled : ℕ) → state.rest ≡ Some whole → IsAt first ticks told state s →
-    Reaches first now ticks later told after read (spoken cluster bytes) →
+    (state : LinkState) (whole : List ℕ) (s : Served) (handled : ℕ) (fail : LinkFail) → state.rest ≡ Some whole →
+    IsAt first ticks told state s → Reaches first now ticks later told after read (spoken cluster bytes) →
     ((left : List ℕ) → whole ≡ read ++ left → Grows (spoken cluster bytes) (spoken cluster whole)) →
     handled ≡ length (spoken cluster bytes) →
-    ServesSome now later after (own first) state s (spoken cluster whole) handled
-serves_part first now ticks later told after cluster read bytes state whole s handled rest start r grows all =
+    ServesSome now later after (own first) state s (spoken cluster whole) handled fail
+serves_part first now ticks later told after cluster read bytes state whole s handled fail rest start r grows all =
     let at = r state whole s rest start in
     let more = grows at.0 at.1 in
     let t = serves_all (own first) s (spoken cluster bytes) in
@@ -104,32 +105,32 @@ serves_part first now ticks later told after cluster read bytes state whole s ha
       (
         t,
         at.2,
-        served_before (own first) s t (spoken cluster bytes) more.later (length (spoken cluster bytes))
-            (served_all (own first) s (spoken cluster bytes)),
+        served_before (own first) s t (spoken cluster bytes) more.later (length (spoken cluster bytes)) fail
+            (served_all (own first) s (spoken cluster bytes) fail),
       ),
     )
 
 pub serves_fails : {V S : Type 0} {v : verifiers.Ghosts V} {g : signers.Ghosts S} (first now next : Replica V S v g)
     (ticks later latest : Option (List ℕ)) (told after last : Option LinkState) (cluster : Setting) (read : List ℕ)
-    (some more : List Envelope) (state : LinkState) (whole : List ℕ) (s : Served) (handled late : ℕ) → state.rest ≡ Some whole →
-    IsAt first ticks told state s → Reaches first now ticks later told after read some → own now ≡ own first →
-    ((state : LinkState) (s : Served) → IsAt now later after state s → HasServed next latest last (own now) state s more late) →
+    (some more : List Envelope) (state : LinkState) (whole : List ℕ) (s : Served) (handled late : ℕ) (fail : LinkFail) →
+    state.rest ≡ Some whole → IsAt first ticks told state s → Reaches first now ticks later told after read some → own now ≡ own first →
+    ((state : LinkState) (s : Served) → IsAt now later after state s → HasServed next latest last (own now) state s more late fail) →
     ((left : List ℕ) → whole ≡ read ++ left → Grows (some ++ more) (spoken cluster whole)) → handled ≡ length some + late →
-    ServesSome next latest last (own first) state s (spoken cluster whole) handled
+    ServesSome next latest last (own first) state s (spoken cluster whole) handled fail
 serves_fails first now next ticks later latest told after last cluster read some more
-    state whole s handled late rest start r o h grows all =
+    state whole s handled late fail rest start r o h grows all =
     let at = r state whole s rest start in
     let further = grows at.0 at.1 in
     let did = h (record state { rest = Some at.0 }) (serves_all (own first) s some) at.2 in
-    let own-did : ServedSome (own first) (serves_all (own first) s some) more late did.0 =
-    subst (λ (me : ReplicaSelf). ServedSome me (serves_all (own first) s some) more late did.0) o did.2 in
+    let own-did : ServedSome (own first) (serves_all (own first) s some) more late fail did.0 =
+    subst (λ (me : ReplicaSelf). ServedSome me (serves_all (own first) s some) more late fail did.0) o did.2 in
     rw (further.is, all) (
       at.0,
       (
         did.0,
         did.1,
-        served_before (own first) s did.0 (some ++ more) further.later (length some + late)
-            (served_behind (own first) s did.0 some more late own-did),
+        served_before (own first) s did.0 (some ++ more) further.later (length some + late) fail
+            (served_behind (own first) s did.0 some more late fail own-did),
       ),
     )
 
@@ -306,43 +307,45 @@ talked_by_rules first now ticks later told after setting reader frames count fau
 -- a read failed
 pub talked_until_read : {V S : Type 0} {v : verifiers.Ghosts V} {g : signers.Ghosts S} (first now : Replica V S v g)
     (ticks later : Option (List ℕ)) (told after mid : Option LinkState) (setting : Setting) (reader : Reading)
-    (frames count faults fails handled : ℕ) (state : LinkState) (whole : List ℕ) (s : Served) →
+    (frames count faults fails handled : ℕ) (fail : LinkFail) (state : LinkState) (whole : List ℕ) (s : Served) →
     state.rest ≡ Some whole → IsAt first ticks told state s →
     Talking first now ticks later told after setting reader frames count faults fails → mid ≡ after → handled ≡ count - frames →
-    ServesSome now later mid (own first) state s (spoken setting whole) handled
-talked_until_read first now ticks later told after mid setting reader frames count faults fails handled state whole s rest start t m h =
+    ServesSome now later mid (own first) state s (spoken setting whole) handled fail
+talked_until_read first now ticks later told after mid setting reader frames count faults fails handled fail
+    state whole s rest start t m h =
     rw m
-    (serves_part first now ticks later told after setting t.bytes t.bytes state whole s handled rest start t.at
+    (serves_part first now ticks later told after setting t.bytes t.bytes state whole s handled fail rest start t.at
     (λ left e. rw e (envelopes_grow setting t.bytes left)) (omega (arith, t.counted)))
 
 -- there was no memory for a piece
 pub talked_until_fed : {V S : Type 0} {v : verifiers.Ghosts V} {g : signers.Ghosts S} (first now : Replica V S v g)
     (ticks later : Option (List ℕ)) (told after mid : Option LinkState) (setting : Setting) (reader : Reading)
-    (frames count faults fails handled n : ℕ) (piece : List ℕ) (state : LinkState) (whole : List ℕ) (s : Served) →
+    (frames count faults fails handled n : ℕ) (fail : LinkFail) (piece : List ℕ) (state : LinkState) (whole : List ℕ) (s : Served) →
     state.rest ≡ Some whole → IsAt first ticks told state s →
     Talking first now ticks later told after setting reader frames count faults fails → mid ≡ option_map (reads n) after →
     Consumes (unread after) (unread mid) piece → handled ≡ count - frames →
-    ServesSome now later mid (own first) state s (spoken setting whole) handled
-talked_until_fed first now ticks later told after mid setting reader frames count faults fails handled n piece
+    ServesSome now later mid (own first) state s (spoken setting whole) handled fail
+talked_until_fed first now ticks later told after mid setting reader frames count faults fails handled n fail piece
     state whole s rest start t m c h =
-    serves_part first now ticks later told mid setting (t.bytes ++ piece) t.bytes state whole s handled rest start
+    serves_part first now ticks later told mid setting (t.bytes ++ piece) t.bytes state whole s handled fail rest start
     (reaches_read first now ticks later told after mid t.bytes piece (spoken setting t.bytes) n t.at m c)
     (λ left e. rw (e ∙ append_assoc t.bytes piece left) (envelopes_grow setting t.bytes (piece ++ left))) (omega (arith, t.counted))
 
 -- an answer failed
 pub talked_until_answered : {V S : Type 0} {v : verifiers.Ghosts V} {g : signers.Ghosts S} (first now next : Replica V S v g)
     (ticks later latest : Option (List ℕ)) (told after mid last : Option LinkState) (setting : Setting) (reader fed : Reading)
-    (frames count counted faults fails handled n : ℕ) (piece : List ℕ) (state : LinkState) (whole : List ℕ) (s : Served) →
+    (frames count counted faults fails handled n : ℕ) (fail : LinkFail) (piece : List ℕ) (state : LinkState) (whole : List ℕ)
+    (s : Served) →
     state.rest ≡ Some whole → IsAt first ticks told state s →
     (t : Talking first now ticks later told after setting reader frames count faults fails) → Fed setting t.bytes piece fed →
     mid ≡ option_map (reads n) after → Consumes (unread after) (unread mid) piece → count ≤ counted → handled ≡ counted - frames →
     ((state : LinkState) (s : Served) → IsAt now later mid state s →
-    HasServed next latest last (own now) state s fed.waiting (counted - count)) →
-    ServesSome next latest last (own first) state s (spoken setting whole) handled
+    HasServed next latest last (own now) state s fed.waiting (counted - count) fail) →
+    ServesSome next latest last (own first) state s (spoken setting whole) handled fail
 talked_until_answered first now next ticks later latest told after mid last setting reader fed
-    frames count counted faults fails handled n piece state whole s rest start t f m c k h did =
+    frames count counted faults fails handled n fail piece state whole s rest start t f m c k h did =
     serves_fails first now next ticks later latest told mid last setting (t.bytes ++ piece) (spoken setting t.bytes) fed.waiting
-    state whole s handled (counted - count) rest start
+    state whole s handled (counted - count) fail rest start
     (reaches_read first now ticks later told after mid t.bytes piece (spoken setting t.bytes) n t.at m c) t.self did
     (λ left e. rw (e, ← f.all) (envelopes_grow setting (t.bytes ++ piece) left)) (omega (arith, t.counted))
 

@@ -3,6 +3,7 @@ use Rattle.std.proofs.Common.{◌≡◌, ℕ, ◌+◌, ◌-◌, ◌≤◌, List,
 use Rattle.std.proofs.Common.{append_assoc, arith}
 use Rattle.std.specs.Prelude.{slice_get}
 use Rattle.std.proofs.lemmas.List.{append-nil, length-append}
+use Rattle.basil_types.specs.declared.links.LinkFail.{LinkFail}
 use Rattle.basil_types.specs.declared.outbox.Envelope.{Envelope}
 use Rattle.basil_types.specs.Links.{LinkState}
 use Rattle.keyring.specs.declared.verifier.Verifier as verifiers
@@ -104,23 +105,23 @@ answered_all first now ticks later told after reader rest frames count faults fa
 -- a call fails at one
 pub answering_fails : {V S : Type 0} {v : verifiers.Ghosts V} {g : signers.Ghosts S} (first now next : Replica V S v g)
     (ticks later latest : Option (List ℕ)) (told after last : Option LinkState) (reader rest : Reading)
-    (frames count counted : ℕ) (faults fails : ℕ) (e : Envelope) (state : LinkState) (s : Served) →
+    (frames count counted : ℕ) (faults fails : ℕ) (fail : LinkFail) (e : Envelope) (state : LinkState) (s : Served) →
     Answering first now ticks later told after reader rest frames count faults fails → IsAt first ticks told state s →
     Some e ≡ slice_get rest.waiting 0 → count ≤ counted →
-    ((s : Served) → IsAt now later after state s → HasServed next latest last (own now) state s (e ∷ []) (counted - count)) →
-    HasServed next latest last (own first) state s reader.waiting (counted - frames)
+    ((s : Served) → IsAt now later after state s → HasServed next latest last (own now) state s (e ∷ []) (counted - count) fail) →
+    HasServed next latest last (own first) state s reader.waiting (counted - frames) fail
 answering_fails first now next ticks later latest told after last reader rest
-    frames count counted faults fails e state s a start h l failed =
+    frames count counted faults fails fail e state s a start h l failed =
     let did = failed (serves_all (own first) s a.done) (a.at state s start) in
     let split : reader.waiting ≡ (a.done ++ e ∷ []) ++ drop 1 rest.waiting =
     a.split ∙ ap (λ (es : List Envelope). a.done ++ es) (first_waits rest.waiting e h) ∙
     sym (append_assoc a.done (e ∷ []) (drop 1 rest.waiting)) in
     let number : counted - frames ≡ length a.done + (counted - count) = omega (arith, a.counted) in
-    let own-did : ServedSome (own first) (serves_all (own first) s a.done) (e ∷ []) (counted - count) did.0 =
-    subst (λ (me : ReplicaSelf). ServedSome me (serves_all (own first) s a.done) (e ∷ []) (counted - count) did.0) a.self did.2 in (
+    let own-did : ServedSome (own first) (serves_all (own first) s a.done) (e ∷ []) (counted - count) fail did.0 =
+    subst (λ (me : ReplicaSelf). ServedSome me (serves_all (own first) s a.done) (e ∷ []) (counted - count) fail did.0) a.self did.2 in (
       did.0,
       did.1,
       rw (split, number)
-          (served_before (own first) s did.0 (a.done ++ e ∷ []) (drop 1 rest.waiting) (length a.done + (counted - count))
-          (served_behind (own first) s did.0 a.done (e ∷ []) (counted - count) own-did)),
+          (served_before (own first) s did.0 (a.done ++ e ∷ []) (drop 1 rest.waiting) (length a.done + (counted - count)) fail
+          (served_behind (own first) s did.0 a.done (e ∷ []) (counted - count) fail own-did)),
     )

@@ -1,7 +1,9 @@
 -- A replica that serves connections: what it writes, whatever pieces the bytes come in.
-use Rattle.std.specs.Prelude.{◌≡◌, ℕ, ◌-◌, ◌≤◌, List, [], ◌∷◌, ◌++◌, length, drop, take, map, fold, Option, Some}
+use Rattle.std.specs.Prelude.{◌≡◌, ◌⊎◌, ℕ, ◌-◌, ◌≤◌, List, [], ◌∷◌, ◌++◌, length, drop, take, map, fold, Option, Some}
 use Rattle.std.specs.Prelude.{Result, Ok, Err}
 use Rattle.basil_types.specs.declared.outbox.Envelope.{Envelope}
+use Rattle.basil_types.specs.declared.links.LinkFail.{LinkFail}
+use Rattle.basil_types.specs.declared.links.LinkFail.TheVariants.{Failed, NoMemory}
 use Rattle.basil_types.specs.Links.{LinkState}
 use Rattle.keyring.specs.declared.verifier.Verifier as verifiers
 use Rattle.keyring.specs.declared.signer.Signer as signers
@@ -60,11 +62,17 @@ pub record Begins (front whole : List ℕ) : Type 0 where
   pub rest : List ℕ
   pub is : whole ≡ front ++ rest
 
--- so many of the envelopes were handled, and their answers written but for the end of the last
-pub record ServedSome (me : ReplicaSelf) (s : Served) (envelopes : List Envelope) (handled : ℕ) (t : Served) :
-    Type 0 where
+-- the clock gave a moment for each frame that was handled, and, where memory was wanting, maybe one more
+abbrev pub HasTicked : LinkFail → (behind moments : List ℕ) → Type 0
+HasTicked Failed behind moments = moments ≡ behind
+HasTicked NoMemory behind moments = (moments ≡ behind) ⊎ (moments ≡ drop 1 behind)
+
+-- so many of the envelopes were handled before a call failed so, and their answers written but for the end of the last
+pub record ServedSome (me : ReplicaSelf) (s : Served) (envelopes : List Envelope) (handled : ℕ) (fail : LinkFail)
+    (t : Served) : Type 0 where
   pub within : handled ≤ length envelopes
   pub book : t.book ≡ (serves_all me s (take handled envelopes)).book
+  pub moments : HasTicked fail (serves_all me s (take handled envelopes)).moments t.moments
   pub least : Begins (serves_all me s (take (handled - 1) envelopes)).written t.written
   pub most : Begins t.written (serves_all me s (take handled envelopes)).written
 
@@ -96,12 +104,12 @@ pub record Carries {V S : Type 0} {v : verifiers.Ghosts V} {g : signers.Ghosts S
   pub book : ShowsBook replica t.book
   pub text : bytes ≡ answer_bytes t.sent
 
--- so many of the envelopes were handled, and their answers written but for the end of the last
+-- so many of the envelopes were handled before a call failed so, and their answers written but for the end of the last
 abbrev pub HasServed : {V S : Type 0} {v : verifiers.Ghosts V} {g : signers.Ghosts S} → Replica V S v g →
     (ticks : Option (List ℕ)) → (told : Option LinkState) → ReplicaSelf → (state : LinkState) → (s : Served) →
-    List Envelope → (handled : ℕ) → Type 0
-HasServed replica ticks told me state s envelopes handled =
-    (t : Served) × IsAt replica ticks told state t × ServedSome me s envelopes handled t
+    List Envelope → (handled : ℕ) → LinkFail → Type 0
+HasServed replica ticks told me state s envelopes handled fail =
+    (t : Served) × IsAt replica ticks told state t × ServedSome me s envelopes handled fail t
 
 -- ---- a connection
 
@@ -112,9 +120,9 @@ abbrev pub ServesAll : {V S : Type 0} {v : verifiers.Ghosts V} {g : signers.Ghos
 ServesAll replica ticks told me state s envelopes =
     (left : List ℕ) × IsAt replica ticks told (record state { rest = Some left }) (serves_all me s envelopes)
 
--- some were
+-- some were, before a call failed so
 abbrev pub ServesSome : {V S : Type 0} {v : verifiers.Ghosts V} {g : signers.Ghosts S} → Replica V S v g →
     (ticks : Option (List ℕ)) → (told : Option LinkState) → ReplicaSelf → (state : LinkState) → (s : Served) →
-    List Envelope → (handled : ℕ) → Type 0
-ServesSome replica ticks told me state s envelopes handled =
-    (left : List ℕ) × HasServed replica ticks told me (record state { rest = Some left }) s envelopes handled
+    List Envelope → (handled : ℕ) → LinkFail → Type 0
+ServesSome replica ticks told me state s envelopes handled fail =
+    (left : List ℕ) × HasServed replica ticks told me (record state { rest = Some left }) s envelopes handled fail

@@ -1,7 +1,7 @@
 //! A connection that is served.
 
-ghost use Rattle.std.specs.Prelude.{◌≡◌, ◌+◌, ◌-◌, ◌^◌, ◌<◌, ◌≤◌, ℕ, List, [], OnErr, OnOk, length};
-ghost use Rattle.basil_types.specs.Causes.{HasLinkCause, Rose};
+ghost use Rattle.std.specs.Prelude.{◌≡◌, ◌+◌, ◌-◌, ◌^◌, ◌<◌, ◌≤◌, ℕ, List, [], IfErr, OnOk, length};
+ghost use Rattle.basil_types.specs.Causes.{HasLinkCause};
 ghost use Rattle.basil_types.specs.Links.{LinkState, closes};
 ghost use Rattle.node_link.specs.Dialogue.{dialogue_of};
 ghost use Rattle.node_link.specs.Serving.{HasServed, IsAt, Served, ServesAll, ServesSome, serves_all};
@@ -12,7 +12,6 @@ use crate::reader::{CONNECTION_LIMIT, FrameReader};
 use basil_types::clock::Clock;
 use basil_types::cluster::Cluster;
 use basil_types::links::{LinkFail, Links};
-use basil_types::memory::NoMemory;
 use keyring::signer::Signer;
 use keyring::verifier::Verifier;
 use replica_core::Replica;
@@ -38,8 +37,8 @@ fn answer_waiting<V: Verifier, S: Signer, L: Links, C: Clock>(
         (serves_all (own replica.old) s reader.old.waiting)) }
     ensures some { (state : LinkState) (s : Served) →
         IsAt replica.old (C.moments clock.old) (L.told links.old) state s →
-        OnErr result (HasServed replica.new (C.moments clock.new) (L.told links.new) (own replica.old) state s
-        reader.old.waiting (frames.new - frames.old)) }
+        IfErr result (λ fail. HasServed replica.new (C.moments clock.new) (L.told links.new) (own replica.old) state s
+        reader.old.waiting (frames.new - frames.old) fail) }
     ensures counted { OnOk result (frames.new ≡ frames.old + length reader.old.waiting) }
     ensures later { frames.old ≤ frames.new }
     ensures few { frames.new ≤ frames.old + length reader.old.waiting }
@@ -72,8 +71,8 @@ fn talk<V: Verifier, S: Signer, L: Links, C: Clock>(
         OnOk result (frames.new ≡ frames.old + length (dialogue_of cluster bytes).envelopes) }
     ensures some { (state : LinkState) (bytes : List ℕ) (s : Served) → state.rest ≡ Some bytes →
         IsAt replica.old (C.moments clock.old) (L.told links.old) state s →
-        OnErr result (ServesSome replica.new (C.moments clock.new) (L.told links.new) (own replica.old) state s
-        (dialogue_of cluster bytes).envelopes (frames.new - frames.old)) }
+        IfErr result (λ fail. ServesSome replica.new (C.moments clock.new) (L.told links.new) (own replica.old) state s
+        (dialogue_of cluster bytes).envelopes (frames.new - frames.old) fail) }
     ensures later { frames.old ≤ frames.new }
     ensures few { frames.new ≤ frames.old + CONNECTION_LIMIT }
     ensures own { own replica.new ≡ own replica.old }
@@ -101,31 +100,25 @@ pub(crate) fn converse<V: Verifier, S: Signer, L: Links, C: Clock>(
     links: &mut L,
     clock: &mut C,
     frames: &mut u64,
-) -> Result<(), NoMemory>
+) -> Result<(), LinkFail>
     requires { frames.old + CONNECTION_LIMIT < 2 ^ 64 }
     ensures all { (state : LinkState) (bytes : List ℕ) (s : Served) → state.rest ≡ Some bytes →
         IsAt replica.old (C.moments clock.old) (L.told links.old) state s →
-        (Rose (L.faults links.old) (L.faults links.new) → ⊥) →
         OnOk result (IsAt replica.new (C.moments clock.new) (L.told links.new) (closes state)
         (serves_all (own replica.old) s (dialogue_of cluster bytes).envelopes)) }
     ensures counted { (state : LinkState) (bytes : List ℕ) (s : Served) → state.rest ≡ Some bytes →
         IsAt replica.old (C.moments clock.old) (L.told links.old) state s →
-        (Rose (L.faults links.old) (L.faults links.new) → ⊥) →
         OnOk result (frames.new ≡ frames.old + length (dialogue_of cluster bytes).envelopes) }
     ensures some { (state : LinkState) (bytes : List ℕ) (s : Served) → state.rest ≡ Some bytes →
         IsAt replica.old (C.moments clock.old) (L.told links.old) state s →
-        HasServed replica.new (C.moments clock.new) (L.told links.new) (own replica.old) (closes state) s
-        (dialogue_of cluster bytes).envelopes (frames.new - frames.old) }
+        IfErr result (λ fail. HasServed replica.new (C.moments clock.new) (L.told links.new) (own replica.old)
+        (closes state) s (dialogue_of cluster bytes).envelopes (frames.new - frames.old) fail) }
     ensures later { frames.old ≤ frames.new }
     ensures few { frames.new ≤ frames.old + CONNECTION_LIMIT }
     ensures own { own replica.new ≡ own replica.old }
-    ensures faults { L.faults links.old ≤ L.faults links.new }
+    ensures cause { HasLinkCause (L.faults links.old) (L.faults links.new) result }
 {
     let ended = talk(alloc, cluster, replica, links, clock, frames);
     links.close();
-    match ended {
-        Ok(()) => Ok(()),
-        Err(LinkFail::Failed) => Ok(()),
-        Err(LinkFail::NoMemory) => Err(NoMemory),
-    }
+    ended
 }

@@ -1,6 +1,6 @@
 //! A replica that answers envelopes.
 
-ghost use Rattle.std.specs.Prelude.{◌≡◌, ◌+◌, ◌-◌, ◌^◌, ◌<◌, ◌≤◌, ◌∷◌, [], IfOk, OnErr, OnOk};
+ghost use Rattle.std.specs.Prelude.{◌≡◌, ◌+◌, ◌-◌, ◌^◌, ◌<◌, ◌≤◌, ◌∷◌, [], IfErr, IfOk, OnErr, OnOk};
 ghost use Rattle.basil_types.specs.Causes.{HasLinkCause};
 ghost use Rattle.basil_types.specs.Links.{LinkState};
 ghost use Rattle.node_link.specs.Answering.{answer_bytes};
@@ -99,8 +99,8 @@ pub(crate) fn answer_one<V: Verifier, S: Signer, L: Links, C: Clock>(
         (serves (own replica.old) s envelope.now)) }
     ensures some { (state : LinkState) (s : Served) →
         IsAt replica.old (C.moments clock.old) (L.told links.old) state s →
-        OnErr result (HasServed replica.new (C.moments clock.new) (L.told links.new) (own replica.old) state s
-        (envelope.now ∷ []) (frames.new - frames.old)) }
+        IfErr result (λ fail. HasServed replica.new (C.moments clock.new) (L.told links.new) (own replica.old) state s
+        (envelope.now ∷ []) (frames.new - frames.old) fail) }
     ensures counted { OnOk result (frames.new ≡ frames.old + 1) }
     ensures later { frames.old ≤ frames.new }
     ensures few { frames.new ≤ frames.old + 1 }

@@ -1,5 +1,5 @@
 -- What holds of a seat's station, and of a node that didn't begin.
-use Rattle.std.proofs.Common.{◌≡◌, ℕ, List, false, Option, Some, Result, Ok, Err, refl, ap, subst, ◌∙◌, inl, arith}
+use Rattle.std.proofs.Common.{◌≡◌, ℕ, ◌+◌, List, false, Option, Some, None, Result, Ok, Err, refl, sym, ap, subst, ◌∙◌, inl, inr, arith}
 use Rattle.std.specs.Prelude.{IfErr, OnOk}
 use Rattle.basil_types.specs.Links.{LinkState}
 use Rattle.basil_types.specs.Setting.{Setting}
@@ -7,14 +7,22 @@ use Rattle.cluster_file.specs.Listing.{Listing, address_in}
 use Rattle.keyring.specs.declared.verifier.Verifier as verifiers
 use Rattle.keyring.specs.declared.signer.Signer as signers
 use Rattle.lms_sign.specs.Signing.{Key}
-use Rattle.node_link.specs.Connections.{Node, ServesParts}
+use Rattle.node_link.specs.Asking.{RoseBy}
+use Rattle.node_link.specs.Connections.{Between, Finished, HasListened, IsNode, Node, ServesParts, ServesUntil, Stopped}
+use Rattle.node_link.specs.Connections.{failed_outside, listening}
+use Rattle.node_link.specs.declared.fault.ServeFault.{ServeFault}
+use Rattle.node_link.specs.declared.fault.ServeFault.TheVariants as stops
 use Rattle.replica_core.specs.declared.replica.Replica.{Replica}
 use Rattle.party_seat.specs.Keys.{key_in}
-use Rattle.party_seat.specs.Serving.{Begins, HasStopped, Refuses, is_seatless}
+use Rattle.replica_core.specs.Replicas.{ReplicaSelf}
+use Rattle.replica_core.specs.Shown.{ShowsBook, own}
+use Rattle.party_seat.specs.Faults.{seat_fault_of, serve_fault_of}
+use Rattle.party_seat.specs.Serving.{Begins, HasFinished, HasStopped, Refuses, is_seatless, stop_of}
 use Rattle.party_seat.specs.Stations.{Seated, SitsAt, StandsAt, Station, party_of, seated_by, self_in, station_in}
 use Rattle.party_seat.specs.declared.fault.NodeFault.{NodeFault}
 use Rattle.party_seat.specs.declared.fault.NodeFault.TheVariants.{WrongKey, WrongLeaf, LinkFault, NoMemory}
 use Rattle.party_seat.specs.declared.fault.SeatFault.{SeatFault}
+use Rattle.party_seat.specs.declared.fault.SeatFault.TheVariants as seats
 use Rattle.party_seat.specs.declared.station.NodeSeat.{NodeSeat}
 
 -- ---- the station of a seat
@@ -52,21 +60,105 @@ module _ (l : Listing) (seat : NodeSeat) (address : List ℕ) (listed : address_
         address_is = refl;
       })
 
+-- ---- a node that serves at its station
+
+-- the fault is that of its node
+pub stop_is : (fault : ServeFault) → stop_of (Err (serve_fault_of fault)) ≡ Some fault
+stop_is stops.LinkFault = refl
+stop_is stops.NoMemory = refl
+
+module _ {V S : Type 0} {v : verifiers.Ghosts V} {g : signers.Ghosts S} (first new : Replica V S v g) (cluster : Setting)
+    (address : List ℕ) (s : Station) (at : StandsAt first cluster address s) (connections : ℕ) (ticks later : Option (List ℕ))
+    (told after : Option LinkState) (n : Node) (begins : Begins s ticks told n) (before now : ℕ) where
+  is_node : IsNode first ticks told 0 n
+  is_node =
+      record {
+        book = subst (λ b. ShowsBook first b) (sym begins.book) at.book;
+        moments = begins.outside.moments;
+        links = begins.outside.links;
+        frames = begins.outside.frames;
+      }
+
+  -- in the cluster of the seat, and as its replica
+  seated_so : (So : Setting → ReplicaSelf → Type 0) → So cluster (own first) → So s.seated.me.home.cluster s.seated.me
+  seated_so So h =
+      subst (λ (me : ReplicaSelf). So s.seated.me.home.cluster me) at.me (subst (λ (c : Setting). So c (own first)) at.cluster_is h)
+
+  pub has_finished : (count : ℕ) → (IsNode first ticks told 0 n →
+      Finished new later after count cluster (own first) connections (listening address n) before now) →
+      HasFinished s connections n later after count before now
+  has_finished count so =
+      let f = so is_node in
+      record {
+        new = f.new;
+        failed = f.failed;
+        served = subst (λ (a : List ℕ). ServesParts connections f.failed s.seated.me.home.cluster s.seated.me (listening a n) f.new)
+            at.address_is
+            (seated_so (λ c me. ServesParts connections f.failed c me (listening address n) f.new) f.served);
+        is = record { moments = f.is.moments; links = f.is.links; frames = f.is.frames };
+        risen = f.risen;
+      }
+
+  pub has_stopped : (fault : ServeFault) (told_as : NodeFault) → told_as ≡ serve_fault_of fault → (IsNode first ticks told 0 n →
+      (start : Node) × HasListened address n start ×
+      Stopped new later after cluster (own first) connections start before now fault) →
+      HasStopped s connections n later after before now (stop_of (Err told_as))
+  has_stopped fault told_as same so =
+      let f = so is_node in
+      rw (same, stop_is fault)
+      (record {
+        start = f.0;
+        listened = subst (λ (a : List ℕ). HasListened a n f.0) at.address_is f.1;
+        new = f.2.new;
+        failed = f.2.failed;
+        served = seated_so (λ c me. ServesUntil (Some fault) connections f.2.failed c me f.0 f.2.new) f.2.served;
+        is = record { moments = f.2.is.moments; links = f.2.is.links; frames = refl };
+        risen = f.2.risen;
+      })
+
+-- behind its last connection it stops without a fault
+pub stops_done : (s : Station) (connections : ℕ) (n : Node) (ticks : Option (List ℕ)) (told : Option LinkState)
+    (count before now : ℕ) → HasFinished s connections n ticks told count before now →
+    HasStopped s connections n ticks told before now None
+stops_done s connections n ticks told count before now f =
+    record {
+      start = listening s.address n;
+      listened = inr refl;
+      new = f.new;
+      failed = f.failed;
+      served = record {
+        done = connections;
+        within = omega arith;
+        last = f.new;
+        served = f.served;
+        stop = Between refl;
+      };
+      is = record { moments = f.is.moments; links = f.is.links; frames = refl };
+      risen = omega (arith, f.risen);
+    }
+
 -- ---- a node that didn't begin
 
-pub not_begun : (s : Station) (connections : ℕ) (ticks : Option (List ℕ)) (told : Option LinkState) (n : Node) →
-    Begins s ticks told n → HasStopped s connections n ticks told
+pub not_begun : (s : Station) (connections : ℕ) (ticks : Option (List ℕ)) (told : Option LinkState) (n : Node) (count : ℕ)
+    (fault : SeatFault) (told_as : NodeFault) → told_as ≡ seat_fault_of fault → Begins s ticks told n →
+    HasStopped s connections n ticks told count count (stop_of (Err told_as))
 unfolding ServesParts
-not_begun s connections ticks told n b =
-    record {
+not_begun s connections ticks told n count fault told_as same b =
+    rw same
+    (record {
       start = n;
       listened = inl refl;
-      done = 0;
-      within = omega arith;
       new = n;
-      served = refl;
+      failed = 0;
+      served = record { done = 0; within = omega arith; last = n; served = (refl, refl); stop = Between refl };
       is = record { moments = b.outside.moments; links = b.outside.links; frames = refl };
-    }
+      risen = none fault;
+    })
+  where
+    none : (f : SeatFault) → RoseBy (0 + failed_outside (stop_of (Err (seat_fault_of f)))) count count
+    none seats.WrongKey = omega arith
+    none seats.WrongLeaf = omega arith
+    none seats.NoMemory = omega arith
 
 -- ---- a node that got its seat
 

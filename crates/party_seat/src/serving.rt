@@ -3,7 +3,8 @@
 ghost use Rattle.std.specs.Prelude.{◌≡◌, ◌≤◌, true, false, Ok, IfOk, IfErr, OnOk};
 ghost use Rattle.basil_types.specs.Causes.{Rose};
 ghost use Rattle.node_link.specs.Connections.{Node};
-ghost use Rattle.party_seat.specs.Serving.{Begins, HasStopped, IsOutside, Refuses, ServesAt, is_seatless, serves_at};
+ghost use Rattle.party_seat.specs.Serving.{Begins, HasFinished, HasStopped, IsOutside, Refuses, is_seatless};
+ghost use Rattle.party_seat.specs.Serving.{serves_at, stop_of};
 ghost use Rattle.party_seat.specs.Stations.{StandsAt, Station, station_in};
 
 use crate::fault::NodeFault;
@@ -34,11 +35,13 @@ fn serve_at<V: Verifier, S: Signer, L: Links, C: Clock>(
         Begins s (C.moments clock.old) (L.told links.old) n → (Rose (L.faults links.old) (L.faults links.new) → ⊥) →
         IfOk result (λ count. IsOutside (C.moments clock.new) (L.told links.new) count (serves_at s connections n)) }
     ensures some { (s : Station) (n : Node) → StandsAt replica.old cluster address.now s →
-        Begins s (C.moments clock.old) (L.told links.old) n → IfOk result (λ count. (m : Node)
-        × ServesAt s connections n m × IsOutside (C.moments clock.new) (L.told links.new) count m) }
+        Begins s (C.moments clock.old) (L.told links.old) n → IfOk result (λ count.
+        HasFinished s connections n (C.moments clock.new) (L.told links.new) count
+        (L.faults links.old) (L.faults links.new)) }
     ensures stands { (s : Station) (n : Node) → StandsAt replica.old cluster address.now s →
         Begins s (C.moments clock.old) (L.told links.old) n →
-        HasStopped s connections n (C.moments clock.new) (L.told links.new) }
+        HasStopped s connections n (C.moments clock.new) (L.told links.new)
+        (L.faults links.old) (L.faults links.new) (stop_of result) }
     ensures seated { IfErr result (λ fault. is_seatless fault ≡ false) }
     ensures fault { result ≡ Err NodeFault.LinkFault → Rose (L.faults links.old) (L.faults links.new) }
     ensures faults { L.faults links.old ≤ L.faults links.new }
@@ -55,7 +58,7 @@ fn serve_at<V: Verifier, S: Signer, L: Links, C: Clock>(
 ///
 /// - `WrongKey` where the file doesn't list the replica, or its seed doesn't give the listed public key.
 /// - `WrongLeaf` where the first leaf is beyond the leaves of its tree, tested after the key.
-/// - `LinkFault` where the links fail to listen or to accept.
+/// - `LinkFault` where the links fail to listen or to accept; a read or a write that fails ends its connection alone.
 pub fn serve_seat<L: Links, C: Clock>(
     alloc: Global,
     file: &ClusterFile,
@@ -69,11 +72,13 @@ pub fn serve_seat<L: Links, C: Clock>(
         Begins s (C.moments clock.old) (L.told links.old) n → (Rose (L.faults links.old) (L.faults links.new) → ⊥) →
         IfOk result (λ count. IsOutside (C.moments clock.new) (L.told links.new) count (serves_at s connections n)) }
     ensures some { (s : Station) (n : Node) → station_in file.now seat.now ≡ Ok s →
-        Begins s (C.moments clock.old) (L.told links.old) n → IfOk result (λ count. (m : Node)
-        × ServesAt s connections n m × IsOutside (C.moments clock.new) (L.told links.new) count m) }
+        Begins s (C.moments clock.old) (L.told links.old) n → IfOk result (λ count.
+        HasFinished s connections n (C.moments clock.new) (L.told links.new) count
+        (L.faults links.old) (L.faults links.new)) }
     ensures stands { (s : Station) (n : Node) → station_in file.now seat.now ≡ Ok s →
         Begins s (C.moments clock.old) (L.told links.old) n →
-        HasStopped s connections n (C.moments clock.new) (L.told links.new) }
+        HasStopped s connections n (C.moments clock.new) (L.told links.new)
+        (L.faults links.old) (L.faults links.new) (stop_of result) }
     ensures seated { OnOk result ((s : Station) × station_in file.now seat.now ≡ Ok s) }
     ensures refused { IfErr result (λ fault. Refuses fault (station_in file.now seat.now)) }
     ensures idle { IfErr (station_in file.now seat.now) (λ _. links.new ≡ links.old) }

@@ -9,7 +9,7 @@ use basil_types::party::Party;
 use journal_disk::disk::Disk;
 use journal_disk::memory::MemDisk;
 use keyring::plain::{PlainKeys, PlainPen};
-use node_journal::{Journaled, Refused, StepFault};
+use node_journal::{JournalFault, Journaled, Refused, StepFault};
 use replica_core::Replica;
 use std::alloc::Global;
 use std::test::Fail;
@@ -68,6 +68,13 @@ impl Seat {
         let keys = PlainKeys::new(&self.cluster);
         let pen = PlainPen::new(self.party());
         Journaled::open(alloc, disk, self.cluster, 0, self.index, keys, pen)
+    }
+
+    /// Has the replica start again where it is.
+    pub(crate) fn start_again(&self, kept: &mut Kept) -> Result<(), JournalFault> {
+        let keys = PlainKeys::new(&self.cluster);
+        let pen = PlainPen::new(self.party());
+        kept.start_again(self.cluster, 0, self.index, keys, pen)
     }
 }
 

@@ -19,7 +19,7 @@ use Rattle.schedule_replay.specs.Reasons.{reason_of}
 use Rattle.schedule_replay.proofs.RoadLaws.{along_own, two_gifts}
 use Rattle.schedule_replay.specs.Replays.{ReplayValue, along, journaled, led}
 use Rattle.schedule_replay.specs.Roads.{Road, behind_one, handed, road_with}
-use Rattle.schedule_replay.specs.Shown.{Did, Does, HasStopped, Stands, fault_by}
+use Rattle.schedule_replay.specs.Shown.{Did, Does, HasBegun, HasStopped, Stands, fault_by}
 use Rattle.schedule_replay.specs.declared.course.Course.{Course}
 use Rattle.schedule_replay.specs.declared.fault.Halt.{Halt}
 use Rattle.schedule_replay.specs.declared.fault.Halt.TheVariants as halt
@@ -82,12 +82,16 @@ not_refused q m w e =
     (λ x. led (behind_one q.road) x q) w (delivered_in q.setup m (handed q.road (frame_at q.state m)) (journaled q)) e
 
 -- where no message was delivered, all is as before
-nothing_done : (r : ReplayValue) (course : Course) (road : Road) → HasStopped [] r course road → Stands course r × (r.road ≡ road)
-nothing_done r course road h = by h.done h.of_these h.comes
+nothing_begun : (r : ReplayValue) (course : Course) (h : HasBegun [] r course) → Stands course r × (h.reached ≡ r)
+nothing_begun r course h = by h.done h.of_these h.comes
   where
-    by : (done : List ℕ) → [] ≡ done ++ h.left → deliver_all done r ≡ Ok h.reached → Stands course r × (r.road ≡ road)
-    by [] e c = let same : h.reached ≡ r = cc in (subst (Stands course) same h.stands, subst (λ q. q.road ≡ road) same h.goes)
+    by : (done : List ℕ) → [] ≡ done ++ h.left → deliver_all done r ≡ Ok h.reached → Stands course r × (h.reached ≡ r)
+    by [] e c = let same : h.reached ≡ r = cc in (subst (Stands course) same h.stands, same)
     by (m ∷ ms) e c = absurd cc
+
+nothing_done : (r : ReplayValue) (course : Course) (road : Road) → HasStopped [] r course road → Stands course r × (r.road ≡ road)
+nothing_done r course road h =
+    let none = nothing_begun r course h.begun in (none.0, subst (λ q. q.road ≡ road) none.1 h.goes)
 
 pub stopped_at : (r : ReplayValue) (mid new : Course) (done left : List ℕ) (m : ℕ) (here there : Road) (a : Reached r mid done here)
     (x : Halt) → waiting r.state ≡ done ++ m ∷ left → Does [] (deliver a.now m) a.now new (Err x) there →
@@ -97,21 +101,24 @@ stopped_at r mid new done left m here there a x w does = by x does
     fails : (f : WorldFault) → deliver a.now m ≡ Err f → deliver_all (waiting r.state) r ≡ Err f
     fails f e = ap (λ ms. deliver_all ms r) w ∙ (all_of r done left m a.now a.comes ∙ ap (λ x. x >>= deliver_all left) e)
 
+    so_far : Stands new a.now → HasBegun (waiting r.state) r new
+    so_far h = record { done = done; left = m ∷ left; of_these = w; reached = a.now; comes = a.comes; stands = h }
+
     by : (x : Halt) → Does [] (deliver a.now m) a.now new (Err x) there →
         Does (waiting r.state) (deliver_all (waiting r.state) r) r new (Err x) there
     by (halt.World (world.Broken b)) does = fails (world.Broken b) does
-    by (halt.World (world.PoolFull messages bytes)) does = fails (world.PoolFull messages bytes) does
+    by (halt.World (world.PoolFull messages bytes)) does = (
+      fails (world.PoolFull messages bytes) does.0,
+      record {
+        begun = so_far (nothing_begun a.now new does.1.begun).0;
+        refused = λ message behind is.
+            let first : m ≡ message = cc in subst (λ k. deliver a.now k ≡ Err (world.PoolFull messages bytes)) first does.0;
+      },
+    )
     by (halt.World (world.Call f)) does = absurd (not_refused a.now m (world.Call f) does.0)
     by (halt.World (world.Exhausted party)) does = absurd (not_refused a.now m (world.Exhausted party) does.0)
-    by halt.Link does = let none = nothing_done a.now new there does in record {
-      done = done;
-      left = m ∷ left;
-      of_these = w;
-      reached = a.now;
-      comes = a.comes;
-      stands = none.0;
-      goes = none.1;
-    }
+    by halt.Link does =
+        let none = nothing_done a.now new there does in record { begun = so_far none.0; goes = none.1 }
     by halt.NoMemory does = tt
 
 -- ---- the message at a place
@@ -222,7 +229,7 @@ line_halted r line number course road x none does = by x does
     by : (x : Halt) → Does (round_of r line) (line_does r line) r course (Err x) road →
         Did (round_of r line) (line_step r line number) r course (Err (fault_by number x)) road
     by (halt.World (world.Broken b)) does = answers (world.Broken b) does
-    by (halt.World (world.PoolFull messages bytes)) does = answers (world.PoolFull messages bytes) does
+    by (halt.World (world.PoolFull messages bytes)) does = (answers (world.PoolFull messages bytes) does.0, does.1)
     by (halt.World (world.Call f)) does = (answers (world.Call f) does.0, does.1)
     by (halt.World (world.Exhausted party)) does = (answers (world.Exhausted party) does.0, does.1)
     by halt.Link does = does

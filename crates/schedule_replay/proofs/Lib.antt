@@ -14,4 +14,5 @@ pub mod Rounds
 pub mod Deliveries
 pub mod Courses
 pub mod Stepping
+pub mod Keeping
 mod Counting

@@ -141,7 +141,7 @@ pub run_fault : (messages : List ℕ) (r : ReplayValue) (course : Course) (shoul
     (e : ReplayFault) → Did messages should r course (Err e) road → Took (Err e) (should >>= λ r. Ok (Runs r)) road
 run_fault messages r course should road (BadInput line reason) d = ap (λ x. x >>= λ r. Ok (Runs r)) d.0
 run_fault messages r course should road (Broken b) d = ap (λ x. x >>= λ r. Ok (Runs r)) d
-run_fault messages r course should road (Full count bytes) d = ap (λ x. x >>= λ r. Ok (Runs r)) d
+run_fault messages r course should road (Full count bytes) d = ap (λ x. x >>= λ r. Ok (Runs r)) d.0
 run_fault messages r course should road LinkFault d = tt
 run_fault messages r course should road WriteFault d = d
 run_fault messages r course should road NoMemory d = tt

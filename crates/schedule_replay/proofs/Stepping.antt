@@ -1,5 +1,5 @@
 -- What a step of a course comes to.
-use Rattle.std.proofs.Common.{◌≡◌, ℕ, Bool, false, List, [], ◌++◌, Option, Some, None, refl, sym, ap, subst, ◌∙◌}
+use Rattle.std.proofs.Common.{◌≡◌, ℕ, Bool, false, List, [], ◌∷◌, ◌++◌, Option, Some, None, refl, sym, ap, subst, ◌∙◌}
 use Rattle.std.specs.Option.{option_map_or}
 use Rattle.std.specs.Prelude.{◌<◌, ◌⊎◌, Result, Ok, Err, is_none, is_some, length, option_map, true}
 use Rattle.std.specs.Result.{IsErrAnd}
@@ -24,7 +24,7 @@ use Rattle.schedule_replay.specs.Events.{event_of, frame_at, gifts, given_to, ha
 use Rattle.schedule_replay.specs.Reasons.{CanStop, lacks_journal}
 use Rattle.schedule_replay.specs.Replays.{ReplayValue, along, journaled, led}
 use Rattle.schedule_replay.specs.Roads.{Road, road_with}
-use Rattle.schedule_replay.specs.Shown.{Does, Goes, IsOfRoad, Stands, halt_of}
+use Rattle.schedule_replay.specs.Shown.{Does, Goes, HasBegun, HasFilled, IsOfRoad, Stands, halt_of}
 use Rattle.schedule_replay.specs.declared.course.Course.{Course}
 use Rattle.schedule_replay.specs.declared.fault.Halt.{Halt}
 use Rattle.schedule_replay.specs.declared.fault.Halt.TheVariants as halt
@@ -52,7 +52,7 @@ module _ (r : ReplayValue) (old new : Course) (answer : Result JournaledState Wo
       ComesTo r.setup (kit_value old.world.kit) (journaled r) answer new.world.core new.journals x → Goes answer r new x
   stepped (Ok done) comes = (comes.0, comes.1, now comes.0 comes.2 comes.3)
   stepped (Err (step.World (world.Broken b))) comes = comes
-  stepped (Err (step.World (world.PoolFull messages bytes))) comes = comes.0
+  stepped (Err (step.World (world.PoolFull messages bytes))) comes = (comes.0, now (journaled r) comes.1 comes.2)
   stepped (Err (step.World (world.Call f))) comes = (comes.0, now (journaled r) comes.1 comes.2)
   stepped (Err (step.World (world.Exhausted party))) comes = (comes.0, now (journaled r) comes.1 comes.2)
   stepped (Err step.NoMemory) comes = tt
@@ -100,18 +100,28 @@ module _ (carried : Bool) (line : Line) (given : List ℕ) where
 
 -- ---- a call that did nothing
 
-pub not_begun : (messages : List ℕ) (answer : Result ReplayValue WorldFault) (r : ReplayValue) (course : Course) (road : Road) (x : Halt) →
-    IsOfRoad x → Stands course r → r.road ≡ road → Does messages answer r course (Err x) road
-not_begun messages answer r course road (halt.World f) of h same = absurd of
-not_begun messages answer r course road halt.Link of h same = record {
+abbrev none_begun : (messages : List ℕ) (r : ReplayValue) (course : Course) → Stands course r → HasBegun messages r course
+none_begun messages r course h = record {
   done = [];
   left = messages;
   of_these = refl;
   reached = r;
   comes = refl;
   stands = h;
-  goes = same;
 }
+
+-- where nothing is delivered one after another
+none_filled : (messages : List ℕ) (r : ReplayValue) (course : Course) (f : WorldFault) → messages ≡ [] → Stands course r →
+    HasFilled messages r course f
+none_filled messages r course f none h = record {
+  begun = none_begun messages r course h;
+  refused = λ message behind is. let no : [] ≡ message ∷ behind = sym none ∙ is in absurd cc;
+}
+
+pub not_begun : (messages : List ℕ) (answer : Result ReplayValue WorldFault) (r : ReplayValue) (course : Course) (road : Road) (x : Halt) →
+    IsOfRoad x → Stands course r → r.road ≡ road → Does messages answer r course (Err x) road
+not_begun messages answer r course road (halt.World f) of h same = absurd of
+not_begun messages answer r course road halt.Link of h same = record { begun = none_begun messages r course h; goes = same }
 not_begun messages answer r course road halt.NoMemory of h same = tt
 
 -- `?` hands it on
@@ -148,19 +158,20 @@ module _ (r : ReplayValue) (course : Course) (answer : Result JournaledState Wor
     same,
   )
 
-  pub event_refused : (messages : List ℕ) (x : StepFault) → Goes answer r course (Err x) →
+  pub event_refused : (messages : List ℕ) → messages ≡ [] → (x : StepFault) → Goes answer r course (Err x) →
       Does messages Answer r course (Err (halt_of x)) left
-  event_refused messages (step.World (world.Broken b)) goes = fails (world.Broken b) goes
-  event_refused messages (step.World (world.PoolFull count bytes)) goes = fails (world.PoolFull count bytes) goes
-  event_refused messages (step.World (world.Call f)) goes = (fails (world.Call f) goes.0, goes.1)
-  event_refused messages (step.World (world.Exhausted party)) goes = (fails (world.Exhausted party) goes.0, goes.1)
-  event_refused messages step.NoMemory goes = tt
+  event_refused messages none (step.World (world.Broken b)) goes = fails (world.Broken b) goes
+  event_refused messages none (step.World (world.PoolFull count bytes)) goes =
+      (fails (world.PoolFull count bytes) goes.0, none_filled messages r course (world.PoolFull count bytes) none goes.1)
+  event_refused messages none (step.World (world.Call f)) goes = (fails (world.Call f) goes.0, goes.1)
+  event_refused messages none (step.World (world.Exhausted party)) goes = (fails (world.Exhausted party) goes.0, goes.1)
+  event_refused messages none step.NoMemory goes = tt
 
-  pub event_fails : (messages : List ℕ) (x : StepFault) (result : Result (Unit {0}) Halt) → IsErrAnd result (λ y. y ≡ halt_of x) →
-      Goes answer r course (Err x) → Does messages Answer r course result left
-  event_fails messages x (Ok done) h goes = absurd h
-  event_fails messages x (Err y) h goes =
-      subst (λ z. Does messages Answer r course (Err z) left) (sym h) (event_refused messages x goes)
+  pub event_fails : (x : StepFault) (result : Result (Unit {0}) Halt) → IsErrAnd result (λ y. y ≡ halt_of x) →
+      Goes answer r course (Err x) → Does [] Answer r course result left
+  event_fails x (Ok done) h goes = absurd h
+  event_fails x (Err y) h goes =
+      subst (λ z. Does [] Answer r course (Err z) left) (sym h) (event_refused [] refl x goes)
 
 -- ---- another line than a round
 
@@ -168,6 +179,10 @@ pub rest_does : (r : ReplayValue) (line : Line) → (line ≡ Round → ⊥) →
     line_does r line ≡ (one_does r (given_to r line) line >>= λ x. Ok (led (road_behind line r.road) x r))
 rest_does r Round h = absurd (h refl)
 rest_does r line h = refl
+
+no_round : (r : ReplayValue) (line : Line) → (line ≡ Round → ⊥) → round_of r line ≡ []
+no_round r Round h = absurd (h refl)
+no_round r line h = refl
 
 module _ (q : ReplayValue) (line : Line) (course : Course) (given : List ℕ) (left : Road) (single : line ≡ Round → ⊥)
     (is : given ≡ given_to q line) (behind : road_behind line q.road ≡ left) where
@@ -189,7 +204,7 @@ module _ (q : ReplayValue) (line : Line) (course : Course) (given : List ℕ) (l
   line_failed x (Err y) h goes =
       subst (λ z. Does (round_of q line) (line_does q line) q course (Err z) left) (sym h)
       (turn (Err (halt_of x))
-      (event_refused q course (one_does q given line) (road_behind line q.road) left (round_of q line) x goes))
+      (event_refused q course (one_does q given line) (road_behind line q.road) left (round_of q line) (no_round q line single) x goes))
 
 -- ---- what a line but a round comes to
 

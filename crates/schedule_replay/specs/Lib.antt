@@ -7,6 +7,7 @@ pub mod Reasons
 pub mod LineKinds
 pub mod Events
 pub mod Lines
+pub mod Leading
 pub mod Stages
 pub mod Reports
 pub mod Outcomes

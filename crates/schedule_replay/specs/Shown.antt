@@ -1,5 +1,5 @@
 -- What a replay shows.
-use Rattle.std.specs.Prelude.{◌≡◌, ℕ, List, ◌++◌, Bool, true, false, ⊤, Option, Result, Ok, Err}
+use Rattle.std.specs.Prelude.{◌≡◌, ℕ, List, ◌∷◌, ◌++◌, Bool, true, false, ⊤, Option, Result, Ok, Err}
 use Rattle.basil_types.specs.Links.{LinkState}
 use Rattle.cluster_run.specs.declared.fault.WorldFault.{WorldFault}
 use Rattle.cluster_run.specs.declared.fault.WorldFault.TheVariants as world
@@ -20,7 +20,7 @@ use Rattle.schedule_replay.specs.declared.fault.ReplayFault.{ReplayFault}
 use Rattle.schedule_replay.specs.declared.fault.ReplayFault.TheVariants.{BadInput, Broken, Full}
 use Rattle.schedule_replay.specs.declared.fault.ReplayFault.TheVariants.{LinkFault, WriteFault, NoMemory}
 use Rattle.schedule_replay.specs.declared.replay.Opening as code
-use Rattle.schedule_replay.specs.Events.{deliver_all}
+use Rattle.schedule_replay.specs.Events.{deliver, deliver_all}
 use Rattle.schedule_replay.specs.Names.{is_begun}
 use Rattle.schedule_replay.specs.Replays.{NamesValue, Opening, ReplayValue, along, journaled, led}
 use Rattle.schedule_replay.specs.Roads.{Carries, Road, road_with}
@@ -49,7 +49,8 @@ ByRoads carried old new course Should = Carries carried old new (λ gave.
 abbrev pub Goes : Result JournaledState WorldFault → ReplayValue → Course → Result (Unit {0}) StepFault → Type 0
 Goes answer r course (Ok done) = (x : JournaledState) × (answer ≡ Ok x) × Stands course (led r.road x r)
 Goes answer r course (Err (step.World (world.Broken b))) = answer ≡ Err (world.Broken b)
-Goes answer r course (Err (step.World (world.PoolFull messages bytes))) = answer ≡ Err (world.PoolFull messages bytes)
+Goes answer r course (Err (step.World (world.PoolFull messages bytes))) =
+    (answer ≡ Err (world.PoolFull messages bytes)) × Stands course r
 Goes answer r course (Err (step.World (world.Call f))) = (answer ≡ Err (world.Call f)) × Stands course r
 Goes answer r course (Err (step.World (world.Exhausted party))) =
     (answer ≡ Err (world.Exhausted party)) × Stands course r
@@ -57,25 +58,36 @@ Goes answer r course (Err step.NoMemory) = ⊤
 
 -- ---- the events of a line
 
--- the first of these messages are delivered, as many as leave this road, and the rest is as before
-pub record HasStopped (messages : List ℕ) (r : ReplayValue) (course : Course) (road : Road) : Type 0 where
+-- the first of these messages are delivered, and the rest is as before
+pub record HasBegun (messages : List ℕ) (r : ReplayValue) (course : Course) : Type 0 where
   pub done : List ℕ
   pub left : List ℕ
   pub of_these : messages ≡ done ++ left
   pub reached : ReplayValue
   pub comes : deliver_all done r ≡ Ok reached
   pub stands : Stands course reached
-  pub goes : reached.road ≡ road
+
+-- as many of them as leave this road
+pub record HasStopped (messages : List ℕ) (r : ReplayValue) (course : Course) (road : Road) : Type 0 where
+  pub begun : HasBegun messages r course
+  pub goes : begun.reached.road ≡ road
+
+-- those before the one that is refused so
+pub record HasFilled (messages : List ℕ) (r : ReplayValue) (course : Course) (fault : WorldFault) : Type 0 where
+  pub begun : HasBegun messages r course
+  pub refused : (message : ℕ) (behind : List ℕ) → begun.left ≡ message ∷ behind →
+      deliver begun.reached message ≡ Err fault
 
 -- events, which deliver these messages one after another, come to this, with this road left: the world shows it, and
--- the names are as before; a refusal is that; where a link failed, the messages before stay delivered
+-- the names are as before; a refusal is that; where a link failed, or there is no room, the messages before stay
+-- delivered
 abbrev pub Does :
     (messages : List ℕ) → Result ReplayValue WorldFault → ReplayValue → Course → Result (Unit {0}) Halt → Road → Type 0
 Does messages answer r course (Ok done) road =
     (after : ReplayValue) × (answer ≡ Ok after) × Stands course after × (after.road ≡ road)
 Does messages answer r course (Err (halt.World (world.Broken b))) road = answer ≡ Err (world.Broken b)
 Does messages answer r course (Err (halt.World (world.PoolFull count bytes))) road =
-    answer ≡ Err (world.PoolFull count bytes)
+    (answer ≡ Err (world.PoolFull count bytes)) × HasFilled messages r course (world.PoolFull count bytes)
 Does messages answer r course (Err (halt.World (world.Call f))) road = (answer ≡ Err (world.Call f)) × Stands course r
 Does messages answer r course (Err (halt.World (world.Exhausted party))) road =
     (answer ≡ Err (world.Exhausted party)) × Stands course r
@@ -121,7 +133,7 @@ fault_by number halt.NoMemory = NoMemory
 
 -- a line, which delivers these messages one after another, does what it should: Ok exactly where that is, and then the
 -- replay shows it, with this road left; a refusal is that, and one by a reason leaves all as before; where a link
--- failed, the messages before stay delivered; want of memory ends it
+-- failed, or there is no room, the messages before stay delivered; a breach and want of memory end it
 abbrev pub Did :
     (messages : List ℕ) → Result ReplayValue ReplayFault → ReplayValue → Course → Result (Unit {0}) ReplayFault → Road →
     Type 0
@@ -130,7 +142,8 @@ Did messages should before course (Ok done) road =
 Did messages should before course (Err (BadInput line reason)) road =
     (should ≡ Err (BadInput line reason)) × Stands course before
 Did messages should before course (Err (Broken b)) road = should ≡ Err (Broken b)
-Did messages should before course (Err (Full count bytes)) road = should ≡ Err (Full count bytes)
+Did messages should before course (Err (Full count bytes)) road =
+    (should ≡ Err (Full count bytes)) × HasFilled messages before course (world.PoolFull count bytes)
 Did messages should before course (Err LinkFault) road = HasStopped messages before course road
 Did messages should before course (Err WriteFault) road = ⊥
 Did messages should before course (Err NoMemory) road = ⊤

@@ -14,7 +14,8 @@ pub enum ReplayFault {
     BadInput { line: u64, reason: Reason },
     /// A premise of the run is broken.
     Broken(Broken),
-    /// The messages of an event would pass a limit of the pool, which holds so many messages and bytes.
+    /// The messages of an event would pass a limit of the pool, or a record the limit of a journal; that holds so many
+    /// messages or records, and bytes.
     Full { messages: u64, bytes: u64 },
     /// The link failed.
     LinkFault,

@@ -1,16 +1,20 @@
 //! A replay: a run of a cluster by the lines of a schedule.
 
-ghost use Rattle.std.specs.Prelude.{◌≡◌, ◌<◌, false, IfErr, IfOk, OnOk, option_map};
+ghost use Rattle.std.specs.Prelude.{◌≡◌, ◌<◌, List, false, IfErr, IfOk, OnOk, is_some, option_map};
 ghost use Rattle.std.specs.Result.{IsErrOf};
 ghost use Rattle.basil_types.specs.Causes.{Rose, TookAll, TookPrefix};
+ghost use Rattle.basil_types.specs.declared.party.Party.{Party};
 ghost use Rattle.cluster_world.specs.Shows.{AreMembers};
 ghost use Rattle.cluster_world.specs.Worlds.{RanSafely};
+ghost use Rattle.journaled_runs.specs.Owners.{keeps_journal};
 ghost use Rattle.premise_watch.specs.Parties.{AreCounted};
 ghost use Rattle.run_journals.specs.Journals.{journal_at};
 ghost use Rattle.run_journals.specs.Kept.{ShowsDisk};
 ghost use Rattle.schedule_replay.specs.Events.{round_of};
+ghost use Rattle.schedule_replay.specs.Leading.{IsLed};
 ghost use Rattle.schedule_replay.specs.Lines.{line_step};
-ghost use Rattle.schedule_replay.specs.Replays.{ReplayValue, first_replay, most_bytes, most_messages};
+ghost use Rattle.schedule_replay.specs.Replays as replays;
+ghost use Rattle.schedule_replay.specs.Replays.{ReplayValue, first_replay, most_bytes, most_messages, setup_of};
 ghost use Rattle.schedule_replay.specs.Reports as reports;
 ghost use Rattle.schedule_replay.specs.Roads.{Road, Uses};
 ghost use Rattle.schedule_replay.specs.Totals.{totals};
@@ -28,6 +32,7 @@ use basil_types::sink::Sink;
 use cluster_world::building::Beginning;
 use cluster_world::world::World;
 use journal_disk::memory::MemDisk;
+use journaled_runs::{owners_are_correct, owners_outlast_stops, owners_stay};
 use message_pool::Room;
 use premise_watch::faulty::Faulty;
 use replay_kit::{KitKind, ReplayKit};
@@ -153,9 +158,15 @@ impl Replay {
     /// The disk of a replica's journal, with its records and the stops that it had. There is none where the header has
     /// no `journal`, or where the numbers name no correct replica.
     pub fn disk(&self, shard: u8, index: u8) -> Option<&MemDisk>
-        ensures { (r : ReplayValue) → Stands self.now.course.value r →
+        ensures shown { (r : ReplayValue) → Stands self.now.course.value r →
             ShowsDisk (option_map (λ disk. disk.now) result) (journal_at r.journals shard index) }
+        ensures there { (o : replays.Opening) (faulty : List Party) (r : ReplayValue) → IsLed o faulty r →
+            Stands self.now.course.value r →
+            is_some result ≡ keeps_journal (setup_of o faulty) o.journal shard index }
     {
+        owners_are_correct();
+        owners_stay();
+        owners_outlast_stops();
         self.course.journals.disk(shard, index)
     }
 

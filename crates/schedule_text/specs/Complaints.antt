@@ -16,7 +16,6 @@ reason_number reasons.WrongParty = 6
 reason_number reasons.NoMessage = 7
 reason_number reasons.OutOfSize = 8
 reason_number reasons.RefusedCall = 9
-reason_number reasons.NotBuilt = 10
 reason_number reasons.NoJournal = 11
 
 -- why a line with a complaint is refused

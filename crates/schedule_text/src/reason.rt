@@ -26,14 +26,12 @@ pub enum Reason {
     OutOfSize,
     /// 9: a call that is refused, a key without a leaf, or a listed transaction that can't stand.
     RefusedCall,
-    /// 10: a form that isn't built yet.
-    NotBuilt,
     /// 11: a disk is stopped where no replica has a journal.
     NoJournal,
 }
 
 impl Reason {
-    /// Its number, 1 to 11.
+    /// Its number: 1 to 9, or 11. The number 10 is free.
     pub fn number(self) -> u8
         ensures { result ≡ reason_number self }
     {
@@ -47,7 +45,6 @@ impl Reason {
             Reason::NoMessage => 7,
             Reason::OutOfSize => 8,
             Reason::RefusedCall => 9,
-            Reason::NotBuilt => 10,
             Reason::NoJournal => 11,
         }
     }

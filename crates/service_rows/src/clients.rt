@@ -1,9 +1,10 @@
 //! Clients that carry a transaction through.
 
 use crate::frames::{FILE, FIRST, NONE, VOTE, WRITEBACK};
-use crate::support::{Given, Row, are_answered};
+use crate::support::{Answer, Given, Row, are_answered, run_given};
 use basil_cli::status::Status;
 use schedule_text::reason::Reason;
+use std::alloc::Global;
 use std::test::Fail;
 
 /// The SEED of client 1.
@@ -125,4 +126,53 @@ const ROWS: &[Row] = &[
 #[test]
 fn clients_carry_a_transaction_through(rt: HostRuntime) -> Result<(), Fail> {
     are_answered(&rt, rt.alloc(), FILE, ROWS)
+}
+
+/// Each call of the links fails in its turn. A client opens, writes and reads for each of its few asks, so it makes
+/// fewer calls than sixteen.
+const FAILING: &[&[u64]] = &[
+    &[1],
+    &[2],
+    &[3],
+    &[4],
+    &[5],
+    &[6],
+    &[7],
+    &[8],
+    &[9],
+    &[10],
+    &[11],
+    &[12],
+    &[13],
+    &[14],
+    &[15],
+    &[16],
+];
+
+/// Whether a client tells that its transaction commits, or that it knows no outcome and holds no vote, as the only vote
+/// would decide.
+fn is_outcome(answer: &Answer) -> bool {
+    match answer.status {
+        Status::Done => answer.text.as_slice() == b"commit\n".as_slice(),
+        Status::Undecided { replies: 0 } => answer.text.as_slice() == b"undecided 0\n".as_slice(),
+        _ => false,
+    }
+}
+
+/// Whether it does so where these calls of the links fail.
+fn has_outcome(alloc: Global, failing_links: &'static [u64]) -> Result<bool, Fail> {
+    let given = Given {
+        failing_links,
+        ..VOTED
+    };
+    let answer = run_given(alloc, WRITE, FILE.as_bytes(), &given)?;
+    Ok(is_outcome(&answer))
+}
+
+#[test]
+fn each_call_of_the_links_may_fail(rt: HostRuntime) -> Result<(), Fail> {
+    for &failing in FAILING {
+        assert!(rt; has_outcome(rt.alloc(), failing)?, "{failing:?}");
+    }
+    Ok(())
 }

@@ -1,11 +1,14 @@
 -- What was served is written.
-use Rattle.std.proofs.Common.{rules, inl, inr}
+use Rattle.std.proofs.Common.{rules, ◌≡◌, Some, None, Err, inl, inr}
 use Rattle.basil_types.specs.Causes.{Rose, TookAll, TookPrefix}
+use Rattle.node_link.specs.declared.fault.ServeFault.TheVariants as stops
 use Rattle.basil_cli.specs.Answers.{counted}
 use Rattle.basil_cli.specs.Nodes.{station_of}
 use Rattle.basil_cli.specs.Outcome.{link_fault_text, read_fault_text}
 use Rattle.basil_cli.specs.Parts.{outcome_is}
-use Rattle.basil_cli.proofs.NodeLaws.{node_told, ok_map, refused_any, some_both, some_map, wrote, wrote_at, wrote_served}
+use Rattle.basil_cli.specs.declared.input.InputFail.TheVariants as input
+use Rattle.basil_cli.proofs.NodeLaws.{node_told, ok_map, refused_any, some_both, some_map, stopped_as, stopped_told, weaker_link}
+use Rattle.basil_cli.proofs.NodeLaws.{weaker_same, wrote, wrote_at, wrote_served}
 use Rattle.basil_cli.proofs.node.run_node.Goals as goal
 
 pub returns-in-Ok-clause-seated : goal.returns-in-Ok-clause-seated
@@ -23,7 +26,7 @@ returns-in-Ok-clause-served g c = λ s n done.
     (g.L.Links.faults c.args.links.now) (g.L.Links.faults c.serve_source.new.links) in
     some_map (g.S.Source.left c.args.source.now) _ _
     (λ bytes so e b. wrote_served c.write_ending.result (outcome_is c.in-Ok.ending) counts _ _ done
-    (c.write_ending.ensures.answers counts) s c.args.call.now.connections n _ _ (so e b))
+    (c.write_ending.ensures.answers counts) s c.args.call.now.connections n _ _ _ _ (so e b))
     (c.in-Ok.ensures.served s n)
 
 pub returns-in-Ok-clause-whole : goal.returns-in-Ok-clause-whole
@@ -34,6 +37,47 @@ returns-in-Ok-clause-whole g c = λ s n still done.
     (λ bytes so e b. wrote_at c.write_ending.result (outcome_is c.in-Ok.ending) counts _ _ done
     (c.write_ending.ensures.answers counts) _ _ _ (so e b))
     (c.in-Ok.ensures.whole s n still)
+
+pub returns-in-Ok-clause-stands : goal.returns-in-Ok-clause-stands
+returns-in-Ok-clause-stands g c = λ s n.
+    some_map (g.S.Source.left c.args.source.now) _ _
+    (λ bytes so e b. stopped_told s c.args.call.now.connections n _ _ _ _ c.write_ending.result c.write_ending.ensures.no_link (so e b))
+    (c.in-Ok.ensures.stands s n)
+
+pub returns-in-Ok-write-clause-stands : goal.returns-in-Ok-write-clause-stands
+returns-in-Ok-write-clause-stands g c = λ s n.
+    let ended : c.serve_source.result ≡ Err input.Failed = search rules in
+    some_map (g.S.Source.left c.args.source.now) _ _
+    (λ bytes so e b. stopped_as s c.args.call.now.connections n _ _ _ _ _ _ ended None (weaker_same None) (so e b))
+    (c.serve_source.ensures.stands s n)
+
+pub returns-in-Err-clause-stands : goal.returns-in-Err-clause-stands
+returns-in-Err-clause-stands g c = λ s n.
+    let ended : c.serve_source.result ≡ Err input.Failed = search rules in
+    some_map (g.S.Source.left c.args.source.now) _ _
+    (λ bytes so e b. stopped_as s c.args.call.now.connections n _ _ _ _ _ _ ended None (weaker_same None) (so e b))
+    (c.serve_source.ensures.stands s n)
+
+pub returns-in-Ok-write-2-clause-stands : goal.returns-in-Ok-write-2-clause-stands
+returns-in-Ok-write-2-clause-stands g c = λ s n.
+    let ended : c.serve_source.result ≡ Err input.Link = search rules in
+    some_map (g.S.Source.left c.args.source.now) _ _
+    (λ bytes so e b. stopped_as s c.args.call.now.connections n _ _ _ _ _ _ ended (Some stops.LinkFault) (weaker_same _) (so e b))
+    (c.serve_source.ensures.stands s n)
+
+pub returns-in-Err-write-clause-stands : goal.returns-in-Err-write-clause-stands
+returns-in-Err-write-clause-stands g c = λ s n.
+    let ended : c.serve_source.result ≡ Err input.Link = search rules in
+    some_map (g.S.Source.left c.args.source.now) _ _
+    (λ bytes so e b. stopped_as s c.args.call.now.connections n _ _ _ _ _ _ ended None weaker_link (so e b))
+    (c.serve_source.ensures.stands s n)
+
+pub returns-in-Err-NoMemory-clause-stands : goal.returns-in-Err-NoMemory-clause-stands
+returns-in-Err-NoMemory-clause-stands g c = λ s n.
+    let ended : c.serve_source.result ≡ Err input.NoMemory = search rules in
+    some_map (g.S.Source.left c.args.source.now) _ _
+    (λ bytes so e b. stopped_as s c.args.call.now.connections n _ _ _ _ _ _ ended (Some stops.NoMemory) (weaker_same _) (so e b))
+    (c.serve_source.ensures.stands s n)
 
 pub returns-in-Ok-clause-complete : goal.returns-in-Ok-clause-complete
 returns-in-Ok-clause-complete g c = λ read write link.

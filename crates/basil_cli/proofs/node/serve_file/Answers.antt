@@ -1,3 +1,4 @@
+use Rattle.std.proofs.Common.{refl}
 use Rattle.cluster_file.specs.Text.{cluster_in}
 use Rattle.basil_cli.proofs.NodeLaws.{idle_in, in_file, not_begun}
 use Rattle.basil_cli.proofs.node.serve_file.Goals as goal
@@ -21,4 +22,4 @@ returns-in-Ok-clause-whole g c s n e b still =
     (in_file c.args.call.now.seat (cluster_in c.args.bytes.now) c.in-Ok.file c.in-Ok.ensures.found s e) b still
 
 pub returns-in-Err-NoMemory-clause-stands : goal.returns-in-Err-NoMemory-clause-stands
-returns-in-Err-NoMemory-clause-stands g c s n e b = not_begun s _ _ _ n b
+returns-in-Err-NoMemory-clause-stands g c s n e b = not_begun s _ _ _ n _ _ refl b

@@ -1,13 +1,15 @@
-use Rattle.std.proofs.Common.{rules}
+use Rattle.std.proofs.Common.{rules, Err, ap}
 use Rattle.std.specs.Prelude.{IfSome}
 use Rattle.basil_cli.specs.Parts.{IsWhole}
 use Rattle.basil_cli.specs.declared.input.Whole.TheVariants as whole
-use Rattle.basil_cli.proofs.NodeLaws.{idle_whole, not_begun, ok_whole, served_whole, some_any}
+use Rattle.basil_cli.proofs.NodeLaws.{idle_whole, no_link, not_begun, ok_whole, served_whole, some_any}
 use Rattle.basil_cli.proofs.node.serve_source.Goals as goal
 
 pub returns-in_err-bytes-clause-stands : goal.returns-in_err-bytes-clause-stands
 returns-in_err-bytes-clause-stands g c s n =
-    some_any (g.S.Source.left c.args.source.now) _ (λ bytes e b. not_begun s _ _ _ n b)
+    let unlinked = no_link _ c.in_err-bytes.field-0.0 c.from_residual.ensures.1
+    (λ e. c.in_err-bytes.ensures.unlinked (ap (λ fail. Err fail) e)) in
+    some_any (g.S.Source.left c.args.source.now) _ (λ bytes e b. not_begun s _ _ _ n _ _ unlinked b)
 
 pub returns-in-Bytes-clause-idle : goal.returns-in-Bytes-clause-idle
 returns-in-Bytes-clause-idle g c =

@@ -5,7 +5,7 @@ use Rattle.schedule_replay.specs.Roads.{road_with}
 use Rattle.basil_cli.specs.Reading.{is_settled, longest_piece}
 use Rattle.basil_cli.specs.declared.input.InputFail.TheVariants as input
 use Rattle.basil_cli.proofs.Behind.{can_end, fault_told, fault_through, later_on, nothing_taken}
-use Rattle.basil_cli.proofs.Behind.{outcomes, soons, throughs, unread, untold, whole_through, whole_told}
+use Rattle.basil_cli.proofs.Behind.{outcomes, soons, throughs, unended, unread, untold, whole_through, whole_told}
 use Rattle.basil_cli.proofs.Stopping.{consumes-more, nothing_read, stops_behind, stops_failed, stops_there}
 use Rattle.basil_cli.proofs.replay.replay.Goals as goal
 
@@ -31,7 +31,7 @@ returns-in-Ok-eq0-clause-outcome g c =
     let s = c.turns.invariant.so_far in
     let old = g.S.Source.left c.args.source.now in
     let new = g.S.Source.left c.read.new.self in
-    outcomes c.args.carried (g.L.Links.told c.args.links.now) (g.L.Links.told c.ended.new.links) old c.ended.result
+    outcomes c.args.carried (g.L.Links.told c.args.links.now) (g.L.Links.told c.ended.new.links) old s.read c.ended.result
     (carries_both c.args.carried s.behind c.ended.ensures.outcome
     (λ gave more has outcome later.
     whole_told (road_with c.args.carried ((gave ++ more) ++ later)) (road_with c.args.carried later) c.ended.result old new s.read
@@ -72,8 +72,8 @@ returns-in-Ok-eq0-clause-soon g c =
 pub returns-in-Err-clause-outcome : goal.returns-in-Err-clause-outcome
 returns-in-Err-clause-outcome g c =
     let old = g.S.Source.left c.args.source.now in
-    outcomes c.args.carried (g.L.Links.told c.args.links.now) (g.L.Links.told c.turns.links) old (Err input.Failed)
-    (carries_as c.args.carried c.turns.invariant.so_far.behind (λ gave has later. untold old))
+    outcomes c.args.carried (g.L.Links.told c.args.links.now) (g.L.Links.told c.turns.links) old [] (Err input.Failed)
+    (carries_as c.args.carried c.turns.invariant.so_far.behind (λ gave has later. unended old []))
 
 pub returns-in-Err-clause-through : goal.returns-in-Err-clause-through
 returns-in-Err-clause-through g c =
@@ -122,7 +122,7 @@ pub returns-in-Err-take-clause-outcome : goal.returns-in-Err-take-clause-outcome
 returns-in-Err-take-clause-outcome g c =
     let s = c.turns.invariant.so_far in
     outcomes c.args.carried (g.L.Links.told c.args.links.now)
-    (g.L.Links.told c.take.new.links) (g.S.Source.left c.args.source.now) c.ending_of.result
+    (g.L.Links.told c.take.new.links) (g.S.Source.left c.args.source.now) (s.read ++ take c.in-Ok.count c.read.new.buf) c.ending_of.result
     (carries_both c.args.carried s.behind c.in-Err-take.ensures.reads
     (λ gave more has reads later.
     fault_told (road_with c.args.carried ((gave ++ more) ++ later)) (road_with c.args.carried later) c.ending_of.result _ _
@@ -161,8 +161,8 @@ returns-in-Err-take-clause-soon g c =
 pub returns-clause-outcome : goal.returns-clause-outcome
 returns-clause-outcome g c =
     let old = g.S.Source.left c.args.source.now in
-    outcomes c.args.carried (g.L.Links.told c.args.links.now) (g.L.Links.told c.turns.links) old (Err input.NoMemory)
-    (carries_as c.args.carried c.turns.invariant.so_far.behind (λ gave has later. untold old))
+    outcomes c.args.carried (g.L.Links.told c.args.links.now) (g.L.Links.told c.turns.links) old [] (Err input.NoMemory)
+    (carries_as c.args.carried c.turns.invariant.so_far.behind (λ gave has later. unended old []))
 
 pub returns-clause-through : goal.returns-clause-through
 returns-clause-through g c =

@@ -1,7 +1,10 @@
-use Rattle.std.proofs.Common.{rules, ◌≡◌, false}
+use Rattle.std.proofs.Common.{rules, ◌≡◌, false, true}
+use Rattle.std.specs.Prelude.{IfSome}
 use Rattle.basil_cli.specs.Commands.{reads}
-use Rattle.basil_cli.specs.Parts.{outcome_is}
-use Rattle.basil_cli.proofs.Arguments.{unread_all}
+use Rattle.basil_cli.specs.Parts.{IsWhole, outcome_is}
+use Rattle.basil_cli.specs.declared.input.Whole.TheVariants as whole
+use Rattle.basil_cli.proofs.Arguments.{long_as, unread_all}
+use Rattle.basil_cli.proofs.SourceLaws.{long_ended}
 use Rattle.basil_cli.proofs.Stopping.{untaken_all}
 use Rattle.basil_cli.proofs.run.ending_alone.Goals as goal
 
@@ -15,3 +18,10 @@ pub returns-then-not-has_input-clause-outcome : goal.returns-then-not-has_input-
 returns-then-not-has_input-clause-outcome g c =
     let none : reads c.args.command.now ≡ false = search rules in
     unread_all c.args.command.now none (g.S.Source.left c.args.source.now) (outcome_is c.in_ok-ending_of.field-0) c.in_ok-ending_of.ensures
+
+pub returns-in-TooLong-clause-outcome : goal.returns-in-TooLong-clause-outcome
+returns-in-TooLong-clause-outcome g c =
+    let left = g.S.Source.left c.args.source.now in
+    let read : reads c.args.command.now ≡ true = search rules in
+    let long : IfSome left (λ bytes. IsWhole whole.TooLong bytes) = search rules in
+    long_ended c.args.command.now (long_as c.args.command.now c.requires.other read) left long

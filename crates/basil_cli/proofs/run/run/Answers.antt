@@ -5,7 +5,7 @@ use Rattle.party_seat.specs.Serving.{Begins, HasStopped, serves_at}
 use Rattle.basil_cli.specs.Answers.{counted}
 use Rattle.basil_cli.specs.Clients.{ToldRun, client_of, client_station}
 use Rattle.basil_cli.specs.Commands.{command_of}
-use Rattle.basil_cli.specs.Nodes.{WroteAt, WroteServed, node_of, station_of}
+use Rattle.basil_cli.specs.Nodes.{WroteAt, WroteServed, node_of, station_of, stop_told}
 use Rattle.basil_cli.specs.Outcome.{is_too_long}
 use Rattle.basil_cli.specs.declared.client.ClientCall.{ClientCall}
 use Rattle.basil_cli.specs.declared.node.NodeCall.{NodeCall}
@@ -48,6 +48,7 @@ returns-in-Ok-Some-Node-clause-node_served g c = λ call s n e done.
     (λ (x : NodeCall). IfSome (g.S.Source.left c.args.source.now) (λ bytes. station_of x.seat bytes ≡ Ok s →
     Begins s (g.C.Clock.moments c.args.clock.now) (g.L.Links.told c.args.links.now) n →
     WroteServed s x.connections n (g.C.Clock.moments c.run_node.new.clock) (g.L.Links.told c.run_node.new.links)
+    (g.L.Links.faults c.args.links.now) (g.L.Links.faults c.run_node.new.links)
     (g.K.Sink.taken c.args.sink.now) (g.K.Sink.taken c.run_node.new.sink)))
     (same_call (map string_bytes c.args.arguments.now) c.in-Ok-Some-Node.call call said e) (c.run_node.ensures.served s n done)
 
@@ -67,7 +68,8 @@ returns-in-Ok-Some-Node-clause-node_stands g c = λ call s n e.
     subst
     (λ (x : NodeCall). IfSome (g.S.Source.left c.args.source.now) (λ bytes. station_of x.seat bytes ≡ Ok s →
     Begins s (g.C.Clock.moments c.args.clock.now) (g.L.Links.told c.args.links.now) n →
-    HasStopped s x.connections n (g.C.Clock.moments c.run_node.new.clock) (g.L.Links.told c.run_node.new.links)))
+    HasStopped s x.connections n (g.C.Clock.moments c.run_node.new.clock) (g.L.Links.told c.run_node.new.links)
+    (g.L.Links.faults c.args.links.now) (g.L.Links.faults c.run_node.new.links) (stop_told c.run_node.result)))
     (same_call (map string_bytes c.args.arguments.now) c.in-Ok-Some-Node.call call said e) (c.run_node.ensures.stands s n)
 
 pub returns-in-Err-clause-soon : goal.returns-in-Err-clause-soon
@@ -86,7 +88,7 @@ returns-in-Err-clause-node_still g c = λ call e. refused_any (g.S.Source.left c
 
 pub returns-in-Err-clause-node_stands : goal.returns-in-Err-clause-node_stands
 returns-in-Err-clause-node_stands g c = λ call s n e.
-    some_any (g.S.Source.left c.args.source.now) _ (λ bytes at b. not_begun s _ _ _ n b)
+    some_any (g.S.Source.left c.args.source.now) _ (λ bytes at b. not_begun s _ _ _ n _ _ refl b)
 
 pub returns-in-Err-clause-node_complete : goal.returns-in-Err-clause-node_complete
 returns-in-Err-clause-node_complete g c = λ call e read write link.

@@ -2,11 +2,11 @@ use Rattle.std.proofs.Common.{rules, ◌≡◌, Option, Some, map, string_bytes,
 use Rattle.std.specs.Prelude.{IfSome}
 use Rattle.basil_cli.specs.Answers.{Answers, IsTold, counted}
 use Rattle.basil_cli.specs.Commands.{command_of}
-use Rattle.basil_cli.specs.Linked.{ByArguments}
+use Rattle.basil_cli.specs.Linked.{ByArguments, OfBytes}
 use Rattle.basil_cli.specs.Output.{outcome_with}
 use Rattle.basil_cli.specs.Reading.{IsReadFor, StopsSoonFor}
 use Rattle.basil_cli.specs.declared.command.Command.{Command}
-use Rattle.basil_cli.proofs.Ends.{broken_ends, load_breaks, load_ends, safe_ends, safe_in_part}
+use Rattle.basil_cli.proofs.Ends.{broken_ends, load_breaks, load_ends, load_in_part, safe_ends, safe_in_part}
 use Rattle.basil_cli.proofs.Arguments.{untaken_arguments}
 use Rattle.basil_cli.proofs.BatchEnds.{unbatch_ends}
 use Rattle.basil_cli.proofs.run.run_alone.Goals as goal
@@ -17,7 +17,7 @@ returns-in-Ok-Some-clause-answers g c =
     let counts = counted (g.S.Source.faults c.args.source.now) (g.S.Source.faults c.run_command.new.source)
     (g.L.Links.faults c.args.links.now) (g.L.Links.faults c.run_command.new.links) in
     subst
-    (λ (o : Option Command). IfSome (g.S.Source.left c.args.source.now) (λ bytes. ByArguments o (g.L.Links.told c.args.links.now)
+    (λ (o : Option Command). OfBytes (g.S.Source.left c.args.source.now) (λ bytes. ByArguments o (g.L.Links.told c.args.links.now)
     (g.L.Links.told c.run_command.new.links) (λ coming. Answers c.run_command.result (outcome_with o coming bytes) counts
     (g.K.Sink.taken c.args.sink.now) (g.K.Sink.taken c.run_command.new.sink)))) (sym said) c.run_command.ensures.answers
 
@@ -44,6 +44,11 @@ returns-in-Ok-Some-clause-load_safe g c = λ size e f.
     let said : command_of (map string_bytes c.args.arguments.now) ≡ Some c.in-Ok-Some.command = search rules in
     load_ends c.run_command.result _ c.in-Ok-Some.command _ _ _ said c.run_command.ensures.alone c.reports_are_safe.ensures size e f
 
+pub returns-in-Ok-Some-clause-load_safe_in_part : goal.returns-in-Ok-Some-clause-load_safe_in_part
+returns-in-Ok-Some-clause-load_safe_in_part g c = λ size e f.
+    let said : command_of (map string_bytes c.args.arguments.now) ≡ Some c.in-Ok-Some.command = search rules in
+    load_in_part c.run_command.result _ c.in-Ok-Some.command _ _ _ said c.run_command.ensures.alone c.reports_are_safe.ensures size e f
+
 pub returns-in-Ok-Some-clause-load_broken : goal.returns-in-Ok-Some-clause-load_broken
 returns-in-Ok-Some-clause-load_broken g c = λ size e f.
     let said : command_of (map string_bytes c.args.arguments.now) ≡ Some c.in-Ok-Some.command = search rules in
@@ -59,7 +64,7 @@ pub returns-in-Ok-Some-clause-complete : goal.returns-in-Ok-Some-clause-complete
 returns-in-Ok-Some-clause-complete g c = λ read write link.
     let said : command_of (map string_bytes c.args.arguments.now) ≡ Some c.in-Ok-Some.command = search rules in
     subst
-    (λ (o : Option Command). IfSome (g.S.Source.left c.args.source.now) (λ bytes. ByArguments o (g.L.Links.told c.args.links.now)
+    (λ (o : Option Command). OfBytes (g.S.Source.left c.args.source.now) (λ bytes. ByArguments o (g.L.Links.told c.args.links.now)
     (g.L.Links.told c.run_command.new.links) (λ coming. IsTold c.run_command.result (outcome_with o coming bytes)))) (sym said)
     (c.run_command.ensures.complete read write link)
 

@@ -28,8 +28,8 @@ returns-in-Err-clause-answers g c =
     let rose : Rose (g.S.Source.faults c.args.source.now) (g.S.Source.faults c.ending_for.new.source) = search rules in
     let prefix : TookPrefix old new read_fault_text = search rules in
     fault_answers c.args.command.now (g.L.Links.told c.args.links.now) (g.L.Links.told c.ending_for.new.links)
-    (g.S.Source.left c.args.source.now) ends.WriteFault (g.S.Source.left c.ending_for.new.source) counts old new
-    c.in-Err-Failed.ensures.soon (λ o. inr (inl (record { rose = rose; prefix = prefix })))
+    (g.S.Source.left c.args.source.now) ends.WriteFault counts old new
+    c.in-Err-Failed.ensures.outcome (λ o. inr (inl (record { rose = rose; prefix = prefix })))
 
 pub returns-in-Err-write-clause-answers : goal.returns-in-Err-write-clause-answers
 returns-in-Err-write-clause-answers g c =
@@ -40,5 +40,5 @@ returns-in-Err-write-clause-answers g c =
     let rose : Rose (g.L.Links.faults c.args.links.now) (g.L.Links.faults c.ending_for.new.links) = search rules in
     let prefix : TookPrefix old new link_fault_text = search rules in
     fault_answers c.args.command.now (g.L.Links.told c.args.links.now) (g.L.Links.told c.ending_for.new.links)
-    (g.S.Source.left c.args.source.now) ends.WriteFault (g.S.Source.left c.ending_for.new.source) counts old new
-    c.in-Err-Link.ensures.soon (λ o. inr (inr (record { rose = rose; prefix = prefix })))
+    (g.S.Source.left c.args.source.now) ends.WriteFault counts old new
+    c.in-Err-Link.ensures.outcome (λ o. inr (inr (record { rose = rose; prefix = prefix })))

@@ -1,5 +1,5 @@
 -- None is answered at first, one more at each turn, and all in the end; or a call fails at one.
-use Rattle.node_link.proofs.AnsweringLaws.{on_err}
+use Rattle.node_link.proofs.AnsweringLaws.{at_err}
 use Rattle.node_link.proofs.WaitingLaws.{answering_none, answering_more, answered_all, answering_fails}
 use Rattle.node_link.proofs.connection.answer_waiting.Goals as goal
 
@@ -8,8 +8,8 @@ loop-envelope-init g c = answering_none _ _ _ _ _ _
 
 pub returns-in_err-answer_one-clause-some : goal.returns-in_err-answer_one-clause-some
 returns-in_err-answer_one-clause-some g c state s start =
-    on_err _
-    (answering_fails _ _ _ _ _ _ _ _ _ _ _ _ _ _ _ _ _ state s c.loop-envelope.invariant start c.in-Some.ensures.first
+    at_err _ _ _ c.from_residual.ensures.1
+    (answering_fails _ _ _ _ _ _ _ _ _ _ _ _ _ _ _ _ _ _ state s c.loop-envelope.invariant start c.in-Some.ensures.first
     c.in_err-answer_one.ensures.later (λ s at. c.in_err-answer_one.ensures.some state s at))
 
 pub loop-envelope-preserved : goal.loop-envelope-preserved

@@ -1,6 +1,6 @@
 -- What was read is answered at each turn; and how a connection ends: by its peer, by the rules, or by a call that fails.
 use Rattle.std.proofs.Common.{◌+◌, ◌≤◌, refl, ap, ◌∙◌, take, length, arith}
-use Rattle.node_link.proofs.AnsweringLaws.{on_err}
+use Rattle.node_link.proofs.AnsweringLaws.{at_err}
 use Rattle.node_link.proofs.TalkingLaws.{talking_none, talking_more, fed_by, has_room, few_frames, talked_to_end, talked_by_rules}
 use Rattle.node_link.proofs.TalkingLaws.{talked_until_read, talked_until_fed, talked_until_answered}
 use Rattle.node_link.proofs.connection.talk.Goals as goal
@@ -10,8 +10,8 @@ loop-alloc-init g c = talking_none _ _ _ _ _ _ _ c.new-reader.ensures.cluster c.
 
 pub returns-in_err-count-clause-some : goal.returns-in_err-count-clause-some
 returns-in_err-count-clause-some g c state whole s rest start =
-    on_err _
-    (talked_until_read _ _ _ _ _ _ _ _ _ _ _ _ _ _ state whole s rest start c.loop-alloc.invariant
+    at_err _ _ _ c.from_residual.ensures.1
+    (talked_until_read _ _ _ _ _ _ _ _ _ _ _ _ _ _ _ state whole s rest start c.loop-alloc.invariant
     c.in_err-count.ensures.read.as_before refl)
 
 pub returns-then-count-eq0-clause-all : goal.returns-then-count-eq0-clause-all
@@ -31,8 +31,8 @@ returns-then-count-eq0-clause-few g c = few_frames _ _ _ _ _ _ _ _ _ _ _ _ c.loo
 
 pub returns-in_err-feed-clause-some : goal.returns-in_err-feed-clause-some
 returns-in_err-feed-clause-some g c state whole s rest start =
-    on_err _
-    (talked_until_fed _ _ _ _ _ _ _ _ _ _ _ _ _ _ _ _ state whole s rest start c.loop-alloc.invariant c.in_ok-count.ensures.read.done
+    at_err _ _ _ c.from_residual-in_err-feed.ensures.1
+    (talked_until_fed _ _ _ _ _ _ _ _ _ _ _ _ _ _ _ _ _ state whole s rest start c.loop-alloc.invariant c.in_ok-count.ensures.read.done
     c.in_ok-count.ensures.bytes.0 refl)
 
 pub answer_waiting-requires : goal.answer_waiting-requires
@@ -53,8 +53,8 @@ loop-alloc-preserved g c =
 
 pub returns-in_err-answer_waiting-clause-some : goal.returns-in_err-answer_waiting-clause-some
 returns-in_err-answer_waiting-clause-some g c state whole s rest start =
-    on_err _
-    (talked_until_answered _ _ _ _ _ _ _ _ _ _ _ _ _ _ _ _ _ _ _ _ _ state whole s rest start c.loop-alloc.invariant
+    at_err _ _ _ c.from_residual-in_err-answer_waiting.ensures.1
+    (talked_until_answered _ _ _ _ _ _ _ _ _ _ _ _ _ _ _ _ _ _ _ _ _ _ state whole s rest start c.loop-alloc.invariant
     (fed_by _ _ _ _ (c.in_ok-feed.ensures.cluster ∙ c.loop-alloc.invariant.cluster)
     (c.in_ok-feed.ensures.fed _ _ c.loop-alloc.invariant.stands))
     c.in_ok-count.ensures.read.done c.in_ok-count.ensures.bytes.0 c.in_err-answer_waiting.ensures.later refl

@@ -14,18 +14,17 @@ loop-turn-preserved g c =
             risen = c.in-Ok.ensures.faults;
             few = c.in-Ok.ensures.few;
             self = c.in-Ok.ensures.own;
-            all = λ n h calm. c.in-Ok.ensures.all n h calm;
-            some = λ n h. c.in-Ok.ensures.some n h;
+            served = λ n h. c.in-Ok.ensures.some n h;
           });
       turns = omega arith;
     }
 
-pub returns-clause-all : goal.returns-clause-all
-returns-clause-all g c n h calm =
+pub returns-clause-some : goal.returns-clause-some
+returns-clause-some g c n h =
     let e : c.loop-turn.turn ≡ c.args.connections = omega (arith, c.loop-turn.invariant.turns, c.loop-turn-test.false) in
-    rw (← e) (c.loop-turn.invariant.serving.all n h calm)
+    rw (← e) (c.loop-turn.invariant.serving.served n h)
 
 pub returns-in-Err-clause-stopped : goal.returns-in-Err-clause-stopped
 returns-in-Err-clause-stopped g c n h =
-    stopped_later _ _ _ _ _ _ _ _ _ _ _ _ _ _ _ n c.loop-turn.invariant.serving h c.loop-turn-test.true
+    stopped_later _ _ _ _ _ _ _ _ _ _ _ _ _ _ _ _ _ n _ c.loop-turn.invariant.serving h c.loop-turn-test.true
     (λ m at. c.in-Err.ensures.stopped m at)

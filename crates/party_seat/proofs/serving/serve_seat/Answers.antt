@@ -54,4 +54,4 @@ returns-in-Ok-clause-still g c =
     (there c.args.file.now c.args.seat.now c.in-Some.address.now listed _ refl sits.seated sits.is) _
 
 pub returns-in-Err-clause-stands : goal.returns-in-Err-clause-stands
-returns-in-Err-clause-stands g c s n e b = not_begun s _ _ _ n b
+returns-in-Err-clause-stands g c s n e b = not_begun s _ _ _ n _ _ _ c.from.ensures b

@@ -51,7 +51,7 @@ returns-in_err-step-clause-does g c =
     let x = c.in_err-step.field-0.0 in
     event_fails q c.step.new.self
     (happens_in q.setup (events.Deliver c.args.message (handed road (frame_at r.state c.args.message))) (journaled q))
-    (behind_one road) (road_with c.args.carried later) [] x c.from_residual-in_err-step.result c.from_residual-in_err-step.ensures.1
+    (behind_one road) (road_with c.args.carried later) x c.from_residual-in_err-step.result c.from_residual-in_err-step.ensures.1
     (subst (λ bytes. Goes (happens_in q.setup (events.Deliver c.args.message bytes) (journaled q)) q c.step.new.self (Err x))
     (c.as_slice-given.ensures.value ∙ c.in_ok-given.ensures.given later ∙ ap (handed road) (c.in_ok-frame.ensures r h))
     (c.in_err-step.ensures.goes q (stands_along c.args.self.now r road h))))
