@@ -1,11 +1,12 @@
 -- What an audit's input leads to.
 use Rattle.std.specs.Prelude.{ℕ, List, [], ◌∷◌, ◌++◌, codes, find, slice_get}
 use Rattle.std.specs.Prelude.{Option, Some, None, Result, Ok, Err, if◌then◌else◌}
-use Rattle.audit_text.specs.Listing.{Names, ListingValue, Refusal, listed}
+use Rattle.audit_text.specs.Listing.{Names, ListingValue, listed}
 use Rattle.audit_text.specs.declared.finding.Finding.{Finding}
 use Rattle.audit_text.specs.declared.finding.Finding.TheVariants as finding
 use Rattle.basil_types.specs.Version.{genesis, same_version}
 use Rattle.basil_types.specs.declared.version.Version.{Version}
+use Rattle.schedule_text.specs.Refusals.{Refusal}
 use Rattle.schedule_text.specs.Spelling.{key_token}
 use Rattle.schedule_text.specs.Tokens.{Token}
 use Rattle.serial_audit.specs.Verdicts.{verdict_of}

@@ -1,13 +1,13 @@
 -- What a line of an audit's input says, or the reason why it says nothing.
 use Rattle.std.specs.Prelude.{ℕ, Bool, false, codes, bytes_eq, List, [], ◌∷◌}
-use Rattle.std.specs.Prelude.{length, nat_lt, nat_le, if◌then◌else◌, Result, Ok, Err}
+use Rattle.std.specs.Prelude.{length, nat_lt, if◌then◌else◌, Result, Ok, Err}
 use Rattle.audit_text.specs.declared.line.AuditLine.{AuditLine}
 use Rattle.audit_text.specs.declared.line.AuditLine.TheVariants.{Skipped, Tx, Read, Write, Delete}
 use Rattle.schedule_text.specs.Complaints.{made2, made3, reason_of}
 use Rattle.schedule_text.specs.Fields.{name, number, client, key, writer, value}
-use Rattle.schedule_text.specs.Limits.{longest_line, most_lines}
+use Rattle.schedule_text.specs.Limits.{longest_line}
 use Rattle.schedule_text.specs.Lines.{fields}
-use Rattle.schedule_text.specs.Reading.{is_skipped}
+use Rattle.schedule_text.specs.Reading.{is_skipped, numbered}
 use Rattle.schedule_text.specs.Tokens.{Token, tokens, two_of, three_of}
 use Rattle.schedule_text.specs.declared.complaint.Complaint.{Complaint}
 use Rattle.schedule_text.specs.declared.complaint.Complaint.TheVariants.{Misspelt, OutOfSize}
@@ -46,11 +46,6 @@ said (first ∷ rest) = by_token first rest
 -- an empty line, or one that begins with `#`, is skipped
 unfoldable pub line_value : List ℕ → Result AuditLine Complaint
 line_value line = if is_skipped line then Ok Skipped else said (tokens line)
-
--- no line stands behind the millionth
-abbrev pub numbered : ℕ → Result AuditLine Complaint → Result AuditLine Complaint
-numbered number (Ok line) = if nat_le number most_lines then Ok line else Err OutOfSize
-numbered number (Err c) = Err c
 
 abbrev pub reasoned : Result AuditLine Complaint → Result AuditLine Reason
 reasoned (Ok line) = Ok line

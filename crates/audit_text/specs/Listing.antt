@@ -11,6 +11,7 @@ use Rattle.audit_text.specs.declared.line.AuditLine.TheVariants.{Skipped, Tx, Re
 use Rattle.basil_types.specs.Transaction.{TransactionValue, version_of}
 use Rattle.basil_types.specs.Version.{genesis}
 use Rattle.basil_types.specs.declared.version.Version.{Version}
+use Rattle.schedule_text.specs.Refusals.{Refusal, on_line}
 use Rattle.schedule_text.specs.TextLines.{lines_of}
 use Rattle.schedule_text.specs.declared.reason.Reason.{Reason}
 use Rattle.schedule_text.specs.declared.reason.Reason.TheVariants.{WrongName, RefusedCall}
@@ -69,15 +70,6 @@ line_step st number (Delete name key) = changed st (option_map (add_write key No
 
 -- ---- lines
 
--- the first line that is refused, and its reason
-pub record Refusal : Type 0 where
-  pub line : ℕ
-  pub reason : Reason
-
-abbrev pub at_line : ℕ → Result ListingValue Reason → Result ListingValue Refusal
-at_line number (Ok st) = Ok st
-at_line number (Err reason) = Err (record { line = number; reason = reason })
-
 -- its name is a new one, which goes last
 abbrev pub listed_as : ListingValue → DraftValue → Option TransactionValue → Result ListingValue Refusal
 listed_as st o (Some t) =
@@ -107,7 +99,7 @@ closed_before line st = if is_tx line then closed st else Ok st
 
 abbrev pub step : ListingValue → List ℕ → (number : ℕ) → Result ListingValue Refusal
 step st line number =
-    go_on (closed_before line st) (λ next. at_line number (step_said next number (line_at line number)))
+    go_on (closed_before line st) (λ next. on_line number (step_said next number (line_at line number)))
 
 -- the lines from this number on
 abbrev pub list_lines : List (List ℕ) → (number : ℕ) → ListingValue → Result ListingValue Refusal

@@ -1,12 +1,13 @@
 -- What the parts of the code answer, beside the definitions.
 use Rattle.std.specs.Prelude.{◌≡◌, ℕ, List, [], ◌∷◌, Result, Ok, Err, Vec, ⊤}
-use Rattle.audit_text.specs.Listing.{Names, ListingValue, Refusal}
+use Rattle.audit_text.specs.Listing.{Names, ListingValue}
 use Rattle.audit_text.specs.declared.stop.Stop.{Stop}
 use Rattle.audit_text.specs.declared.stop.Stop.TheVariants as stop
 use Rattle.audit_text.specs.declared.stop.Failure.{Failure}
 use Rattle.audit_text.specs.declared.stop.Failure.TheVariants as failure
 use Rattle.audit_text.specs.declared.line.AuditLine.{AuditLine}
 use Rattle.basil_types.specs.declared.version.Version.{Version}
+use Rattle.schedule_text.specs.Refusals.{Refusal}
 use Rattle.schedule_text.specs.declared.reason.Reason.{Reason}
 
 -- what a line's value did, where this is what it should do

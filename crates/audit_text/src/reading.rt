@@ -2,7 +2,7 @@
 
 ghost use Rattle.std.specs.Prelude.{◌≡◌, ◌≢◌, IfOk, IfErr, OnErr, Ok, Err, option_copied};
 ghost use Rattle.audit_text.specs.Grammar as grammar;
-ghost use Rattle.audit_text.specs.Grammar.{by_token, said, line_value, numbered, line_at};
+ghost use Rattle.audit_text.specs.Grammar.{by_token, said, line_value, line_at};
 ghost use Rattle.audit_text.specs.Parts.{Reads};
 ghost use Rattle.schedule_text.specs.Tokens.{tokens, tokens_after};
 
@@ -14,7 +14,7 @@ use schedule_text::fields::escapes::{read_key, read_value};
 use schedule_text::fields::names::{read_name, read_writer};
 use schedule_text::fields::numbers::{read_client, read_number};
 use schedule_text::fields::spellings::is_text;
-use schedule_text::reading::{LONGEST_LINE, MOST_LINES, is_skipped};
+use schedule_text::reading::{LONGEST_LINE, is_skipped, read_numbered};
 use schedule_text::tokens::{cut, three, two};
 use std::alloc::Global;
 
@@ -130,17 +130,6 @@ fn read_value_of(alloc: Global, line: &[u8]) -> Result<Result<AuditLine, Complai
         return Ok(Ok(AuditLine::Skipped));
     }
     read_tokens(alloc, line)
-}
-
-/// The value of a line with this number, unless it stands behind the millionth.
-fn read_numbered(value: Result<AuditLine, Complaint>, number: u64) -> Result<AuditLine, Complaint>
-    ensures { result ≡ numbered number value }
-{
-    let line = value?;
-    if number > MOST_LINES {
-        return Err(Complaint::OutOfSize);
-    }
-    Ok(line)
 }
 
 #[tactic(auto, unfolding(crate::specs::Grammar::line_at))]

@@ -1,8 +1,9 @@
 -- What holds of the end of `unbatch`.
 use Rattle.std.proofs.Common.{◌≡◌, ◌⊎◌, ℕ, List, [], Bool, true, false, Option, Some, Result, Ok, Err, inl, inr, refl, subst}
+use Rattle.schedule_text.specs.Refusals.{Refusal}
 use Rattle.basil_types.specs.Links.{LinkState}
 use Rattle.batch_text.specs.Findings.{FindingsAreReal}
-use Rattle.batch_text.specs.Texts.{BadText, kept_in}
+use Rattle.batch_text.specs.Texts.{kept_in}
 use Rattle.batch_text.specs.declared.reading.Kept.{Kept}
 use Rattle.basil_cli.specs.Answers.{Answers, Counts, Tells}
 use Rattle.basil_cli.specs.Batches.{ToldReally, unbatched, unbatched_with}
@@ -23,7 +24,7 @@ TellsFinding ends.Broken = Unit {0}
 TellsFinding other = ⊥
 
 module _ (claim : Claim) (bytes : List ℕ) (old new : Option (List ℕ)) (law : FindingsAreReal) where
-  of_text : (status : Status) → TellsFinding status → (r : Result Kept BadText) → kept_in bytes ≡ r →
+  of_text : (status : Status) → TellsFinding status → (r : Result Kept Refusal) → kept_in bytes ≡ r →
       Tells status (unbatched_with claim r) old new → ToldReally claim bytes old new
   of_text status tells (Ok kept) e t = record { kept = kept; read = e; real = law claim.public kept claim.signature; text = t.text }
   of_text ends.Done tells (Err bad) e t = absurd (let told = t.told in cc)

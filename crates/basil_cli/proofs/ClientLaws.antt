@@ -9,12 +9,13 @@ use Rattle.basil_types.specs.Causes.{Ticks}
 use Rattle.basil_types.specs.Links.{LinkState}
 use Rattle.cluster_file.specs.Listing.{Listing}
 use Rattle.cluster_file.specs.Text.{cluster_in}
+use Rattle.client_core.specs.Shown.{own, ShowsClient}
 use Rattle.client_core.specs.Clients.{ClientSelf, ClientValue}
 use Rattle.client_core.specs.declared.client.Client.{Client}
 use Rattle.client_link.specs.declared.fault.RunFault.{RunFault}
 use Rattle.client_link.specs.declared.fault.RunFault.TheVariants as runs
 use Rattle.client_link.specs.declared.op.Op.{Op}
-use Rattle.client_link.specs.Having.{HasRun, OnEnd, ShowsClient, own}
+use Rattle.client_link.specs.Having.{HasRun, OnEnd}
 use Rattle.client_link.specs.Running.{RunsPlan, starting}
 use Rattle.node_link.specs.Serving.{next_moment}
 use Rattle.keyring.specs.declared.verifier.Verifier as verifiers

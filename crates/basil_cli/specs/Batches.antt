@@ -1,10 +1,11 @@
 -- What `batch` and `unbatch` lead to.
 use Rattle.std.specs.Prelude.{◌≡◌, ℕ, List, [], ◌∷◌, ◌++◌, codes, decimal, Option, Result, Ok, Err}
+use Rattle.schedule_text.specs.Refusals.{Refusal}
 use Rattle.basil_types.specs.Causes.{TookAll}
 use Rattle.batch_sign.specs.Signatures.{Sealing, leaves_of}
 use Rattle.batch_sign.specs.Trees.{words_over}
 use Rattle.batch_text.specs.Findings.{IsRealFinding, finding_of}
-use Rattle.batch_text.specs.Texts.{BadText, batch_in, kept_in, signatures_of}
+use Rattle.batch_text.specs.Texts.{batch_in, kept_in, signatures_of}
 use Rattle.batch_text.specs.declared.finding.PlaceFinding.{PlaceFinding}
 use Rattle.batch_text.specs.declared.finding.PlaceFinding.TheVariants as finding
 use Rattle.batch_text.specs.declared.reading.Kept.{Kept}
@@ -22,7 +23,7 @@ sealed_by signing messages = record {
   inner = signature_of (tree_named signing.material) signing.leaf (words_over (leaves_of messages));
 }
 
-abbrev pub batched_with : SigningLeaf → Result (List (List ℕ)) BadText → Outcome
+abbrev pub batched_with : SigningLeaf → Result (List (List ℕ)) Refusal → Outcome
 batched_with signing (Ok messages) = Written (signatures_of (sealed_by signing messages))
 batched_with signing (Err bad) = BadLine bad.line bad.reason
 
@@ -40,7 +41,7 @@ told (finding.In place) = Written (place_line place)
 told (finding.Refused reason) = Refused reason
 told (finding.Collision first second) = Broken (Collision first second)
 
-abbrev pub unbatched_with : Claim → Result Kept BadText → Outcome
+abbrev pub unbatched_with : Claim → Result Kept Refusal → Outcome
 unbatched_with claim (Ok kept) = told (finding_of claim.public kept claim.signature)
 unbatched_with claim (Err bad) = BadLine bad.line bad.reason
 

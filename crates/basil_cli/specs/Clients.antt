@@ -2,13 +2,14 @@
 use Rattle.std.specs.Prelude.{◌≡◌, ◌⊎◌, ◌≤◌, ⊤, ℕ, max, length, List, [], ◌∷◌, codes, if◌then◌else◌}
 use Rattle.std.specs.Prelude.{Option, Some, None, Result, Ok, Err, IfOk}
 use Rattle.std.specs.Str.{bytes_eq}
+use Rattle.basil_types.specs.Limits.{most_clients}
 use Rattle.basil_types.specs.Links.{LinkState}
+use Rattle.client_core.specs.Shown.{own, ShowsClient}
 use Rattle.client_core.specs.Clients.{ClientSelf, ClientValue}
 use Rattle.client_core.specs.declared.client.Client.{Client}
 use Rattle.client_link.specs.declared.fault.RunFault.{RunFault}
 use Rattle.client_link.specs.declared.fault.RunFault.TheVariants as runs
 use Rattle.client_link.specs.declared.op.Op.{Op}
-use Rattle.client_link.specs.Having.{ShowsClient, own}
 use Rattle.client_link.specs.Running.{RunsPlan, starting}
 use Rattle.client_link.specs.Talking.{Talk}
 use Rattle.client_text.specs.Ops.{plan_of}
@@ -19,6 +20,7 @@ use Rattle.keyring.specs.declared.verifier.Verifier as verifiers
 use Rattle.keyring.specs.declared.signer.Signer as signers
 use Rattle.node_link.specs.Asking.{RoseBy}
 use Rattle.node_link.specs.Serving.{next_moment}
+use Rattle.party_seat.specs.Limits.{most_connections}
 use Rattle.party_seat.specs.Clients.{SeatedClient, client_in}
 use Rattle.party_seat.specs.declared.client.ClientSeat.{ClientSeat}
 use Rattle.party_seat.specs.declared.fault.SeatFault.{SeatFault}
@@ -26,6 +28,7 @@ use Rattle.party_seat.specs.declared.fault.SeatFault.TheVariants as seats
 use Rattle.schedule_text.specs.Fields.{number_in}
 use Rattle.schedule_text.specs.Tokens.{Token}
 use Rattle.schedule_text.specs.declared.reason.Reason.TheVariants.{RefusedCall}
+use Rattle.basil_cli.specs.Ranges.{seed_size, most_leaves}
 use Rattle.basil_cli.specs.Answers.{Answers, Counts, IsTold}
 use Rattle.basil_cli.specs.Commands.{hex_of, said}
 use Rattle.basil_cli.specs.Nodes.{file_reason, node_of, seat_reason}
@@ -50,7 +53,8 @@ client_seat_with _ _ _ = None
 -- C SEED LEAF: a number from 1 to 16, 32 bytes, and the first leaf that may be used
 abbrev pub client_seat_of : Token → Token → Token → Option ClientSeat
 client_seat_of number seed leaf =
-    client_seat_with (said (number_in 1 16 number)) (hex_of 32 seed) (said (number_in 0 1024 leaf))
+    client_seat_with (said (number_in 1 most_clients number)) (hex_of seed_size seed)
+    (said (number_in 0 most_leaves leaf))
 
 abbrev pub client_call_with : Option ClientSeat → Option (List Op) → Option ClientCall
 client_call_with (Some seat) (Some plan) = Some (record { seat = seat; plan = plan })
@@ -80,8 +84,8 @@ IsPartyCall arguments (Some (parties.Client call)) = client_of arguments ≡ Som
 -- few connections, or a client's number
 abbrev pub IsReady : Option PartyCall → Type 0
 IsReady None = ⊤
-IsReady (Some (parties.Node call)) = call.connections ≤ 1000000
-IsReady (Some (parties.Client call)) = (1 ≤ call.seat.number) × (call.seat.number ≤ 16)
+IsReady (Some (parties.Node call)) = call.connections ≤ most_connections
+IsReady (Some (parties.Client call)) = (1 ≤ call.seat.number) × (call.seat.number ≤ most_clients)
 
 -- ---- its seat
 

@@ -9,6 +9,7 @@ use Rattle.lms_sign.specs.declared.sets.LmsSet.TheVariants.{W4H5, W4H10, W8H5, W
 use Rattle.schedule_text.specs.Fields.{hex, number, number_in}
 use Rattle.schedule_text.specs.Tokens.{Token}
 use Rattle.schedule_text.specs.declared.complaint.Complaint.{Complaint}
+use Rattle.basil_cli.specs.Ranges.{seed_size, ident_size, most_drawn}
 use Rattle.basil_cli.specs.declared.command.Claim.{Claim}
 use Rattle.basil_cli.specs.declared.command.Command.{Command}
 use Rattle.basil_cli.specs.declared.command.Command.TheVariants.{Replay, Generate, Load, Keys}
@@ -40,7 +41,7 @@ exactly count (Some bytes) = if length bytes == count then Some bytes else None
 abbrev pub hex_of : ℕ → Token → Option (List ℕ)
 hex_of count argument = exactly count (said (hex argument))
 
--- SET SEED IDENT: a set, 32 bytes and 16 bytes
+-- SET SEED IDENT: a set, the bytes of a seed and of an identifier
 abbrev pub material_with : Option LmsSet → Option (List ℕ) → Option (List ℕ) → Option KeyMaterial
 material_with None seed ident = None
 material_with (Some set) None ident = None
@@ -48,7 +49,7 @@ material_with (Some set) (Some seed) None = None
 material_with (Some set) (Some seed) (Some ident) = Some (record { set = set; seed = seed; ident = ident })
 
 abbrev pub material_of : Token → Token → Token → Option KeyMaterial
-material_of set seed ident = material_with (set_of set) (hex_of 32 seed) (hex_of 16 ident)
+material_of set seed ident = material_with (set_of set) (hex_of seed_size seed) (hex_of ident_size ident)
 
 -- SET SET SEED IDENT: the key of the top level, and the set of the bottom one
 abbrev pub hss_material_with : Option KeyMaterial → Option LmsSet → Option HssMaterial
@@ -110,14 +111,14 @@ abbrev pub replay_of : (carried : Bool) → List Token → Option Command
 replay_of carried [] = Some (Replay carried)
 replay_of carried (argument ∷ arguments) = None
 
--- N and COUNT: a number, and 1 to 2,000 transactions
+-- N and COUNT: a number, and how many transactions, from 1
 abbrev pub size_with : Option ℕ → Option ℕ → Option LoadSize
 size_with None count = None
 size_with (Some seed) None = None
 size_with (Some seed) (Some count) = Some (record { seed = seed; count = count })
 
 abbrev pub size_of : Token → Token → Option LoadSize
-size_of seed count = size_with (said (number seed)) (said (number_in 1 2000 count))
+size_of seed count = size_with (said (number seed)) (said (number_in 1 most_drawn count))
 
 -- `generate N COUNT`
 abbrev pub generate_of : List Token → Option Command

@@ -1,3 +1,4 @@
+pub mod Ranges
 pub mod Commands
 pub mod Outcome
 pub mod Signatures

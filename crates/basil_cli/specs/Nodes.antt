@@ -9,6 +9,7 @@ use Rattle.cluster_file.specs.Text.{cluster_in}
 use Rattle.node_link.specs.Connections.{Node}
 use Rattle.node_link.specs.declared.fault.ServeFault.{ServeFault}
 use Rattle.node_link.specs.declared.fault.ServeFault.TheVariants as stops
+use Rattle.party_seat.specs.Limits.{most_connections}
 use Rattle.party_seat.specs.Serving.{HasFinished, IsOutside}
 use Rattle.party_seat.specs.Stations.{Station, station_in}
 use Rattle.party_seat.specs.declared.fault.NodeFault.{NodeFault}
@@ -21,6 +22,7 @@ use Rattle.schedule_text.specs.Tokens.{Token}
 use Rattle.schedule_text.specs.declared.reason.Reason.{Reason}
 use Rattle.schedule_text.specs.declared.reason.Reason.TheVariants.{NoHeader, Misspelt, OutOfRange, WrongParty}
 use Rattle.schedule_text.specs.declared.reason.Reason.TheVariants.{OutOfSize}
+use Rattle.basil_cli.specs.Ranges.{seed_size, most_leaves}
 use Rattle.basil_cli.specs.Answers.{IsTold}
 use Rattle.basil_cli.specs.Commands.{hex_of, said}
 use Rattle.basil_cli.specs.Outcome.{Outcome, BadLine, TooLong, Written, is_too_long}
@@ -42,17 +44,17 @@ seat_with _ _ _ _ = None
 -- S R SEED LEAF: a shard and an index, 32 bytes, and the first leaf that may be used
 abbrev pub seat_of : Token → Token → Token → Token → Option NodeSeat
 seat_of shard index seed leaf =
-    seat_with (said (number_in 0 255 shard)) (said (number_in 0 255 index)) (hex_of 32 seed)
-    (said (number_in 0 1024 leaf))
+    seat_with (said (number_in 0 255 shard)) (said (number_in 0 255 index)) (hex_of seed_size seed)
+    (said (number_in 0 most_leaves leaf))
 
 abbrev pub call_with : Option NodeSeat → Option ℕ → Option NodeCall
 call_with (Some seat) (Some connections) = Some (record { seat = seat; connections = connections })
 call_with _ _ = None
 
--- S R SEED LEAF CONNECTIONS: 1 to 1,000,000 connections
+-- S R SEED LEAF CONNECTIONS: how many connections, from 1
 abbrev pub call_of : List Token → Option NodeCall
 call_of (shard ∷ index ∷ seed ∷ leaf ∷ connections ∷ []) =
-    call_with (seat_of shard index seed leaf) (said (number_in 1 1000000 connections))
+    call_with (seat_of shard index seed leaf) (said (number_in 1 most_connections connections))
 call_of _ = None
 
 -- `node S R SEED LEAF CONNECTIONS`

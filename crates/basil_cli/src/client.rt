@@ -3,6 +3,7 @@
 ghost use Rattle.std.specs.Prelude.{◌≡◌, ◌⊎◌, ◌<◌, ◌≤◌, ℕ, List, length, true, Some, Ok, Err, IfOk, IfErr, IfSome};
 ghost use Rattle.std.specs.Prelude.{map, string_bytes};
 ghost use Rattle.std.specs.Result.{IsErrOf};
+ghost use Rattle.basil_types.specs.Limits.{most_clients};
 ghost use Rattle.basil_types.specs.Causes.{Rose};
 ghost use Rattle.basil_types.specs.Links.{LinkState};
 ghost use Rattle.cluster_file.specs.Text.{cluster_in};
@@ -14,8 +15,8 @@ ghost use Rattle.basil_cli.specs.Clients.{ClientStation, IsClientTold, IsRunEndi
 ghost use Rattle.basil_cli.specs.Clients.{ToldRun, client_call_of, client_seat_of, client_seated, client_seated_in};
 ghost use Rattle.basil_cli.specs.Clients.{client_station};
 ghost use Rattle.basil_cli.specs.Clients.{end_of, outcome_of_run};
+ghost use Rattle.client_core.specs.Shown.{own, ShowsClient};
 ghost use Rattle.client_core.specs.Clients.{ClientValue};
-ghost use Rattle.client_link.specs.Having.{ShowsClient, own};
 ghost use Rattle.basil_cli.specs.Commands.{said};
 ghost use Rattle.basil_cli.specs.Outcome.{is_too_long};
 ghost use Rattle.basil_cli.specs.Parts.{outcome_is};
@@ -28,6 +29,7 @@ use crate::node::{file_reason, read_first_leaf};
 use crate::status::Status;
 use crate::writing::write_ending;
 use basil_types::clock::Clock;
+use basil_types::limits::MOST_CLIENTS;
 use basil_types::links::Links;
 use basil_types::memory::NoMemory;
 use basil_types::sink::Sink;
@@ -52,10 +54,10 @@ pub(crate) struct ClientCall {
 
 /// C: 1 to 16.
 fn read_client_number(argument: &str) -> Option<u8>
-    ensures value { result ≡ said (number_in 1 16 argument.now) }
-    ensures range { IfSome result (λ number. (1 ≤ number) × (number ≤ 16)) }
+    ensures value { result ≡ said (number_in 1 most_clients argument.now) }
+    ensures range { IfSome result (λ number. (1 ≤ number) × (number ≤ most_clients)) }
 {
-    match read_number_in(argument.as_bytes(), 1, 16) {
+    match read_number_in(argument.as_bytes(), 1, MOST_CLIENTS as u64) {
         Ok(number) => Some(number as u8),
         Err(_) => None,
     }
@@ -69,7 +71,7 @@ fn read_client_seat(
     leaf: &str,
 ) -> Result<Option<ClientSeat>, NoMemory>
     ensures value { IfOk result (λ seat. seat ≡ client_seat_of number.now seed.now leaf.now) }
-    ensures range { IfOk result (λ seat. IfSome seat (λ s. (1 ≤ s.number) × (s.number ≤ 16))) }
+    ensures range { IfOk result (λ seat. IfSome seat (λ s. (1 ≤ s.number) × (s.number ≤ most_clients))) }
 {
     let Some(number) = read_client_number(number) else {
         return Ok(None);
@@ -86,7 +88,7 @@ fn read_client_seat(
 /// `C SEED LEAF OP...`
 fn read_client_call(alloc: Global, arguments: &[String]) -> Result<Option<ClientCall>, NoMemory>
     ensures value { IfOk result (λ call. call ≡ client_call_of (map string_bytes arguments.now)) }
-    ensures range { IfOk result (λ call. IfSome call (λ c. (1 ≤ c.seat.number) × (c.seat.number ≤ 16))) }
+    ensures range { IfOk result (λ call. IfSome call (λ c. (1 ≤ c.seat.number) × (c.seat.number ≤ most_clients))) }
 {
     let [number, seed, leaf, ops @ ..] = arguments else {
         return Ok(None);
@@ -106,7 +108,7 @@ pub(crate) fn read_client(
     arguments: &[String],
 ) -> Result<Option<ClientCall>, NoMemory>
     ensures value { IfOk result (λ call. call ≡ clients.client_of (map string_bytes arguments.now)) }
-    ensures range { IfOk result (λ call. IfSome call (λ c. (1 ≤ c.seat.number) × (c.seat.number ≤ 16))) }
+    ensures range { IfOk result (λ call. IfSome call (λ c. (1 ≤ c.seat.number) × (c.seat.number ≤ most_clients))) }
 {
     let [name, arguments @ ..] = arguments else {
         return Ok(None);
@@ -195,7 +197,7 @@ fn run_in<L: Links, C: Clock>(
     links: &mut L,
     clock: &mut C,
 ) -> Result<Ending, InputFail>
-    requires { (1 ≤ call.now.seat.number) × (call.now.seat.number ≤ 16) }
+    requires { (1 ≤ call.now.seat.number) × (call.now.seat.number ≤ most_clients) }
     ensures refused { IfErr (client_seated file.now (client_in file.now call.now.seat)) (λ refusal.
         IfOk result (λ e. outcome_is e ≡ refusal)) }
     ensures idle { IfErr (client_seated file.now (client_in file.now call.now.seat)) (λ _. links.new ≡ links.old) }
@@ -235,7 +237,7 @@ fn run_file<L: Links, C: Clock>(
     links: &mut L,
     clock: &mut C,
 ) -> Result<Ending, InputFail>
-    requires { (1 ≤ call.now.seat.number) × (call.now.seat.number ≤ 16) }
+    requires { (1 ≤ call.now.seat.number) × (call.now.seat.number ≤ most_clients) }
     ensures refused { IfErr (client_seated_in (cluster_in bytes.now) call.now.seat) (λ refusal.
         IfOk result (λ e. outcome_is e ≡ refusal)) }
     ensures idle { IfErr (client_seated_in (cluster_in bytes.now) call.now.seat) (λ _. links.new ≡ links.old) }
@@ -268,7 +270,7 @@ fn run_source<S: Source, L: Links, C: Clock>(
     links: &mut L,
     clock: &mut C,
 ) -> Result<Ending, InputFail>
-    requires { (1 ≤ call.now.seat.number) × (call.now.seat.number ≤ 16) }
+    requires { (1 ≤ call.now.seat.number) × (call.now.seat.number ≤ most_clients) }
     ensures refused { IfSome (S.left source.old) (λ bytes. IfErr (client_station call.now.seat bytes) (λ refusal.
         IfOk result (λ e. outcome_is e ≡ refusal))) }
     ensures idle { IfSome (S.left source.old) (λ bytes.
@@ -306,7 +308,7 @@ pub(crate) fn run_client<S: Source, K: Sink, L: Links, C: Clock>(
     links: &mut L,
     clock: &mut C,
 ) -> Status
-    requires { (1 ≤ call.now.seat.number) × (call.now.seat.number ≤ 16) }
+    requires { (1 ≤ call.now.seat.number) × (call.now.seat.number ≤ most_clients) }
     ensures refused { let counts =
         counted (S.faults source.old) (S.faults source.new) (L.faults links.old) (L.faults links.new) in
         IfSome (S.left source.old) (λ bytes. IfErr (client_station call.now.seat bytes) (λ refusal.

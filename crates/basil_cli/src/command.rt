@@ -3,6 +3,7 @@
 ghost use Rattle.std.specs.Prelude.{◌≡◌, ◌<◌, IfOk, IfSome, map, string_bytes};
 ghost use Rattle.schedule_text.specs.Fields.{hex, number_in};
 ghost use Rattle.lms_sign.specs.Sets.{leaves_of};
+ghost use Rattle.basil_cli.specs.Ranges.{most_drawn, seed_size, ident_size};
 ghost use Rattle.basil_cli.specs.Commands as commands;
 ghost use Rattle.basil_cli.specs.Commands.{said, hex_of, claim_of, material_of, leaf_of, command_of, replay_of};
 ghost use Rattle.basil_cli.specs.Commands.{generate_of};
@@ -135,7 +136,7 @@ fn read_hex(alloc: Global, argument: &str) -> Result<Option<Bytes>, NoMemory>
 
 /// Thirty-two bytes in hex.
 pub(crate) fn read_seed(alloc: Global, argument: &str) -> Result<Option<[u8; 32]>, NoMemory>
-    ensures { IfOk result (λ seed. seed ≡ hex_of 32 argument.now) }
+    ensures { IfOk result (λ seed. seed ≡ hex_of seed_size argument.now) }
 {
     let Some(bytes) = read_hex(alloc, argument)? else {
         return Ok(None);
@@ -150,7 +151,7 @@ pub(crate) fn read_seed(alloc: Global, argument: &str) -> Result<Option<[u8; 32]
 
 /// Sixteen bytes in hex.
 fn read_ident(alloc: Global, argument: &str) -> Result<Option<[u8; 16]>, NoMemory>
-    ensures { IfOk result (λ ident. ident ≡ hex_of 16 argument.now) }
+    ensures { IfOk result (λ ident. ident ≡ hex_of ident_size argument.now) }
 {
     let Some(bytes) = read_hex(alloc, argument)? else {
         return Ok(None);
@@ -237,7 +238,7 @@ fn read_replay(carried: bool, arguments: &[String]) -> Option<Command>
 
 /// COUNT: 1 to 2,000.
 fn read_count(argument: &str) -> Option<u32>
-    ensures { result ≡ said (number_in 1 2000 argument.now) }
+    ensures { result ≡ said (number_in 1 most_drawn argument.now) }
 {
     match read_number_in(argument.as_bytes(), 1, 2000) {
         Ok(count) => Some(count as u32),

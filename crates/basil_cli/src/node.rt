@@ -4,10 +4,12 @@ ghost use Rattle.std.specs.Prelude.{◌≡◌, ◌⊎◌, ◌<◌, ◌≤◌, tr
 ghost use Rattle.std.specs.Result.{IsErrOf};
 ghost use Rattle.basil_types.specs.Causes.{Rose};
 ghost use Rattle.node_link.specs.Connections.{Node};
+ghost use Rattle.party_seat.specs.Limits.{most_connections};
 ghost use Rattle.party_seat.specs.Serving.{Begins, HasStopped, serves_at};
 ghost use Rattle.party_seat.specs.Stations.{Station, station_in};
 ghost use Rattle.schedule_text.specs.Fields.{number_in};
 ghost use Rattle.cluster_file.specs.Text.{cluster_in};
+ghost use Rattle.basil_cli.specs.Ranges.{most_leaves};
 ghost use Rattle.basil_cli.specs.Answers.{Answers, counted, is_outcomes};
 ghost use Rattle.basil_cli.specs.Commands.{said};
 ghost use Rattle.basil_cli.specs.Nodes as nodes;
@@ -56,7 +58,7 @@ fn read_byte(argument: &str) -> Option<u8>
 
 /// LEAF: at most 1,024.
 pub(crate) fn read_first_leaf(argument: &str) -> Option<u32>
-    ensures { result ≡ said (number_in 0 1024 argument.now) }
+    ensures { result ≡ said (number_in 0 most_leaves argument.now) }
 {
     match read_number_in(argument.as_bytes(), 0, 1024) {
         Ok(leaf) => Some(leaf as u32),
@@ -66,8 +68,8 @@ pub(crate) fn read_first_leaf(argument: &str) -> Option<u32>
 
 /// CONNECTIONS: 1 to 1,000,000.
 fn read_connections(argument: &str) -> Option<u64>
-    ensures value { result ≡ said (number_in 1 1000000 argument.now) }
-    ensures few { IfSome result (λ connections. connections ≤ 1000000) }
+    ensures value { result ≡ said (number_in 1 most_connections argument.now) }
+    ensures few { IfSome result (λ connections. connections ≤ most_connections) }
 {
     match read_number_in(argument.as_bytes(), 1, 1_000_000) {
         Ok(connections) => Some(connections),
@@ -108,7 +110,7 @@ fn read_seat(
 /// `S R SEED LEAF CONNECTIONS`
 fn read_call(alloc: Global, arguments: &[String]) -> Result<Option<NodeCall>, NoMemory>
     ensures value { IfOk result (λ call. call ≡ call_of (map string_bytes arguments.now)) }
-    ensures few { IfOk result (λ call. IfSome call (λ c. c.connections ≤ 1000000)) }
+    ensures few { IfOk result (λ call. IfSome call (λ c. c.connections ≤ most_connections)) }
 {
     let [shard, index, seed, leaf, connections] = arguments else {
         return Ok(None);
@@ -132,7 +134,7 @@ fn read_call(alloc: Global, arguments: &[String]) -> Result<Option<NodeCall>, No
 /// The call of a node that the arguments spell; none where they spell none.
 pub(crate) fn read_node(alloc: Global, arguments: &[String]) -> Result<Option<NodeCall>, NoMemory>
     ensures value { IfOk result (λ call. call ≡ node_of (map string_bytes arguments.now)) }
-    ensures few { IfOk result (λ call. IfSome call (λ c. c.connections ≤ 1000000)) }
+    ensures few { IfOk result (λ call. IfSome call (λ c. c.connections ≤ most_connections)) }
 {
     let [name, arguments @ ..] = arguments else {
         return Ok(None);
@@ -192,7 +194,7 @@ fn serve_in<L: Links, C: Clock>(
     links: &mut L,
     clock: &mut C,
 ) -> Result<Ending, InputFail>
-    requires { call.now.connections ≤ 1000000 }
+    requires { call.now.connections ≤ most_connections }
     ensures refused { IfErr (seated_at (station_in file.now call.now.seat)) (λ refusal.
         IfOk result (λ e. outcome_is e ≡ refusal)) }
     ensures idle { IfErr (seated_at (station_in file.now call.now.seat)) (λ _. links.new ≡ links.old) }
@@ -227,7 +229,7 @@ fn serve_file<L: Links, C: Clock>(
     links: &mut L,
     clock: &mut C,
 ) -> Result<Ending, InputFail>
-    requires { call.now.connections ≤ 1000000 }
+    requires { call.now.connections ≤ most_connections }
     ensures refused { IfErr (seated_in (cluster_in bytes.now) call.now.seat) (λ refusal.
         IfOk result (λ e. outcome_is e ≡ refusal)) }
     ensures idle { IfErr (seated_in (cluster_in bytes.now) call.now.seat) (λ _. links.new ≡ links.old) }
@@ -268,7 +270,7 @@ fn serve_source<S: Source, L: Links, C: Clock>(
     links: &mut L,
     clock: &mut C,
 ) -> Result<Ending, InputFail>
-    requires { call.now.connections ≤ 1000000 }
+    requires { call.now.connections ≤ most_connections }
     ensures refused { IfSome (S.left source.old) (λ bytes. IfErr (station_of call.now.seat bytes) (λ refusal.
         IfOk result (λ e. outcome_is e ≡ refusal))) }
     ensures idle { IfSome (S.left source.old) (λ bytes.
@@ -313,7 +315,7 @@ pub(crate) fn run_node<S: Source, K: Sink, L: Links, C: Clock>(
     links: &mut L,
     clock: &mut C,
 ) -> Status
-    requires { call.now.connections ≤ 1000000 }
+    requires { call.now.connections ≤ most_connections }
     ensures refused { let counts =
         counted (S.faults source.old) (S.faults source.new) (L.faults links.old) (L.faults links.new) in
         IfSome (S.left source.old) (λ bytes. IfErr (station_of call.now.seat bytes) (λ refusal.

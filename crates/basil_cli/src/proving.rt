@@ -1,8 +1,8 @@
 //! Whether a certificate proves its decision, with no more keys than that needs.
 
 ghost use Rattle.std.specs.Prelude.{◌≡◌, IfOk, None};
+ghost use Rattle.basil_types.specs.Refusals.{Refuses};
 ghost use Rattle.basil_types.specs.Shown.{transaction_of};
-ghost use Rattle.certificates.specs.Refusals.{Refuses};
 ghost use Rattle.frame_views.specs.Fitting.{FitsCertificate, bounds_of};
 ghost use Rattle.frame_views.specs.Shown.{certificate_of};
 ghost use Rattle.keyring_lms.specs.Replay.{replay_accepts};

@@ -2,6 +2,7 @@
 use Rattle.std.specs.Prelude.{ℕ, ◌+◌, List, [], ◌∷◌, Bool, ◌&&◌, not, nat_le, ◌==◌, length}
 use Rattle.std.specs.Prelude.{map, if◌then◌else◌, position, Option, Some, None, option_map}
 use Rattle.std.specs.List.{list_any}
+use Rattle.basil_types.specs.Limits.{longest_key, longest_value, most_clients, most_keys}
 use Rattle.basil_types.specs.declared.transaction.parts.ReadPart.{ReadPart}
 use Rattle.basil_types.specs.declared.transaction.parts.WritePart.{WritePart}
 use Rattle.basil_types.specs.declared.transaction.fault.BuildFault.{BuildFault}
@@ -18,14 +19,14 @@ built time client reads writes =
     record { format = format_of writes; time = time; client = client; reads = reads; writes = writes }
 
 abbrev pub key_fits : List ℕ → Bool
-key_fits key = nat_le 1 (length key) && nat_le (length key) 64
+key_fits key = nat_le 1 (length key) && nat_le (length key) longest_key
 
 abbrev pub read_fits : ReadPart → Bool
 read_fits r = key_fits r.key
 
 -- a deletion has no value
 abbrev pub value_fits : WritePart → Bool
-value_fits w = if w.deletes then length w.value == 0 else nat_le (length w.value) 256
+value_fits w = if w.deletes then length w.value == 0 else nat_le (length w.value) longest_value
 
 abbrev pub write_fits : WritePart → Bool
 write_fits w = key_fits w.key && value_fits w
@@ -58,8 +59,8 @@ key_fault reads writes =
 
 abbrev pub build_fault : ℕ → List ReadPart → List WritePart → Option BuildFault
 build_fault client reads writes =
-    or_else (if nat_le 1 client && nat_le client 16 then None else Some ClientOut)
-    (or_else (if nat_le (length reads) 32 && nat_le (length writes) 32 then None else Some TooMany)
+    or_else (if nat_le 1 client && nat_le client most_clients then None else Some ClientOut)
+    (or_else (if nat_le (length reads) most_keys && nat_le (length writes) most_keys then None else Some TooMany)
     (or_else (option_map SizeOut (size_fault reads writes)) (option_map KeyOrder (key_fault reads writes))))
 
 -- ---- what the types of the parts alone tell

@@ -4,6 +4,8 @@ pub mod Version
 pub mod Setting
 pub mod Decision
 pub mod Limits
+pub mod Parties
+pub mod Refusals
 pub mod Cluster
 pub mod Steps
 pub mod Lists

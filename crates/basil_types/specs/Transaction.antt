@@ -4,6 +4,7 @@ use Rattle.std.specs.Prelude.{List, true, false, length, ◌==◌, if◌then◌e
 use Rattle.std.specs.List.{flat_map, list_any}
 use Rattle.std.specs.Str.{bytes_eq}
 use Rattle.std.specs.Int.{to_be_bytes, w64, w16}
+use Rattle.basil_types.specs.Limits.{IsU64, most_clients, most_keys}
 use Rattle.basil_types.specs.Id.{id_of}
 use Rattle.basil_types.specs.Lists.{AreItems}
 use Rattle.basil_types.specs.Texts.{IsKey, IsValue, IsVersion, key_below}
@@ -81,12 +82,12 @@ key_of_write w = w.key
 pub record IsTransaction (t : TransactionValue) : Type 0 where
   pub known : 1 ≤ t.format
   pub format : t.format ≤ 2
-  pub time : t.time < 2 ^ 64
+  pub time : IsU64 t.time
   pub someone : 1 ≤ t.client
-  pub client : t.client ≤ 16
-  pub few_reads : length t.reads ≤ 32
+  pub client : t.client ≤ most_clients
+  pub few_reads : length t.reads ≤ most_keys
   pub reads : AreItems FitsRead key_of_read [] t.reads
-  pub few_writes : length t.writes ≤ 32
+  pub few_writes : length t.writes ≤ most_keys
   pub writes : AreItems (FitsWrite t.format) key_of_write [] t.writes
 
 -- these bytes begin with this transaction

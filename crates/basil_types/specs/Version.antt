@@ -4,11 +4,12 @@ use Rattle.std.specs.Ordering.{nat_cmp, ordering_then, is_lt}
 use Rattle.std.specs.Cmp.Lexicographic.{slice_cmp}
 use Rattle.std.specs.Str.{bytes_eq}
 use Rattle.std.specs.declared.cmp.Ordering.{Ordering}
+use Rattle.basil_types.specs.Limits.{id_size}
 use Rattle.basil_types.specs.declared.version.Version.{Version}
 
 -- the version of an absent key
 abbrev pub genesis : Version
-genesis = record { time = 0; client = 0; id = replicate 32 0 }
+genesis = record { time = 0; client = 0; id = replicate id_size 0 }
 
 -- by time, then by client, then by id
 abbrev pub version_cmp : Version → Version → Ordering

@@ -1,6 +1,7 @@
 -- The six kinds of words that parties sign.
 use Rattle.std.specs.Prelude.{◌≡◌, ℕ, ◌∷◌, ◌++◌, [], ◌<◌, ◌≤◌, ◌^◌, List, length}
 use Rattle.std.specs.Int.{to_be_bytes, w64}
+use Rattle.basil_types.specs.Limits.{IsU64, id_size, longest_key}
 use Rattle.basil_types.specs.declared.party.Decision.{Decision}
 use Rattle.basil_types.specs.declared.party.Decision.TheVariants.{Commit, Abort}
 use Rattle.basil_types.specs.declared.version.Version.{Version}
@@ -66,29 +67,29 @@ words_of (ProposalWords p) = 6 ∷ view_bytes p
 
 -- a version whose numbers and id have their sizes
 pub record FitsVersion (v : Version) : Type 0 where
-  pub time : v.time < 2 ^ 64
-  pub id : length v.id ≡ 32
+  pub time : IsU64 v.time
+  pub id : length v.id ≡ id_size
 
 pub record FitsReply (r : ReadReplyOf) : Type 0 where
   pub some : 1 ≤ length r.key
-  pub short : length r.key ≤ 64
-  pub time : r.time < 2 ^ 64
+  pub short : length r.key ≤ longest_key
+  pub time : IsU64 r.time
   pub committed : FitsVersion r.committed
   pub prepared : FitsVersion r.prepared
 
 pub record FitsLog (r : LogReplyOf) : Type 0 where
-  pub id : length r.id ≡ 32
-  pub decided : r.decided < 2 ^ 64
-  pub current : r.current < 2 ^ 64
+  pub id : length r.id ≡ id_size
+  pub decided : IsU64 r.decided
+  pub current : IsU64 r.current
 
 pub record FitsView (v : ViewOf) : Type 0 where
-  pub id : length v.id ≡ 32
-  pub view : v.view < 2 ^ 64
+  pub id : length v.id ≡ id_size
+  pub view : IsU64 v.view
 
 -- fields of their sizes
 abbrev pub AreWords : SignedWords → Type 0
-AreWords (TransactionWords id) = length id ≡ 32
-AreWords (VoteWords v) = length v.id ≡ 32
+AreWords (TransactionWords id) = length id ≡ id_size
+AreWords (VoteWords v) = length v.id ≡ id_size
 AreWords (ReadReplyWords r) = FitsReply r
 AreWords (LogReplyWords r) = FitsLog r
 AreWords (ElectionWords w) = FitsView w

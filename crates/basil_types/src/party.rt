@@ -2,6 +2,7 @@
 
 ghost use Rattle.std.specs.Prelude.{◌≡◌};
 ghost use Rattle.basil_types.specs.Decision as decisions;
+ghost use Rattle.basil_types.specs.Parties as parties;
 
 /// Who sends, receives and signs.
 #[derive(Clone, Copy, Debug, PartialEq, Eq, PartialOrd, Ord)]
@@ -10,6 +11,16 @@ pub enum Party {
     Replica { shard: u8, index: u8 },
     /// The client with this number, from 1 to 16.
     Client { number: u8 },
+}
+
+/// Three bytes that name a party: 0, the shard and the index of a replica, or 1, 0 and the number of a client.
+pub fn party_bytes(party: Party) -> [u8; 3]
+    ensures { result ≡ parties.party_bytes party }
+{
+    match party {
+        Party::Replica { shard, index } => [0, shard, index],
+        Party::Client { number } => [1, 0, number],
+    }
 }
 
 /// What a vote, a log reply or a certificate says.

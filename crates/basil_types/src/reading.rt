@@ -7,6 +7,7 @@ ghost use Rattle.basil_types.specs.Reading.{next_key_at, value_at, version_parts
 ghost use Rattle.basil_types.specs.Steps.{Gives};
 ghost use Rattle.basil_types.specs.Texts.{IsBytes};
 
+use crate::limits::{ID_SIZE, LONGEST_VALUE};
 use crate::version::Version;
 
 /// Why bytes are not read. The number is how many bytes are left where the field begins.
@@ -133,7 +134,7 @@ pub fn value(bytes: &[u8]) -> Result<(&[u8], &[u8]), Fault>
     ensures { Gives (λ x. (x.0.now, x.1.now)) result (value_at bytes.now) }
 {
     let (count, rest) = u16_at(bytes)?;
-    if count <= 256 {
+    if usize::from(count) <= LONGEST_VALUE {
         run(count as usize, rest)
     } else {
         Err(Fault::Range(bytes.len()))
@@ -157,8 +158,8 @@ fn version_parts(bytes: &[u8]) -> Result<(Version, &[u8]), Fault>
 {
     let (time, rest) = u64_at(bytes)?;
     let (client, rest) = byte(rest)?;
-    let (front, rest) = run(32, rest)?;
-    let mut id = [0u8; 32];
+    let (front, rest) = run(ID_SIZE, rest)?;
+    let mut id = [0u8; ID_SIZE];
     id.copy_from_slice(front);
     Ok((Version { time, client, id }, rest))
 }

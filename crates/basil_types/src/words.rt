@@ -2,6 +2,7 @@
 
 ghost use Rattle.std.specs.Prelude.{◌≡◌, ◌+◌, ◌≤◌, ◌<◌, [], ◌∷◌, ◌++◌, length};
 ghost use Rattle.std.specs.Int.{to_be_bytes, w64};
+ghost use Rattle.basil_types.specs.Limits.{longest_key};
 ghost use Rattle.basil_types.specs.Transaction.{version_bytes};
 ghost use Rattle.basil_types.specs.Words.{words_of, view_bytes, WordsTellFields, TransactionWords, VoteWords};
 ghost use Rattle.basil_types.specs.Words.{ReadReplyWords, LogReplyWords, ElectionWords, ProposalWords};
@@ -67,7 +68,7 @@ impl Words {
         prepared: Version,
     ) -> Words
         requires some { 1 ≤ length key.now }
-        requires short { length key.now ≤ 64 }
+        requires short { length key.now ≤ longest_key }
         ensures { result ≡ words_of
             (ReadReplyWords
             (record {

@@ -4,13 +4,14 @@ use Rattle.std.proofs.Common.{subst, arith}
 use Rattle.std.proofs.lemmas.List.{length-append}
 use Rattle.batch_sign.specs.Batches.{add_fault}
 use Rattle.batch_sign.specs.declared.batch.BatchFault.{BatchFault}
+use Rattle.schedule_text.specs.Refusals.{Refusal, on_line}
 use Rattle.schedule_text.specs.Fields.{hex}
 use Rattle.schedule_text.specs.declared.complaint.Complaint.{Complaint}
 use Rattle.schedule_text.specs.declared.reason.Reason.{Reason}
-use Rattle.batch_text.specs.Texts.{BadText, batch_on, go_on, on_line, taken, with_lines, with_message}
+use Rattle.batch_text.specs.Texts.{batch_on, go_on, taken, with_lines, with_message}
 
 -- as many messages as those at least
-abbrev pub Keeps : (messages : List (List ℕ)) → Result (List (List ℕ)) BadText → Type 0
+abbrev pub Keeps : (messages : List (List ℕ)) → Result (List (List ℕ)) Refusal → Type 0
 Keeps messages (Ok more) = length messages ≤ length more
 Keeps messages (Err bad) = Unit {0}
 
@@ -27,7 +28,7 @@ message-grows : (messages : List (List ℕ)) (bytes : Result (List ℕ) Complain
 message-grows messages (Ok message) = taken-grows messages message (add_fault messages message)
 message-grows messages (Err complaint) = tt
 
-weaker : (a b : List (List ℕ)) (r : Result (List (List ℕ)) BadText) → length a ≤ length b → Keeps b r → Keeps a r
+weaker : (a b : List (List ℕ)) (r : Result (List (List ℕ)) Refusal) → length a ≤ length b → Keeps b r → Keeps a r
 weaker a b (Ok more) le h = omega arith
 weaker a b (Err bad) le h = tt
 

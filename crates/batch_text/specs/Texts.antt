@@ -5,21 +5,13 @@ use Rattle.hex.specs.Hex.{encode_lower}
 use Rattle.batch_sign.specs.Batches.{add_fault, longest_message}
 use Rattle.batch_sign.specs.Signatures.{Sealing, signature_of}
 use Rattle.batch_sign.specs.declared.batch.BatchFault.{BatchFault}
+use Rattle.schedule_text.specs.Refusals.{Refusal, on_line}
 use Rattle.schedule_text.specs.Fields.{hex}
 use Rattle.schedule_text.specs.TextLines.{lines_of}
 use Rattle.schedule_text.specs.declared.complaint.Complaint.{Complaint}
 use Rattle.schedule_text.specs.declared.reason.Reason.{Reason}
 use Rattle.schedule_text.specs.declared.reason.Reason.TheVariants.{NoHeader, Misspelt, OutOfSize}
 use Rattle.batch_text.specs.declared.reading.Kept.{Kept}
-
--- a line that is refused, from 1, and why
-pub record BadText : Type 0 where
-  pub line : ℕ
-  pub reason : Reason
-
-abbrev pub on_line : {A : Type 0} → (number : ℕ) → Result A Reason → Result A BadText
-on_line number (Ok value) = Ok value
-on_line number (Err reason) = Err (record { line = number; reason = reason })
 
 -- the message that a line has: reason 2 where it isn't hex, 8 where it is too long
 abbrev pub message_in : Result (List ℕ) Complaint → Result (List ℕ) Reason
@@ -35,39 +27,39 @@ abbrev pub with_message : (messages : List (List ℕ)) → Result (List ℕ) Com
 with_message messages (Ok message) = taken messages message (add_fault messages message)
 with_message messages (Err complaint) = Err Misspelt
 
-abbrev pub go_on : {A B : Type 0} → Result A BadText → (A → Result B BadText) → Result B BadText
+abbrev pub go_on : {A B : Type 0} → Result A Refusal → (A → Result B Refusal) → Result B Refusal
 go_on (Ok value) others = others value
 go_on (Err bad) others = Err bad
 
 -- the messages of lines behind others; the first line has this number
-abbrev pub with_lines : List (List ℕ) → (number : ℕ) → (messages : List (List ℕ)) → Result (List (List ℕ)) BadText
+abbrev pub with_lines : List (List ℕ) → (number : ℕ) → (messages : List (List ℕ)) → Result (List (List ℕ)) Refusal
 with_lines [] number messages = Ok messages
 with_lines (line ∷ lines) number messages =
     go_on (on_line number (with_message messages (hex line))) (λ more. with_lines lines (number + 1) more)
 
 -- a text without a line is reason 1
-abbrev pub no_line : BadText
+abbrev pub no_line : Refusal
 no_line = record { line = 1; reason = NoHeader }
 
 -- the batch whose messages are lines
-abbrev pub batch_on : List (List ℕ) → Result (List (List ℕ)) BadText
+abbrev pub batch_on : List (List ℕ) → Result (List (List ℕ)) Refusal
 batch_on [] = Err no_line
 batch_on (line ∷ lines) = with_lines (line ∷ lines) 1 []
 
-abbrev pub batch_in : List ℕ → Result (List (List ℕ)) BadText
+abbrev pub batch_in : List ℕ → Result (List (List ℕ)) Refusal
 batch_in bytes = batch_on (lines_of bytes)
 
 -- a message, and the batch of the lines behind it, where there are any
-abbrev pub kept_with : (message : List ℕ) → List (List ℕ) → Result Kept BadText
+abbrev pub kept_with : (message : List ℕ) → List (List ℕ) → Result Kept Refusal
 kept_with message [] = Ok (record { message = message; batch = None })
 kept_with message (line ∷ lines) =
     go_on (with_lines (line ∷ lines) 2 []) (λ messages. Ok (record { message = message; batch = Some messages }))
 
-abbrev pub kept_on : List (List ℕ) → Result Kept BadText
+abbrev pub kept_on : List (List ℕ) → Result Kept Refusal
 kept_on [] = Err no_line
 kept_on (line ∷ lines) = go_on (on_line 1 (message_in (hex line))) (λ message. kept_with message lines)
 
-abbrev pub kept_in : List ℕ → Result Kept BadText
+abbrev pub kept_in : List ℕ → Result Kept Refusal
 kept_in bytes = kept_on (lines_of bytes)
 
 -- bytes in lower-case hex, on a line

@@ -1,10 +1,11 @@
 //! The messages on lines.
 
 ghost use Rattle.std.specs.Prelude.{◌+◌, ◌<◌, ◌^◌, length};
+ghost use Rattle.schedule_text.specs.Refusals.{on_line};
 ghost use Rattle.schedule_text.specs.Fields.{hex};
 ghost use Rattle.schedule_text.specs.TextLines.{lines_of};
 ghost use Rattle.batch_text.specs.Parts.{IsMessage, Ran};
-ghost use Rattle.batch_text.specs.Texts.{message_in, on_line, with_lines, with_message};
+ghost use Rattle.batch_text.specs.Texts.{message_in, with_lines, with_message};
 
 use crate::reading::BatchTextFault;
 use basil_types::bytes::Bytes;

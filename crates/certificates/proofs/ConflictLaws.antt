@@ -1,6 +1,7 @@
 -- The proof of a vote to abort.
 use Rattle.std.proofs.Common.{◌≡◌, Bool, true, false, cond, Option, None, Some, refl, sym, ap, subst}
 use Rattle.std.specs.Prelude.{is_none, Result}
+use Rattle.basil_types.specs.Refusals.{Refuses}
 use Rattle.basil_types.specs.Built.{or_else}
 use Rattle.basil_types.specs.Setting.{Setting, IsSetting}
 use Rattle.basil_types.specs.Transaction.{TransactionValue}
@@ -15,7 +16,7 @@ use Rattle.certificates.specs.declared.refusal.CertRefusal.TheVariants.{NoConfli
 use Rattle.certificates.specs.Accepted.{Accepted}
 use Rattle.certificates.specs.Deciding.{HasGoodForm, ProvesConflict}
 use Rattle.certificates.specs.Laws.{ConflictsExactly}
-use Rattle.certificates.specs.Refusals.{Refuses, ill_formed, no_rival, proof_refusal}
+use Rattle.certificates.specs.Refusals.{ill_formed, no_rival, proof_refusal}
 use Rattle.certificates.proofs.CountLaws.{none_refused, refused_none}
 use Rattle.certificates.proofs.DecideLaws.{split_none, join_none, commits_from, commits_to}
 

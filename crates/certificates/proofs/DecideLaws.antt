@@ -9,6 +9,7 @@ use Rattle.std.proofs.lemmas.List.{length-map}
 use Rattle.std.proofs.lemmas.List.Elements.{All-nil, All-cons, All-head}
 use Rattle.std.proofs.lemmas.List.Sums.{AllPass-from_list_all, list_all-from_AllPass}
 use Rattle.std.proofs.lemmas.Slice.Eq.{bytes_eq-Decides}
+use Rattle.basil_types.specs.Refusals.{Refuses}
 use Rattle.basil_types.specs.Built.{or_else}
 use Rattle.basil_types.specs.Decision.{same_decision}
 use Rattle.basil_types.specs.Lists.{AreItems}
@@ -31,7 +32,7 @@ use Rattle.certificates.specs.Accepted.{Accepted, accepts, AllAccepted}
 use Rattle.certificates.specs.Tallies.{VotedInAll, VotedInOne, AbortTallied, Tallied}
 use Rattle.certificates.specs.Deciding.{HasGoodForm, LoggedAs, CommitsBy, Commits, AbortsBy, Aborts, Proves}
 use Rattle.certificates.specs.Refusals.{few, few_listed, stray, stray_listed, stray_logged, bad_signature, PairValue, wrong_id, mixed}
-use Rattle.certificates.specs.Refusals.{not_involved, too_few, no_conflict_by, nested_in, refusal, Refuses, tallies_refusal, stray_alone}
+use Rattle.certificates.specs.Refusals.{not_involved, too_few, no_conflict_by, nested_in, refusal, tallies_refusal, stray_alone}
 use Rattle.certificates.proofs.CountLaws.{size_loggers, none_refused, refused_none, enough, not_few, enough_each, none_few, voted_of}
 use Rattle.certificates.proofs.CountLaws.{counted_of, front_accepted, each_voted, each_counted, length_tally, length_tallies}
 use Rattle.certificates.proofs.ShardLaws.{listed_exactly, none_stray, is_involved, not_stray, is_log_shard, not_stray_logged, one_alone}

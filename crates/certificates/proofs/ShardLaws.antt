@@ -15,9 +15,8 @@ use Rattle.basil_types.specs.Lists.{AreItems}
 use Rattle.frame_views.specs.declared.bounds.Bounds.{Bounds}
 use Rattle.frame_views.specs.Fitting.{FitsTally, after_tally, bounds_of}
 use Rattle.frame_views.specs.Values.{TallyValue}
-use Rattle.txn_meta.specs.Places.{log_shard, shard_of, involves, involved, marks_of}
+use Rattle.txn_meta.specs.Places.{log_shard, shard_of, involves, involved, marks_of, is_marked}
 use Rattle.txn_meta.proofs.MemberLaws.{some_involved}
-use Rattle.certificates.specs.Marks.{is_marked}
 use Rattle.certificates.specs.declared.refusal.CertRefusal.TheVariants.{NotInvolved}
 use Rattle.certificates.specs.Refusals.{all_shards, stray, stray_logged, stray_listed, stray_alone}
 use Rattle.certificates.specs.Tallies.{lists, ListsInvolved}

@@ -1,8 +1,6 @@
 -- Sets of shards as eight marks.
-use Rattle.std.specs.Prelude.{ℕ, List, Bool, false, not, ◌&&◌, slice_index_or}
-
-abbrev pub is_marked : List Bool → ℕ → Bool
-is_marked marks shard = slice_index_or marks shard false
+use Rattle.std.specs.Prelude.{ℕ, List, Bool, not, ◌&&◌}
+use Rattle.txn_meta.specs.Places.{is_marked}
 
 -- in the one set and not in the other
 abbrev pub is_apart : List Bool → List Bool → ℕ → Bool

@@ -23,10 +23,6 @@ use Rattle.certificates.specs.declared.refusal.CertRefusal.TheVariants.{NoConfli
 use Rattle.certificates.specs.Accepted.{Accepted, first_refused}
 use Rattle.certificates.specs.Tallies.{lists}
 
--- Ok exactly where there is no refusal, and otherwise that one
-abbrev pub Refuses : Result (Unit {0}) CertRefusal → Option CertRefusal → Type 0
-Refuses result refusal = MatchResult result (λ _. refusal ≡ None) (λ r. refusal ≡ Some r)
-
 -- ---- parts of tests
 
 abbrev pub all_shards : List ℕ

@@ -1,6 +1,7 @@
 //! Certificates that decide a transaction.
 
 ghost use Rattle.std.specs.Prelude.{◌≡◌, ◌↔◌, ◌<◌, ◌^◌, length, IsOk, IfErr, Some};
+ghost use Rattle.basil_types.specs.Refusals.{Refuses};
 ghost use Rattle.basil_types.specs.Shown.{transaction_of};
 ghost use Rattle.basil_types.specs.declared.party.Decision.TheVariants as decisions;
 ghost use Rattle.frame_views.specs.Fitting.{FitsCertificate, bounds_of};
@@ -8,7 +9,7 @@ ghost use Rattle.frame_views.specs.Shown.{HoldsCommit, certificate_of};
 ghost use Rattle.frame_views.specs.Signed.{certificate_signed};
 ghost use Rattle.frame_views.specs.Walks.{signed_left};
 ghost use Rattle.certificates.specs.Deciding.{HasGoodForm, Commits, Aborts, Proves};
-ghost use Rattle.certificates.specs.Refusals.{Refuses, refusal, refusal_of};
+ghost use Rattle.certificates.specs.Refusals.{refusal, refusal_of};
 ghost use Rattle.certificates.specs.Pairs.{pair_of};
 
 use crate::conflicts::conflicts;

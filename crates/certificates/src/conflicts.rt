@@ -1,12 +1,13 @@
 //! Whether a conflict abort names a transaction that conflicts.
 
 ghost use Rattle.std.specs.Prelude.{◌≡◌, ◌&&◌, OnOk};
+ghost use Rattle.basil_types.specs.Refusals.{Refuses};
 ghost use Rattle.basil_types.specs.Shown.{transaction_of};
 ghost use Rattle.txn_meta.specs.Conflicts;
 ghost use Rattle.txn_meta.specs.Form as forms;
 ghost use Rattle.certificates.specs.Deciding.{HasGoodForm};
 ghost use Rattle.certificates.specs.Refusals as refusals;
-ghost use Rattle.certificates.specs.Refusals.{Refuses, no_conflict};
+ghost use Rattle.certificates.specs.Refusals.{no_conflict};
 ghost use Rattle.certificates.specs.Pairs.{pair_of};
 
 use crate::pair::Pair;

@@ -1,8 +1,9 @@
 //! How many votes and log replies stand there.
 
 ghost use Rattle.std.specs.Prelude.{◌≡◌, option_map};
+ghost use Rattle.basil_types.specs.Refusals.{Refuses};
 ghost use Rattle.frame_views.specs.Items.{tallies_of};
-ghost use Rattle.certificates.specs.Refusals.{Refuses, few, few_listed, too_few, shortages};
+ghost use Rattle.certificates.specs.Refusals.{few, few_listed, too_few, shortages};
 ghost use Rattle.certificates.specs.Pairs.{pair_of};
 
 use crate::pair::Pair;

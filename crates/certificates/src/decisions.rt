@@ -1,9 +1,10 @@
 //! Which decision a certificate is for.
 
 ghost use Rattle.std.specs.Prelude.{◌≡◌, option_map};
+ghost use Rattle.basil_types.specs.Refusals.{Refuses};
 ghost use Rattle.frame_views.specs.Shown.{body_of};
 ghost use Rattle.certificates.specs.Refusals as refusals;
-ghost use Rattle.certificates.specs.Refusals.{Refuses, mixed, mixed_pairs};
+ghost use Rattle.certificates.specs.Refusals.{mixed, mixed_pairs};
 ghost use Rattle.certificates.specs.Pairs.{pair_of};
 
 use crate::pair::Pair;

@@ -1,7 +1,8 @@
 //! Which transaction a certificate is about.
 
 ghost use Rattle.std.specs.Prelude.{◌≡◌, option_map};
-ghost use Rattle.certificates.specs.Refusals.{Refuses, wrong_id, wrong_ids};
+ghost use Rattle.basil_types.specs.Refusals.{Refuses};
+ghost use Rattle.certificates.specs.Refusals.{wrong_id, wrong_ids};
 ghost use Rattle.certificates.specs.Pairs.{pair_of};
 
 use crate::pair::Pair;

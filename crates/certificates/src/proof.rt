@@ -1,13 +1,14 @@
 //! The proof of a vote to abort.
 
 ghost use Rattle.std.specs.Prelude.{◌≡◌, ◌↔◌, ◌<◌, ◌^◌, length, IsOk};
+ghost use Rattle.basil_types.specs.Refusals.{Refuses};
 ghost use Rattle.basil_types.specs.Shown.{transaction_of};
 ghost use Rattle.frame_views.specs.Fitting.{FitsCertificate, bounds_of};
 ghost use Rattle.frame_views.specs.Shown.{committed_of};
 ghost use Rattle.frame_views.specs.Signed.{certificate_signed};
 ghost use Rattle.frame_views.specs.Walks.{signed_left};
 ghost use Rattle.certificates.specs.Deciding.{HasGoodForm, ProvesConflict};
-ghost use Rattle.certificates.specs.Refusals.{Refuses, proof_refusal, rival_refusal, no_rival_signed};
+ghost use Rattle.certificates.specs.Refusals.{proof_refusal, rival_refusal, no_rival_signed};
 ghost use Rattle.certificates.specs.Pairs.{pair_of};
 
 use crate::conflicts::ill_formed;

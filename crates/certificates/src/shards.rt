@@ -1,13 +1,14 @@
 //! Which shards votes may be of.
 
 ghost use Rattle.std.specs.Prelude.{◌≡◌, ◌<◌, ℕ, [], find, option_map, IfSome};
+ghost use Rattle.basil_types.specs.Refusals.{Refuses};
 ghost use Rattle.basil_types.specs.Shown.{transaction_of};
 ghost use Rattle.frame_views.specs.Items.{tallies_of, tallies_left};
-ghost use Rattle.txn_meta.specs.Places.{marks_of};
-ghost use Rattle.certificates.specs.Marks.{is_marked};
+ghost use Rattle.txn_meta.specs.Places.{marks_of, is_marked};
 ghost use Rattle.certificates.specs.Deciding.{HasGoodForm};
+ghost use Rattle.certificates.specs.Marks as sets;
 ghost use Rattle.certificates.specs.Refusals as refusals;
-ghost use Rattle.certificates.specs.Refusals.{Refuses, all_shards, stray, stray_listed, stray_logged, stray_alone};
+ghost use Rattle.certificates.specs.Refusals.{all_shards, stray, stray_listed, stray_logged, stray_alone};
 ghost use Rattle.certificates.specs.Refusals.{not_involved, strays};
 ghost use Rattle.certificates.specs.Pairs.{pair_of};
 ghost use Rattle.certificates.specs.Tallies.{lists};
@@ -55,14 +56,14 @@ fn involved_marks(cluster: &Cluster, t: TransactionView<'_>) -> [bool; 8]
 /// Whether a shard is in the one set and not in the other.
 fn is_apart(shard: u8, marks: &[bool; 8], others: &[bool; 8]) -> bool
     requires { shard < 8 }
-    ensures { result ≡ Rattle.certificates.specs.Marks.is_apart marks.now others.now shard }
+    ensures { result ≡ sets.is_apart marks.now others.now shard }
 {
     marks[shard as usize] && !others[shard as usize]
 }
 
 /// The least shard that is in the one set and not in the other.
 fn least_apart(marks: &[bool; 8], others: &[bool; 8]) -> Option<u8>
-    ensures { result ≡ find (Rattle.certificates.specs.Marks.is_apart marks.now others.now) all_shards }
+    ensures { result ≡ find (sets.is_apart marks.now others.now) all_shards }
 {
     for shard in 0..8u8 {
         if is_apart(shard, marks, others) {

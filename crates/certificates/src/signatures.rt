@@ -1,8 +1,9 @@
 //! Which signatures are accepted.
 
 ghost use Rattle.std.specs.Prelude.{◌<◌, ◌^◌, length};
+ghost use Rattle.basil_types.specs.Refusals.{Refuses};
 ghost use Rattle.frame_views.specs.Walks.{signed_left};
-ghost use Rattle.certificates.specs.Refusals.{Refuses, bad_signature};
+ghost use Rattle.certificates.specs.Refusals.{bad_signature};
 
 use crate::refusal::CertRefusal;
 use frame_views::signed::Signatures;

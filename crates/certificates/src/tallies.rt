@@ -1,6 +1,7 @@
 //! Tallies that let a decision be logged.
 
 ghost use Rattle.std.specs.Prelude.{◌≡◌, ◌↔◌, IsOk, IfErr, Some};
+ghost use Rattle.basil_types.specs.Refusals.{Refuses};
 ghost use Rattle.basil_types.specs.Shown.{transaction_of};
 ghost use Rattle.basil_types.specs.Transaction as transactions;
 ghost use Rattle.frame_views.specs.Fitting.{FitsTallies, bounds_of};
@@ -8,7 +9,7 @@ ghost use Rattle.frame_views.specs.Items.{tallies_of};
 ghost use Rattle.frame_views.specs.Signed.{tallies_signed};
 ghost use Rattle.frame_views.specs.Walks.{signed_left};
 ghost use Rattle.certificates.specs.Deciding.{HasGoodForm};
-ghost use Rattle.certificates.specs.Refusals.{Refuses, stray_tallies, tally_needs, tallies_refusal};
+ghost use Rattle.certificates.specs.Refusals.{stray_tallies, tally_needs, tallies_refusal};
 ghost use Rattle.certificates.specs.Tallies.{Tallied};
 
 use crate::counts::enough_each;

@@ -9,6 +9,7 @@ use Rattle.basil_types.specs.Transaction.{TransactionValue, id}
 use Rattle.txn_meta.specs.Form.{form_fault}
 use Rattle.node_steps.specs.Framed.{framed}
 use Rattle.node_steps.specs.Refusing.{unless}
+use Rattle.client_recover.specs.Owned.{unstarted}
 use Rattle.client_recover.specs.Taken.{PursuitValue}
 use Rattle.client_core.specs.declared.fault.CallFault.TheVariants.{BadTransaction}
 use Rattle.client_core.specs.declared.held.Formed.{Formed}
@@ -16,7 +17,7 @@ use Rattle.client_core.specs.declared.held.Held.{Held}
 use Rattle.client_core.specs.declared.held.Slot.{Slot}
 use Rattle.client_core.specs.declared.work.ClientPlan.{ClientPlan}
 use Rattle.client_core.specs.declared.work.Work.TheVariants.{Nothing, Hold}
-use Rattle.client_core.specs.Calls.{call_recover, pursued, recover_by, recover_held, recovered_at, recovered_slot}
+use Rattle.client_core.specs.Calls.{call_recover, recover_by, recover_held, recovered_at, recovered_slot}
 use Rattle.client_core.specs.Clients.{ClientSelf, ClientValue, SlotValue, quiet}
 use Rattle.client_core.specs.Recovering.{again_done, hold_done, question_done}
 use Rattle.client_core.specs.Kept.{shown_read}
@@ -94,11 +95,11 @@ hold_planned me held v recovered out plan t signature h shows is messages =
 
 pub recovered_shows : (slot : Slot) (t u : TransactionValue) (signature w : List ℕ) (f : Formed) → slot.begun ≡ false
     → slot.time ≡ t.time → slot.reads.items ≡ [] → slot.writes.items ≡ [] → slot.formed ≡ Some f → u ≡ t → w ≡ signature
-    → ShowsPursuit f (pursued u w) → ShowsSlot slot (recovered_slot t signature)
+    → ShowsPursuit f (unstarted u w) → ShowsSlot slot (recovered_slot t signature)
 recovered_shows slot t u signature w f begun time reads writes formed same_t same_signature shows =
-    let p = pursued t signature in
+    let p = unstarted t signature in
     let stands : ShowsPursuit f p =
-    subst (λ x. ShowsPursuit f (pursued t x)) same_signature (subst (λ x. ShowsPursuit f (pursued x w)) same_t shows) in
+    subst (λ x. ShowsPursuit f (unstarted t x)) same_signature (subst (λ x. ShowsPursuit f (unstarted x w)) same_t shows) in
     let made : Bool → ℕ → List WritePart → SlotValue =
     λ b n l. record { begun = b; time = n; reads = []; writes = l; pursuit = Some p } in
     record {

@@ -5,11 +5,13 @@ use Rattle.std.specs.Prelude.{find, slice_get, is_some, map, nat_lt, nat_le, len
 use Rattle.std.specs.List.{list_any}
 use Rattle.std.specs.Option.{option_map_or}
 use Rattle.std.specs.Str.{bytes_eq}
+use Rattle.basil_types.specs.Limits.{most_keys}
 use Rattle.basil_types.specs.Built.{or_else, built, key_fits, write_fits}
 use Rattle.basil_types.specs.declared.transaction.parts.WritePart.{WritePart}
 use Rattle.basil_types.specs.Setting.{Setting}
 use Rattle.basil_types.specs.Transaction.{TransactionValue, id}
 use Rattle.basil_types.specs.Words.{TransactionWords, words_of}
+use Rattle.client_recover.specs.Owned.{unstarted}
 use Rattle.client_recover.specs.Counting.{replies_of}
 use Rattle.client_recover.specs.Pursuits.{PursuitDone, to_shard, to_involved, to_log_shard}
 use Rattle.client_recover.specs.Pursuits.{signed_part, invoke_message, settle, outcome}
@@ -26,10 +28,6 @@ use Rattle.client_core.specs.declared.fault.CallFault.TheVariants.{Exhausted, No
 use Rattle.client_core.specs.declared.fault.CallFault.TheVariants.{NothingLogged, BadTransaction}
 use Rattle.client_core.specs.Clients.{ClientSelf, AskedRead, SlotValue, ClientValue, ClientDone, quiet}
 use Rattle.client_core.specs.Slots.{asked, put_read, put_write, is_chosen, as_read, slot_of_id, with_slot, with_pursuit}
-
--- the keys of one list
-abbrev pub most_keys : ℕ
-most_keys = 32
 
 -- the call on a slot; of one that isn't held nothing happens
 abbrev pub by_slot :
@@ -112,15 +110,12 @@ prepare_fault me client s =
 abbrev pub formed : ClientSelf → SlotValue → TransactionValue
 formed me s = built s.time me.number (map (as_read me.cluster) s.reads) s.writes
 
-abbrev pub pursued : TransactionValue → List ℕ → PursuitValue
-pursued t signature = record { transaction = t; signature = signature; taken = []; second = false }
-
 -- the transaction is formed and signed, and goes to every replica of every involved shard
 abbrev pub prepare_done : ClientSelf → ClientValue → ℕ → SlotValue → ClientDone
 prepare_done me client place s =
     let t = formed me s in
     let words = TransactionWords (id t) in
-    let p = pursued t (me.signing.gives client.pen.spent (words_of words)) in
+    let p = unstarted t (me.signing.gives client.pen.spent (words_of words)) in
     record {
       client = record (with_slot client place (with_pursuit s p)) { pen = after_one client.pen };
       signed = words ∷ [];
@@ -154,7 +149,7 @@ recover_held me client (Some p) =
 
 abbrev pub recovered_slot : TransactionValue → List ℕ → SlotValue
 recovered_slot t signature =
-    record { begun = false; time = t.time; reads = []; writes = []; pursuit = Some (pursued t signature) }
+    record { begun = false; time = t.time; reads = []; writes = []; pursuit = Some (unstarted t signature) }
 
 abbrev pub with_recovered : ClientValue → TransactionValue → List ℕ → ClientValue
 with_recovered client t signature = record client { slots = client.slots ++ recovered_slot t signature ∷ [] }
@@ -164,7 +159,7 @@ abbrev pub recover_by : ClientSelf → ClientValue → TransactionValue → List
 recover_by me client t signature (Some place) =
     recover_held me client (option_and_then (λ (s : SlotValue). s.pursuit) (slice_get client.slots place))
 recover_by me client t signature None =
-    recover_held me (with_recovered client t signature) (Some (pursued t signature))
+    recover_held me (with_recovered client t signature) (Some (unstarted t signature))
 
 abbrev pub call_recover : ClientSelf → ClientValue → TransactionValue → List ℕ → Result ClientDone CallFault
 call_recover me client t signature =

@@ -25,3 +25,4 @@ pub mod Taking
 pub mod Receiving
 pub mod Laws
 pub mod Letting
+pub mod Shown

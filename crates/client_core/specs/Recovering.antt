@@ -1,9 +1,10 @@
 -- What recovering a transaction does, where it is held and where it isn't.
 use Rattle.std.specs.Prelude.{ℕ, List, [], Some, option_and_then, slice_get}
 use Rattle.basil_types.specs.Transaction.{TransactionValue}
+use Rattle.client_recover.specs.Owned.{unstarted}
 use Rattle.client_recover.specs.Pursuits.{to_involved}
 use Rattle.frame_views.specs.Values.{Recover}
-use Rattle.client_core.specs.Calls.{pursued, recover_held, with_recovered}
+use Rattle.client_core.specs.Calls.{recover_held, with_recovered}
 use Rattle.client_core.specs.Clients.{ClientDone, ClientSelf, ClientValue, SlotValue}
 
 -- every replica of every involved shard is asked
@@ -21,4 +22,4 @@ again_done me client place =
 
 abbrev pub hold_done : ClientSelf → ClientValue → TransactionValue → List ℕ → ClientDone
 hold_done me client t signature =
-    recover_held me (with_recovered client t signature) (Some (pursued t signature))
+    recover_held me (with_recovered client t signature) (Some (unstarted t signature))

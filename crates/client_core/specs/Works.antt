@@ -20,7 +20,6 @@ use Rattle.client_core.specs.declared.held.Slot.{Slot}
 use Rattle.client_core.specs.declared.work.ClientPlan.{ClientPlan}
 use Rattle.client_core.specs.declared.work.Work.{Work}
 use Rattle.client_core.specs.declared.work.Work.TheVariants.{Nothing, Ask, Pursue, Start, Hold, Reply, Take}
-use Rattle.client_core.specs.Calls.{pursued}
 use Rattle.client_core.specs.Clients.{ClientValue, ClientDone, SlotValue}
 use Rattle.client_core.specs.Clusters.{IsOf}
 use Rattle.client_core.specs.Kept.{kept_read, shown_read}
@@ -28,6 +27,7 @@ use Rattle.client_core.specs.Replying.{Replies, HasReplyRoomAt}
 use Rattle.client_core.specs.Showing.{ShowsHeld, ShowsSlot}
 use Rattle.client_core.specs.Slots.{most_slots, put_read, put_write, with_slot, with_pursuit}
 use Rattle.client_core.specs.Taking.{TakesIn}
+use Rattle.client_recover.specs.Owned.{unstarted}
 use Rattle.client_recover.specs.Taken.{PursuitValue}
 
 -- ---- what it does
@@ -41,7 +41,7 @@ abbrev pub asks : Asking → SlotValue → SlotValue
 asks asked s = record s { reads = put_read (record { key = asked.key; replies = [] }) s.reads }
 
 abbrev pub pursues : TransactionValue → List ℕ → SlotValue → SlotValue
-pursues t signature s = with_pursuit s (pursued t signature)
+pursues t signature s = with_pursuit s (unstarted t signature)
 
 abbrev pub starts : SlotValue → SlotValue
 starts s = record s { pursuit = option_map (λ (p : PursuitValue). record p { second = true }) s.pursuit }

@@ -2,6 +2,7 @@
 
 ghost use Rattle.std.specs.Prelude.{◌≡◌, ◌≤◌, ◌<◌, [], true, false, Some, OnErr};
 ghost use Rattle.std.specs.Prelude.{OnOk, IfOk, IfSome, option_map, length, slice_get};
+ghost use Rattle.basil_types.specs.Limits.{most_clients};
 ghost use Rattle.basil_types.specs.declared.party.Party.TheVariants as parties;
 ghost use Rattle.certificates.specs.Deciding.{HasGoodForm};
 ghost use Rattle.client_core.specs.Answers.{on_frame};
@@ -17,7 +18,6 @@ ghost use Rattle.client_core.specs.Works.{WillDo};
 ghost use Rattle.frame_views.specs.Fitting.{IsSignature};
 ghost use Rattle.node_steps.specs.Pens.{pen_value};
 
-use crate::append::append;
 use crate::fault::CallFault;
 use crate::held::Held;
 use crate::preparing::plan_prepare;
@@ -33,6 +33,7 @@ use basil_types::transaction::Transaction;
 use certificates::FrameFault;
 use keyring::signer::Signer;
 use keyring::verifier::Verifier;
+use node_steps::appending::append;
 use node_steps::pending::make_room;
 use std::alloc::Global;
 
@@ -49,9 +50,11 @@ pub struct Client<V: Verifier, S: Signer> {
 }
 
 impl<V: Verifier, S: Signer> Client<V, S> {
+    ghost use Rattle.client_core.specs.Shown.{ShowsClient};
+
     /// A client of this number, 1 to 16, before its first call.
     pub fn new(alloc: Global, cluster: Cluster, number: u8, keys: V, signer: S) -> Client<V, S>
-        requires number { (1 ≤ number) × (number ≤ 16) }
+        requires number { (1 ≤ number) × (number ≤ most_clients) }
         requires party { (S.fixed signer).party ≡ parties.Client number }
         ensures shown { let pen = pen_value (S.spent signer) (S.left_of signer) in
             Shows result.held pen (empty_client pen) }
@@ -74,16 +77,11 @@ impl<V: Verifier, S: Signer> Client<V, S> {
 
     /// Begins a transaction of this time, above all times before, and answers its slot.
     pub fn begin(&mut self, time: u64) -> Result<u32, CallFault>
-        ensures answer { (v : ClientValue) →
-            Shows self.old.held (pen_value (S.spent self.old.pen) (S.left_of self.old.pen)) v →
+        ensures answer { (v : ClientValue) → ShowsClient self.old v →
             Calls result (call_begin v time)
-            (λ d. Shows self.new.held (pen_value (S.spent self.new.pen) (S.left_of self.new.pen)) d.client) }
-        ensures slot { (v : ClientValue) →
-            Shows self.old.held (pen_value (S.spent self.old.pen) (S.left_of self.old.pen)) v →
-            IfOk result (λ slot. slot ≡ length v.slots) }
-        ensures as_before { (v : ClientValue) →
-            Shows self.old.held (pen_value (S.spent self.old.pen) (S.left_of self.old.pen)) v →
-            OnErr result (Shows self.new.held (pen_value (S.spent self.new.pen) (S.left_of self.new.pen)) v) }
+            (λ d. ShowsClient self.new d.client) }
+        ensures slot { (v : ClientValue) → ShowsClient self.old v → IfOk result (λ slot. slot ≡ length v.slots) }
+        ensures as_before { (v : ClientValue) → ShowsClient self.old v → OnErr result (ShowsClient self.new v) }
         ensures keys { self.new.keys ≡ self.old.keys }
         ensures pen { self.new.pen ≡ self.old.pen }
         ensures seat { self.new.seat ≡ self.old.seat }
@@ -101,9 +99,9 @@ impl<V: Verifier, S: Signer> Client<V, S> {
         requires { CanCommit (S.fixed self.old.pen) (pen_value (S.spent self.old.pen) (S.left_of self.old.pen))
             self.old.held plan }
         ensures done { (v : ClientValue) (d : ClientDone) →
-            Shows self.old.held (pen_value (S.spent self.old.pen) (S.left_of self.old.pen)) v →
+            ShowsClient self.old v →
             WillDo (S.fixed self.old.pen) self.old.held v plan d → OnOk result (
-            Shows self.new.held (pen_value (S.spent self.new.pen) (S.left_of self.new.pen)) d.client
+            ShowsClient self.new d.client
             × Sends out.old out.new d) }
         ensures as_before { OnErr result (self.new.held ≡ self.old.held) }
         ensures same_pen { OnErr result (self.new.pen ≡ self.old.pen) }
@@ -123,14 +121,11 @@ impl<V: Verifier, S: Signer> Client<V, S> {
     /// asked for.
     pub fn read(&mut self, slot: u32, key: &[u8], out: &mut Outbox) -> Result<(), CallFault>
         requires { slot < length self.old.held.slots.items }
-        ensures answer { (v : ClientValue) →
-            Shows self.old.held (pen_value (S.spent self.old.pen) (S.left_of self.old.pen)) v → Calls result
+        ensures answer { (v : ClientValue) → ShowsClient self.old v → Calls result
             (call_read (self_at self.old.seat (V.accepted self.old.keys) (S.fixed self.old.pen)) v slot key.now)
-            (λ d. Shows self.new.held (pen_value (S.spent self.new.pen) (S.left_of self.new.pen)) d.client
+            (λ d. ShowsClient self.new d.client
             × Sends out.old out.new d) }
-        ensures as_before { (v : ClientValue) →
-            Shows self.old.held (pen_value (S.spent self.old.pen) (S.left_of self.old.pen)) v →
-            OnErr result (Shows self.new.held (pen_value (S.spent self.new.pen) (S.left_of self.new.pen)) v) }
+        ensures as_before { (v : ClientValue) → ShowsClient self.old v → OnErr result (ShowsClient self.new v) }
         ensures same_outbox { OnErr result (SameOutbox out.old out.new) }
         ensures keys { self.new.keys ≡ self.old.keys }
         ensures seat { self.new.seat ≡ self.old.seat }
@@ -149,14 +144,11 @@ impl<V: Verifier, S: Signer> Client<V, S> {
     /// Forms and signs an open transaction, and sends it to every replica of every involved shard.
     pub fn prepare(&mut self, slot: u32, out: &mut Outbox) -> Result<(), CallFault>
         requires { slot < length self.old.held.slots.items }
-        ensures answer { (v : ClientValue) →
-            Shows self.old.held (pen_value (S.spent self.old.pen) (S.left_of self.old.pen)) v → Calls result
+        ensures answer { (v : ClientValue) → ShowsClient self.old v → Calls result
             (call_prepare (self_at self.old.seat (V.accepted self.old.keys) (S.fixed self.old.pen)) v slot)
-            (λ d. Shows self.new.held (pen_value (S.spent self.new.pen) (S.left_of self.new.pen)) d.client
+            (λ d. ShowsClient self.new d.client
             × Sends out.old out.new d) }
-        ensures as_before { (v : ClientValue) →
-            Shows self.old.held (pen_value (S.spent self.old.pen) (S.left_of self.old.pen)) v →
-            OnErr result (Shows self.new.held (pen_value (S.spent self.new.pen) (S.left_of self.new.pen)) v) }
+        ensures as_before { (v : ClientValue) → ShowsClient self.old v → OnErr result (ShowsClient self.new v) }
         ensures same_outbox { OnErr result (SameOutbox out.old out.new) }
         ensures keys { self.new.keys ≡ self.old.keys }
         ensures seat { self.new.seat ≡ self.old.seat }
@@ -174,14 +166,11 @@ impl<V: Verifier, S: Signer> Client<V, S> {
 
     /// Answers a frame, or refuses it.
     pub fn on_frame(&mut self, frame: &[u8], out: &mut Outbox) -> Result<(), FrameFault>
-        ensures answer { (v : ClientValue) →
-            Shows self.old.held (pen_value (S.spent self.old.pen) (S.left_of self.old.pen)) v → AnswersFrame result
+        ensures answer { (v : ClientValue) → ShowsClient self.old v → AnswersFrame result
             (on_frame (self_at self.old.seat (V.accepted self.old.keys) (S.fixed self.old.pen)) v frame.now)
-            (λ d. Shows self.new.held (pen_value (S.spent self.new.pen) (S.left_of self.new.pen)) d.client
+            (λ d. ShowsClient self.new d.client
             × Sends out.old out.new d) }
-        ensures as_before { (v : ClientValue) →
-            Shows self.old.held (pen_value (S.spent self.old.pen) (S.left_of self.old.pen)) v →
-            OnErr result (Shows self.new.held (pen_value (S.spent self.new.pen) (S.left_of self.new.pen)) v) }
+        ensures as_before { (v : ClientValue) → ShowsClient self.old v → OnErr result (ShowsClient self.new v) }
         ensures same_outbox { OnErr result (SameOutbox out.old out.new) }
         ensures keys { self.new.keys ≡ self.old.keys }
         ensures seat { self.new.seat ≡ self.old.seat }
@@ -200,13 +189,10 @@ impl<V: Verifier, S: Signer> Client<V, S> {
     /// Gives a key of an open transaction a value.
     pub fn write(&mut self, slot: u32, key: &[u8], value: &[u8]) -> Result<(), CallFault>
         requires { slot < length self.old.held.slots.items }
-        ensures answer { (v : ClientValue) →
-            Shows self.old.held (pen_value (S.spent self.old.pen) (S.left_of self.old.pen)) v → Calls result
+        ensures answer { (v : ClientValue) → ShowsClient self.old v → Calls result
             (call_write v slot (record { key = key.now; value = value.now; deletes = false }))
-            (λ d. Shows self.new.held (pen_value (S.spent self.new.pen) (S.left_of self.new.pen)) d.client) }
-        ensures as_before { (v : ClientValue) →
-            Shows self.old.held (pen_value (S.spent self.old.pen) (S.left_of self.old.pen)) v →
-            OnErr result (Shows self.new.held (pen_value (S.spent self.new.pen) (S.left_of self.new.pen)) v) }
+            (λ d. ShowsClient self.new d.client) }
+        ensures as_before { (v : ClientValue) → ShowsClient self.old v → OnErr result (ShowsClient self.new v) }
         ensures keys { self.new.keys ≡ self.old.keys }
         ensures pen { self.new.pen ≡ self.old.pen }
         ensures seat { self.new.seat ≡ self.old.seat }
@@ -224,13 +210,10 @@ impl<V: Verifier, S: Signer> Client<V, S> {
     /// Deletes a key in an open transaction.
     pub fn delete(&mut self, slot: u32, key: &[u8]) -> Result<(), CallFault>
         requires { slot < length self.old.held.slots.items }
-        ensures answer { (v : ClientValue) →
-            Shows self.old.held (pen_value (S.spent self.old.pen) (S.left_of self.old.pen)) v → Calls result
+        ensures answer { (v : ClientValue) → ShowsClient self.old v → Calls result
             (call_write v slot (record { key = key.now; value = []; deletes = true }))
-            (λ d. Shows self.new.held (pen_value (S.spent self.new.pen) (S.left_of self.new.pen)) d.client) }
-        ensures as_before { (v : ClientValue) →
-            Shows self.old.held (pen_value (S.spent self.old.pen) (S.left_of self.old.pen)) v →
-            OnErr result (Shows self.new.held (pen_value (S.spent self.new.pen) (S.left_of self.new.pen)) v) }
+            (λ d. ShowsClient self.new d.client) }
+        ensures as_before { (v : ClientValue) → ShowsClient self.old v → OnErr result (ShowsClient self.new v) }
         ensures keys { self.new.keys ≡ self.old.keys }
         ensures pen { self.new.pen ≡ self.old.pen }
         ensures seat { self.new.seat ≡ self.old.seat }
@@ -248,9 +231,7 @@ impl<V: Verifier, S: Signer> Client<V, S> {
     /// How many transactions it holds, each in a slot of its own, from slot 0 on.
     pub fn slots(&self) -> u32
         ensures held { result ≡ length self.now.held.slots.items }
-        ensures shown { (v : ClientValue) →
-            Shows self.now.held (pen_value (S.spent self.now.pen) (S.left_of self.now.pen)) v →
-            result ≡ length v.slots }
+        ensures shown { (v : ClientValue) → ShowsClient self.now v → result ≡ length v.slots }
     {
         self.held.count()
     }
@@ -259,7 +240,7 @@ impl<V: Verifier, S: Signer> Client<V, S> {
     pub fn value(&self, slot: u32, key: &[u8]) -> ReadState<'_>
         requires { slot < length self.now.held.slots.items }
         ensures { (v : ClientValue) (s : SlotValue) →
-            Shows self.now.held (pen_value (S.spent self.now.pen) (S.left_of self.now.pen)) v →
+            ShowsClient self.now v →
             slice_get v.slots slot ≡ Some s → told_state result ≡ slots.value self.now.seat.cluster s key.now }
     {
         self.held.slots[slot as usize].value(&self.seat.cluster, key)
@@ -269,7 +250,7 @@ impl<V: Verifier, S: Signer> Client<V, S> {
     pub fn formed(&self, slot: u32) -> Option<(&Transaction, &[u8])>
         requires { slot < length self.now.held.slots.items }
         ensures parts { (v : ClientValue) (s : SlotValue) →
-            Shows self.now.held (pen_value (S.spent self.now.pen) (S.left_of self.now.pen)) v →
+            ShowsClient self.now v →
             slice_get v.slots slot ≡ Some s → option_map shown_signed result ≡ slots.formed_in s }
         ensures fits { IfSome result (λ x. IsSignature x.1.now) }
         ensures form { IfSome result (λ x. HasGoodForm x.0.now) }

@@ -2,7 +2,6 @@
 #![tactic(auto)]
 
 mod address;
-mod append;
 mod ask;
 mod asking;
 mod begun;

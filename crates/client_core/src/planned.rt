@@ -1,10 +1,11 @@
 //! A client's calls in two halves: planned, and then done or given up.
 
 ghost use Rattle.std.specs.Prelude.{◌≡◌, IfErr, IfOk, length};
+ghost use Rattle.client_core.specs.Shown.{ShowsClient};
 ghost use Rattle.client_core.specs.Asks.{CanBeAsked, IsPlannedAsk, answer_to, by_call};
 ghost use Rattle.client_core.specs.Asks.{by_frame, is_call, is_call_fault, slot_of};
 ghost use Rattle.client_core.specs.Clients.{ClientDone, ClientValue};
-ghost use Rattle.client_core.specs.Done.{CanCommit, IsSent, KeepsSlots, Shows};
+ghost use Rattle.client_core.specs.Done.{CanCommit, IsSent, KeepsSlots};
 ghost use Rattle.client_core.specs.Letting.{IsLetGo};
 ghost use Rattle.client_core.specs.Seats.{self_at};
 ghost use Rattle.client_core.specs.Works.{WillDo, word_count};
@@ -52,19 +53,15 @@ impl<V: Verifier, S: Signer> Client<V, S> {
     /// what the client shows. The plan is for `commit` or `give_up`, with no other call of this client between.
     pub fn plan(&mut self, ask: Ask<'_>) -> Result<ClientPlan, AskFault>
         requires { CanBeAsked self.old.held ask }
-        ensures answer { (v : ClientValue) →
-            Shows self.old.held (pen_value (S.spent self.old.pen) (S.left_of self.old.pen)) v →
+        ensures answer { (v : ClientValue) → ShowsClient self.old v →
             IsPlannedAsk (S.fixed self.old.pen) self.new.held v result
             (answer_to (self_at self.old.seat (V.accepted self.old.keys) (S.fixed self.old.pen)) v ask.entry) }
         ensures kind { IfErr result (λ e. is_call_fault e ≡ is_call ask.entry) }
         ensures ready { IfOk result (CanCommit (S.fixed self.new.pen)
             (pen_value (S.spent self.new.pen) (S.left_of self.new.pen)) self.new.held) }
-        ensures slot { (v : ClientValue) →
-            Shows self.old.held (pen_value (S.spent self.old.pen) (S.left_of self.old.pen)) v →
+        ensures slot { (v : ClientValue) → ShowsClient self.old v →
             IfOk result (λ plan. plan.slot ≡ slot_of v ask.entry) }
-        ensures shown { (v : ClientValue) →
-            Shows self.old.held (pen_value (S.spent self.old.pen) (S.left_of self.old.pen)) v →
-            Shows self.new.held (pen_value (S.spent self.new.pen) (S.left_of self.new.pen)) v }
+        ensures shown { (v : ClientValue) → ShowsClient self.old v → ShowsClient self.new v }
         ensures keys { self.new.keys ≡ self.old.keys }
         ensures pen { self.new.pen ≡ self.old.pen }
         ensures seat { self.new.seat ≡ self.old.seat }
@@ -92,9 +89,9 @@ impl<V: Verifier, S: Signer> Client<V, S> {
         requires { CanCommit (S.fixed self.old.pen) (pen_value (S.spent self.old.pen) (S.left_of self.old.pen))
             self.old.held plan }
         ensures done { (v : ClientValue) (d : ClientDone) →
-            Shows self.old.held (pen_value (S.spent self.old.pen) (S.left_of self.old.pen)) v →
+            ShowsClient self.old v →
             WillDo (S.fixed self.old.pen) self.old.held v plan d →
-            Shows self.new.held (pen_value (S.spent self.new.pen) (S.left_of self.new.pen)) d.client
+            ShowsClient self.new d.client
             × IsSent result d }
         ensures messages { length result.messages.items ≡ plan.messages }
         ensures bytes { bytes_sent result.messages.items ≡ plan.bytes }
@@ -118,9 +115,7 @@ impl<V: Verifier, S: Signer> Client<V, S> {
 
     /// Lets a plan go. Everything is as it was before the plan.
     pub fn give_up(&mut self, plan: ClientPlan)
-        ensures shown { (v : ClientValue) →
-            Shows self.old.held (pen_value (S.spent self.old.pen) (S.left_of self.old.pen)) v →
-            Shows self.new.held (pen_value (S.spent self.new.pen) (S.left_of self.new.pen)) v }
+        ensures shown { (v : ClientValue) → ShowsClient self.old v → ShowsClient self.new v }
         // The frame that it would take isn't held back any more.
         ensures let_go { IsLetGo self.new.held plan.work }
         ensures keys { self.new.keys ≡ self.old.keys }

@@ -1,14 +1,14 @@
 //! A client's calls about transactions that are formed or recovered.
 
 ghost use Rattle.std.specs.Prelude.{◌≡◌, ◌<◌, Some, OnErr, IfOk, length, option_map, slice_get};
+ghost use Rattle.client_core.specs.Shown.{ShowsClient};
 ghost use Rattle.client_core.specs.Calls.{call_invoke, call_recover, call_settle, recovered_at};
 ghost use Rattle.client_core.specs.Clients.{ClientValue, SlotValue};
-ghost use Rattle.client_core.specs.Done.{Calls, KeepsSlots, SameOutbox, Sends, Shows};
+ghost use Rattle.client_core.specs.Done.{Calls, KeepsSlots, SameOutbox, Sends};
 ghost use Rattle.client_core.specs.Seats.{self_at};
 ghost use Rattle.client_core.specs.Slots.{held_in, outcome_in, slot_of_id};
 ghost use Rattle.client_recover.specs.Owned.{shown_outcome};
 ghost use Rattle.frame_views.specs.Fitting.{IsSignature};
-ghost use Rattle.node_steps.specs.Pens.{pen_value};
 
 use crate::client::Client;
 use crate::fault::CallFault;
@@ -27,14 +27,11 @@ impl<V: Verifier, S: Signer> Client<V, S> {
     /// replica of the log shard. Where it is decided, or its second stage has started, nothing happens.
     pub fn settle(&mut self, slot: u32, out: &mut Outbox) -> Result<(), CallFault>
         requires { slot < length self.old.held.slots.items }
-        ensures answer { (v : ClientValue) →
-            Shows self.old.held (pen_value (S.spent self.old.pen) (S.left_of self.old.pen)) v → Calls result
+        ensures answer { (v : ClientValue) → ShowsClient self.old v → Calls result
             (call_settle (self_at self.old.seat (V.accepted self.old.keys) (S.fixed self.old.pen)) v slot)
-            (λ d. Shows self.new.held (pen_value (S.spent self.new.pen) (S.left_of self.new.pen)) d.client
+            (λ d. ShowsClient self.new d.client
             × Sends out.old out.new d) }
-        ensures as_before { (v : ClientValue) →
-            Shows self.old.held (pen_value (S.spent self.old.pen) (S.left_of self.old.pen)) v →
-            OnErr result (Shows self.new.held (pen_value (S.spent self.new.pen) (S.left_of self.new.pen)) v) }
+        ensures as_before { (v : ClientValue) → ShowsClient self.old v → OnErr result (ShowsClient self.new v) }
         ensures same_outbox { OnErr result (SameOutbox out.old out.new) }
         ensures keys { self.new.keys ≡ self.old.keys }
         ensures seat { self.new.seat ≡ self.old.seat }
@@ -54,14 +51,11 @@ impl<V: Verifier, S: Signer> Client<V, S> {
     /// shard. Where it is decided nothing happens.
     pub fn invoke(&mut self, slot: u32, out: &mut Outbox) -> Result<(), CallFault>
         requires { slot < length self.old.held.slots.items }
-        ensures answer { (v : ClientValue) →
-            Shows self.old.held (pen_value (S.spent self.old.pen) (S.left_of self.old.pen)) v → Calls result
+        ensures answer { (v : ClientValue) → ShowsClient self.old v → Calls result
             (call_invoke (self_at self.old.seat (V.accepted self.old.keys) (S.fixed self.old.pen)) v slot)
-            (λ d. Shows self.new.held (pen_value (S.spent self.new.pen) (S.left_of self.new.pen)) d.client
+            (λ d. ShowsClient self.new d.client
             × Sends out.old out.new d) }
-        ensures as_before { (v : ClientValue) →
-            Shows self.old.held (pen_value (S.spent self.old.pen) (S.left_of self.old.pen)) v →
-            OnErr result (Shows self.new.held (pen_value (S.spent self.new.pen) (S.left_of self.new.pen)) v) }
+        ensures as_before { (v : ClientValue) → ShowsClient self.old v → OnErr result (ShowsClient self.new v) }
         ensures same_outbox { OnErr result (SameOutbox out.old out.new) }
         ensures keys { self.new.keys ≡ self.old.keys }
         ensures seat { self.new.seat ≡ self.old.seat }
@@ -86,18 +80,14 @@ impl<V: Verifier, S: Signer> Client<V, S> {
         out: &mut Outbox,
     ) -> Result<u32, CallFault>
         requires { IsSignature signature.now }
-        ensures answer { (v : ClientValue) →
-            Shows self.old.held (pen_value (S.spent self.old.pen) (S.left_of self.old.pen)) v → Calls result
+        ensures answer { (v : ClientValue) → ShowsClient self.old v → Calls result
             (call_recover (self_at self.old.seat (V.accepted self.old.keys) (S.fixed self.old.pen)) v
             t.now signature.now)
-            (λ d. Shows self.new.held (pen_value (S.spent self.new.pen) (S.left_of self.new.pen)) d.client
+            (λ d. ShowsClient self.new d.client
             × Sends out.old out.new d) }
-        ensures slot { (v : ClientValue) →
-            Shows self.old.held (pen_value (S.spent self.old.pen) (S.left_of self.old.pen)) v →
+        ensures slot { (v : ClientValue) → ShowsClient self.old v →
             IfOk result (λ slot. slot ≡ recovered_at v t.now) }
-        ensures as_before { (v : ClientValue) →
-            Shows self.old.held (pen_value (S.spent self.old.pen) (S.left_of self.old.pen)) v →
-            OnErr result (Shows self.new.held (pen_value (S.spent self.new.pen) (S.left_of self.new.pen)) v) }
+        ensures as_before { (v : ClientValue) → ShowsClient self.old v → OnErr result (ShowsClient self.new v) }
         ensures same_outbox { OnErr result (SameOutbox out.old out.new) }
         ensures keys { self.new.keys ≡ self.old.keys }
         ensures seat { self.new.seat ≡ self.old.seat }
@@ -119,8 +109,7 @@ impl<V: Verifier, S: Signer> Client<V, S> {
 
     /// The slot of the held formed transaction with this id. None where none is held.
     pub fn slot_of(&self, id: &[u8; 32]) -> Option<u32>
-        ensures { (v : ClientValue) →
-            Shows self.now.held (pen_value (S.spent self.now.pen) (S.left_of self.now.pen)) v →
+        ensures { (v : ClientValue) → ShowsClient self.now v →
             result ≡ slot_of_id v id.now }
     {
         match self.held.slot_of_id(id) {
@@ -133,7 +122,7 @@ impl<V: Verifier, S: Signer> Client<V, S> {
     pub fn held(&self, slot: u32) -> u32
         requires { slot < length self.now.held.slots.items }
         ensures { (v : ClientValue) (s : SlotValue) →
-            Shows self.now.held (pen_value (S.spent self.now.pen) (S.left_of self.now.pen)) v →
+            ShowsClient self.now v →
             slice_get v.slots slot ≡ Some s → result ≡ held_in s }
     {
         self.held.slots[slot as usize].held()
@@ -143,7 +132,7 @@ impl<V: Verifier, S: Signer> Client<V, S> {
     pub fn outcome(&self, slot: u32) -> Option<(Decision, &Certificate)>
         requires { slot < length self.now.held.slots.items }
         ensures { (v : ClientValue) (s : SlotValue) →
-            Shows self.now.held (pen_value (S.spent self.now.pen) (S.left_of self.now.pen)) v →
+            ShowsClient self.now v →
             slice_get v.slots slot ≡ Some s →
             option_map shown_outcome result ≡ outcome_in self.now.seat.cluster s }
     {

@@ -3,6 +3,7 @@
 ghost use Rattle.std.specs.Prelude.{◌≡◌, ◌<◌, true, List, OnOk, Some, length, position, slice_get};
 ghost use Rattle.std.specs.Option.{ForSome};
 ghost use Rattle.std.specs.Str.{bytes_eq};
+ghost use Rattle.basil_types.specs.Refusals.{Refuses};
 ghost use Rattle.client_core.specs.Clients.{AskedRead, ClientValue, SlotValue};
 ghost use Rattle.client_core.specs.Frames.{with_reply};
 ghost use Rattle.client_core.specs.Kept.{kept_read, shown_read};
@@ -10,7 +11,6 @@ ghost use Rattle.client_core.specs.Replying.{asked_fault, HasReplyRoomAt, IsPlac
 ghost use Rattle.client_core.specs.Replying.{Replies, TakesReply, TakesReplyAt, TellsAt};
 ghost use Rattle.client_core.specs.Showing.{KeepsReads, ShowsHeld, ShowsSlot};
 ghost use Rattle.client_core.specs.Slots.{put_read};
-ghost use Rattle.client_reads.specs.Faults.{Refuses};
 ghost use Rattle.frame_views.specs.Fitting.{FitsReadReply, bounds_of};
 ghost use Rattle.frame_views.specs.Shown.{read_reply_of};
 

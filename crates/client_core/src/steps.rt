@@ -4,6 +4,7 @@ ghost use Rattle.std.specs.Prelude.{◌≡◌, ◌≤◌, ◌||◌, ◌&&◌, tr
 ghost use Rattle.std.specs.Prelude.{None, is_some, length, nat_le, not, find, option_map, []};
 ghost use Rattle.std.specs.List.{list_any};
 ghost use Rattle.std.specs.Str.{bytes_eq};
+ghost use Rattle.basil_types.specs.Limits.{most_keys};
 ghost use Rattle.basil_types.specs.Built as built_of;
 ghost use Rattle.basil_types.specs.declared.transaction.parts.WritePart.{WritePart};
 ghost use Rattle.client_core.specs.declared.asking.Asking.{Asking};
@@ -20,6 +21,7 @@ use crate::fault::CallFault;
 use crate::held::Slot;
 use basil_types::bytes::Bytes;
 use basil_types::cluster::Cluster;
+use basil_types::limits::MOST_KEYS;
 use std::alloc::Global;
 
 /// What a read of a key does.
@@ -101,9 +103,9 @@ impl Slot {
     /// Whether the list of writes has no room for a write to this key.
     fn is_full_for(&self, key: &[u8]) -> bool
         ensures { result ≡ (not (list_any (λ (w : WritePart). bytes_eq w.key key.now) self.now.writes.items)
-            && nat_le 32 (length self.now.writes.items)) }
+            && nat_le most_keys (length self.now.writes.items)) }
     {
-        !self.is_written(key) && 32 <= self.writes.len()
+        !self.is_written(key) && MOST_KEYS <= self.writes.len()
     }
 
     /// What a read of this key does.
@@ -117,7 +119,7 @@ impl Slot {
     {
         let formed = self.formed.is_some();
         let known = self.knows(key);
-        let full = 32 <= self.reads.len();
+        let full = MOST_KEYS <= self.reads.len();
         step_of(formed, known, full, key_fits(key))
     }
 

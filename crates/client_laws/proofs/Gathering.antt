@@ -23,8 +23,9 @@ use Rattle.frame_views.specs.Values as values
 use Rattle.frame_views.specs.Values.{ReadReplyValue}
 use Rattle.node_steps.specs.Refusing.{when}
 use Rattle.client_core.specs.declared.fault.CallFault.TheVariants.{Empty, Exhausted, NotOpen, ReadPending}
-use Rattle.client_core.specs.Calls.{begun_slot, formed, pending, pursued, recovered_slot}
+use Rattle.client_core.specs.Calls.{begun_slot, formed, pending, recovered_slot}
 use Rattle.client_core.specs.Clients.{AskedRead, ClientDone, ClientSelf, ClientValue, SlotValue, empty_client}
+use Rattle.client_recover.specs.Owned.{unstarted}
 use Rattle.client_recover.specs.Taken.{PursuitValue}
 use Rattle.client_core.specs.Frames.{with_reply}
 use Rattle.client_core.specs.Slots.{as_read, is_chosen}
@@ -206,10 +207,10 @@ module _ (carries : ChoicesCarried) (me : ClientSelf) (hs : List Step) (client :
         carried = carries me.cluster (map carried_versions r.replies);
       })
 
-  backed : (new : ClientValue) (slot : ℕ) (signature : List ℕ) → pursuit_in new slot ≡ Some (pursued (formed me f) signature) →
+  backed : (new : ClientValue) (slot : ℕ) (signature : List ℕ) → pursuit_in new slot ≡ Some (unstarted (formed me f) signature) →
       Backed me hs new (id (formed me f))
   backed new slot signature at =
-      record { slot = slot; pursuit = pursued (formed me f) signature; at = at; named = refl; rests_on = rests }
+      record { slot = slot; pursuit = unstarted (formed me f) signature; at = at; named = refl; rests_on = rests }
 
 -- ---- steps
 
@@ -271,7 +272,7 @@ module _ (carries : ChoicesCarried) (me : ClientSelf) (hs : List Step) (client :
 
   now_formed : (d : ClientDone) (f : Formed me client d) →
       pursuit_in d.client f.slot
-      ≡ Some (pursued (formed me f.x) (me.signing.gives client.pen.spent (words_of (TransactionWords (id (formed me f.x))))))
+      ≡ Some (unstarted (formed me f.x) (me.signing.gives client.pen.spent (words_of (TransactionWords (id (formed me f.x))))))
   now_formed d f =
       ap (λ (x : ClientDone). pursuit_in x.client f.slot) f.is
       ∙ ap (λ (o : Option SlotValue). option_and_then (λ (x : SlotValue). x.pursuit) o) (set_same client.slots f.slot f.x _ f.at)

@@ -3,9 +3,10 @@ use Rattle.std.proofs.Common.{◌≡◌, ℕ, zero, suc, ◌+◌, List, [], ◌�
 use Rattle.std.proofs.Common.{refl, sym, ap, subst, ◌∙◌, ◌⊎◌, inl, inr, arith}
 use Rattle.std.specs.Prelude.{slice_get, option_and_then}
 use Rattle.std.proofs.lemmas.Option.{same_Some}
+use Rattle.client_recover.specs.Owned.{unstarted}
 use Rattle.basil_types.specs.Transaction.{id}
 use Rattle.basil_types.specs.Words.{SignedWords, TransactionWords, words_of}
-use Rattle.client_core.specs.Calls.{formed, pursued}
+use Rattle.client_core.specs.Calls.{formed}
 use Rattle.client_core.specs.Clients.{ClientDone, ClientSelf, ClientValue, SlotValue, empty_client}
 use Rattle.client_core.specs.Slots.{with_pursuit}
 use Rattle.client_laws.specs.Signing.{IsSignedAt, WordsTakePlaces}
@@ -29,7 +30,7 @@ pub formed_at : (me : ClientSelf) (client : ClientValue) (d : ClientDone) (f : F
     IsSignedAt me d.client client.pen.spent (id (formed me f.x))
 formed_at me client d f =
     let t = formed me f.x in
-    let p = pursued t (me.signing.gives client.pen.spent (words_of (TransactionWords (id t)))) in
+    let p = unstarted t (me.signing.gives client.pen.spent (words_of (TransactionWords (id t)))) in
     subst (λ (y : ClientDone). IsSignedAt me y.client client.pen.spent (id t)) (sym f.is)
     (record {
       slot = f.slot;

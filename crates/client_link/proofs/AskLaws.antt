@@ -8,6 +8,7 @@ use Rattle.std.proofs.lemmas.List.{drop_all}
 use Rattle.basil_types.specs.declared.outbox.Envelope.{Envelope}
 use Rattle.basil_types.specs.Links.{LinkState}
 use Rattle.basil_types.specs.Setting.{Setting}
+use Rattle.client_core.specs.Shown.{own, ShowsClient}
 use Rattle.client_core.specs.Clients.{ClientSelf, ClientValue}
 use Rattle.client_core.specs.declared.client.Client.{Client}
 use Rattle.client_core.specs.Done.{KeepsSlots}
@@ -17,8 +18,8 @@ use Rattle.keyring.specs.declared.verifier.Verifier as verifiers
 use Rattle.keyring.specs.declared.signer.Signer as signers
 use Rattle.node_link.specs.Asking.{Fate, Answered, IsAsked, RoseBy, failures_of}
 use Rattle.client_link.specs.declared.errands.Errands.{Errands}
-use Rattle.client_link.specs.Having.{HasAskedAll, HasAskedOne, HasAskedSome, HasTaken, IsAskedAt, IsTalk, SameWork, ShowsClient}
-use Rattle.client_link.specs.Having.{Speaks, own, work_left}
+use Rattle.client_link.specs.Having.{HasAskedAll, HasAskedOne, HasAskedSome, HasTaken, IsAskedAt, IsTalk, SameWork}
+use Rattle.client_link.specs.Having.{Speaks, work_left}
 use Rattle.client_link.specs.Talking.{Talk, asking, asks, asks_first, asks_next, failures, given_at, links_after, takes_all}
 use Rattle.client_link.proofs.TalkLaws.{speaks_same, speaks_then}
 

@@ -8,6 +8,7 @@ use Rattle.basil_types.specs.declared.outbox.Envelope.{Envelope}
 use Rattle.basil_types.specs.Links.{LinkState}
 use Rattle.basil_types.specs.Setting.{Setting}
 use Rattle.certificates.specs.declared.fault.FrameFault.{FrameFault}
+use Rattle.client_core.specs.Shown.{own, ShowsClient}
 use Rattle.client_core.specs.Answers.{on_frame}
 use Rattle.client_core.specs.Clients.{ClientDone, ClientSelf, ClientValue}
 use Rattle.client_core.specs.declared.client.Client.{Client}
@@ -18,7 +19,7 @@ use Rattle.keyring.specs.declared.verifier.Verifier as verifiers
 use Rattle.keyring.specs.declared.signer.Signer as signers
 use Rattle.node_steps.specs.Framed.{framed}
 use Rattle.client_link.specs.declared.errands.Errands.{Errands}
-use Rattle.client_link.specs.Having.{Carries, Full, Joins, HasTaken, IsTalk, SameWork, ShowsClient, Speaks, own}
+use Rattle.client_link.specs.Having.{Carries, Full, Joins, HasTaken, IsTalk, SameWork, Speaks}
 use Rattle.client_link.specs.Talking.{Talk, answered, carries, takes, takes_all}
 
 -- ---- what is said

@@ -5,6 +5,7 @@ use Rattle.std.proofs.Common.{Result, Ok, Err, is_some, refl, sym, ap, subst, â—
 use Rattle.std.specs.Prelude.{map, slice_get, not, nat_lt}
 use Rattle.basil_types.specs.declared.transaction.parts.WritePart.{WritePart}
 use Rattle.basil_types.specs.Links.{LinkState}
+use Rattle.client_core.specs.Shown.{own, ShowsClient}
 use Rattle.client_core.specs.declared.client.Client.{Client}
 use Rattle.client_core.specs.declared.fault.CallFault.{CallFault}
 use Rattle.client_core.specs.declared.fault.CallFault.TheVariants as calls
@@ -23,7 +24,7 @@ use Rattle.client_link.specs.declared.op.Op.{Op}
 use Rattle.client_link.specs.declared.fault.RunFault.{RunFault}
 use Rattle.client_link.specs.declared.fault.RunFault.TheVariants.{Undecided, Call, NoMemory}
 use Rattle.client_link.specs.Having.{ComesTo, HasAskedAll, HasCalled, HasCome, HasEnded, HasGone, HasRun, HasTurned}
-use Rattle.client_link.specs.Having.{IsTalk, OnEnd, ShowsClient, fault_told, own}
+use Rattle.client_link.specs.Having.{IsTalk, OnEnd, fault_told}
 use Rattle.client_link.specs.Running.{Calling, Runs, RunsBegun, RunsPlan, StopsOr, Turn, closing, ending, held_at, if_logged, outcome_at}
 use Rattle.client_link.specs.Running.{formed_at, invokes, recovers, recovery, sends, starting, turns_of}
 use Rattle.frame_views.specs.Values.{SignedValue}

@@ -4,32 +4,21 @@ use Rattle.std.specs.Prelude.{Option, Some, None, Result, Ok, Err, ⊤}
 use Rattle.basil_types.specs.declared.outbox.Envelope.{Envelope}
 use Rattle.basil_types.specs.Links.{LinkState}
 use Rattle.basil_types.specs.Setting.{Setting}
+use Rattle.client_core.specs.Shown.{ShowsClient, own}
 use Rattle.client_core.specs.declared.fault.CallFault.{CallFault}
 use Rattle.client_core.specs.declared.fault.CallFault.TheVariants as calls
 use Rattle.client_core.specs.Clients.{ClientDone, ClientSelf, ClientValue}
 use Rattle.client_core.specs.declared.client.Client.{Client}
-use Rattle.client_core.specs.Done.{Shows}
-use Rattle.client_core.specs.Seats.{self_at}
 use Rattle.cluster_file.specs.Listing.{Listing, address_in}
 use Rattle.keyring.specs.declared.verifier.Verifier as verifiers
 use Rattle.keyring.specs.declared.signer.Signer as signers
 use Rattle.node_link.specs.Asking.{Fate, RoseBy, failures_of}
-use Rattle.node_steps.specs.Pens.{pen_value}
 use Rattle.client_link.specs.declared.errands.Errands.{Errands}
 use Rattle.client_link.specs.declared.fault.RunFault.{RunFault}
 use Rattle.client_link.specs.declared.fault.RunFault.TheVariants.{Undecided, Call, NoMemory}
 use Rattle.client_link.specs.Running.{Going, Runs, Turn, sends}
 use Rattle.client_laws.specs.Saying.{said}
 use Rattle.client_link.specs.Talking.{AsksAll, Talk, asking, asks, asks_next, failures, given_at, links_after}
-
--- what doesn't change of a client
-abbrev pub own : {V S : Type 0} {v : verifiers.Ghosts V} {g : signers.Ghosts S} → Client V S v g → ClientSelf
-own {V} {S} {v} {g} client = self_at client.seat (v.accepted client.keys) (g.fixed client.pen)
-
-abbrev pub ShowsClient : {V S : Type 0} {v : verifiers.Ghosts V} {g : signers.Ghosts S} → Client V S v g → ClientValue →
-    Type 0
-ShowsClient {V} {S} {v} {g} client value =
-    Shows client.held (pen_value (g.spent client.pen) (g.left_of client.pen)) value
 
 -- the client shows what it holds, the links tell theirs, and behind the messages that were asked stand those that wait
 pub record IsTalk {V S : Type 0} {v : verifiers.Ghosts V} {g : signers.Ghosts S} (client : Client V S v g)

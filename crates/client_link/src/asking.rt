@@ -2,8 +2,9 @@
 
 ghost use Rattle.std.specs.Prelude.{◌≡◌, ◌<◌, ◌≤◌, true, false, Some, Ok, IfOk, length, slice_get};
 ghost use Rattle.basil_types.specs.Links.{LinkState};
+ghost use Rattle.client_core.specs.Shown.{own};
 ghost use Rattle.client_core.specs.Done.{KeepsSlots};
-ghost use Rattle.client_link.specs.Having.{HasAskedAll, HasAskedOne, HasAskedSome, IsAskedAt, IsTalk, own, work_left};
+ghost use Rattle.client_link.specs.Having.{HasAskedAll, HasAskedOne, HasAskedSome, IsAskedAt, IsTalk, work_left};
 ghost use Rattle.client_link.specs.Talking.{Talk};
 
 use crate::errands::Errands;

@@ -2,10 +2,11 @@
 
 ghost use Rattle.std.specs.Prelude.{◌≡◌, ◌<◌, ◌≤◌, ◌∷◌, [], Option, Result, length};
 ghost use Rattle.basil_types.specs.Links.{LinkState};
+ghost use Rattle.client_core.specs.Shown.{own, ShowsClient};
 ghost use Rattle.client_core.specs.declared.fault.CallFault.{CallFault};
 ghost use Rattle.client_core.specs.Clients.{ClientDone, ClientValue};
 ghost use Rattle.client_core.specs.Done.{KeepsSlots};
-ghost use Rattle.client_link.specs.Having.{ComesTo, HasCalled, HasTurned, IsTalk, ShowsClient, fault_told, own};
+ghost use Rattle.client_link.specs.Having.{ComesTo, HasCalled, HasTurned, IsTalk, fault_told};
 ghost use Rattle.client_link.specs.Running.{held_at, turn_of, turns_of};
 ghost use Rattle.client_link.specs.Talking.{Talk};
 

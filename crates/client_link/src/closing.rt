@@ -2,9 +2,10 @@
 
 ghost use Rattle.std.specs.Prelude.{◌≡◌, ◌<◌, ◌≤◌, ◌∷◌, [], IfOk, IfSome, Option, option_map, length, is_some};
 ghost use Rattle.basil_types.specs.Links.{LinkState};
+ghost use Rattle.client_core.specs.Shown.{own, ShowsClient};
 ghost use Rattle.client_core.specs.Clients.{ClientValue};
 ghost use Rattle.client_core.specs.Done.{KeepsSlots};
-ghost use Rattle.client_link.specs.Having.{HasCalled, HasTurned, IsTalk, ShowsClient, own};
+ghost use Rattle.client_link.specs.Having.{HasCalled, HasTurned, IsTalk};
 ghost use Rattle.client_link.specs.Running.{closing, formed_at, invokes, outcome_at, recovers};
 ghost use Rattle.client_link.specs.Stages.{shown_copy, stage_turn, stage_turns};
 ghost use Rattle.client_link.specs.Talking.{Talk};

@@ -2,9 +2,10 @@
 
 ghost use Rattle.std.specs.Prelude.{◌≡◌, ◌<◌, ◌≤◌, ◌++◌, Some, IfOk, length};
 ghost use Rattle.basil_types.specs.Links.{LinkState};
+ghost use Rattle.client_core.specs.Shown.{own, ShowsClient};
 ghost use Rattle.client_core.specs.Clients.{ClientValue};
 ghost use Rattle.client_core.specs.Done.{KeepsSlots};
-ghost use Rattle.client_link.specs.Having.{HasRun, IsTalk, OnEnd, ShowsClient, own};
+ghost use Rattle.client_link.specs.Having.{HasRun, IsTalk, OnEnd};
 ghost use Rattle.client_link.specs.Running.{Runs, RunsPlan, closing, starting, turns_of};
 ghost use Rattle.client_link.specs.Talking.{Talk};
 

@@ -2,8 +2,9 @@
 
 ghost use Rattle.std.specs.Prelude.{◌≡◌, false, Option, IfOk, Ok};
 ghost use Rattle.basil_types.specs.Links.{LinkState};
+ghost use Rattle.client_core.specs.Shown.{own};
 ghost use Rattle.client_core.specs.Done.{KeepsSlots};
-ghost use Rattle.client_link.specs.Having.{Carries, HasTaken, IsTalk, SameWork, own};
+ghost use Rattle.client_link.specs.Having.{Carries, HasTaken, IsTalk, SameWork};
 ghost use Rattle.client_link.specs.Talking.{Talk, answered, takes, takes_all};
 ghost use Rattle.client_core.specs.Answers.{on_frame};
 

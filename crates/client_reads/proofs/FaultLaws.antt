@@ -5,6 +5,7 @@ use Rattle.std.specs.Str.{bytes_eq}
 use Rattle.std.proofs.lemmas.Bool.{and_parts, and_from, eqb-true, eq-eqb}
 use Rattle.std.proofs.lemmas.List.Elements.{Contains-append_left, Contains-append_right}
 use Rattle.std.proofs.lemmas.Slice.Eq.{bytes_eq-Decides}
+use Rattle.basil_types.specs.Refusals.{Refuses}
 use Rattle.basil_types.proofs.MemberLaws.{in_head}
 use Rattle.basil_types.specs.Built.{or_else}
 use Rattle.basil_types.specs.declared.party.Decision.TheVariants.{Commit}
@@ -20,7 +21,7 @@ use Rattle.certificates.specs.Laws.{CertificatesCarry}
 use Rattle.certificates.specs.Refusals.{refusal}
 use Rattle.certificates.specs.declared.fault.FrameFault.{FrameFault}
 use Rattle.certificates.specs.declared.fault.FrameFault.TheVariants.{NotMine, BadSignature, BadVersion, BadCertificate}
-use Rattle.client_reads.specs.Faults.{Refuses, IsOfContents}
+use Rattle.client_reads.specs.Faults.{IsOfContents}
 use Rattle.client_reads.specs.Laws.{RepliesExactly, RepliesGrow, RepliesAlike, RepliesCarry}
 use Rattle.client_reads.specs.Replies.{IsSeenCommitted, IsValidReply, answers, is_missing_or_seen, sees_all, not_mine, bad_signature}
 use Rattle.client_reads.specs.Replies.{bad_version, bad_proof, bad_certificate, reply_fault}

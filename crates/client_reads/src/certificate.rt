@@ -3,8 +3,8 @@
 ghost use Rattle.frame_views.specs.Fitting.{FitsReadReply, bounds_of};
 ghost use Rattle.frame_views.specs.Shown.{read_reply_of};
 ghost use Rattle.std.specs.Prelude.{IfSome};
+ghost use Rattle.basil_types.specs.Refusals.{Refuses};
 ghost use Rattle.certificates.specs.Deciding.{HasGoodForm};
-ghost use Rattle.client_reads.specs.Faults.{Refuses};
 ghost use Rattle.client_reads.specs.Replies.{bad_certificate};
 
 use basil_types::cluster::Cluster;

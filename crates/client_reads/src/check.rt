@@ -1,9 +1,10 @@
 //! Which read replies a client takes.
 
 ghost use Rattle.std.specs.Prelude.{◌≡◌, ◌↔◌, IsOk, IfErr};
+ghost use Rattle.basil_types.specs.Refusals.{Refuses};
 ghost use Rattle.frame_views.specs.Fitting.{FitsReadReply, bounds_of};
 ghost use Rattle.frame_views.specs.Shown.{read_of, read_reply_of};
-ghost use Rattle.client_reads.specs.Faults.{Refuses, IsOfContents};
+ghost use Rattle.client_reads.specs.Faults.{IsOfContents};
 ghost use Rattle.client_reads.specs.Replies.{IsValidReply, reply_fault};
 
 use crate::certificate::check_certificate;

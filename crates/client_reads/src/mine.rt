@@ -1,7 +1,7 @@
 //! Which reply answers a read.
 
+ghost use Rattle.basil_types.specs.Refusals.{Refuses};
 ghost use Rattle.frame_views.specs.Shown.{read_of, read_reply_of};
-ghost use Rattle.client_reads.specs.Faults.{Refuses};
 ghost use Rattle.client_reads.specs.Replies.{not_mine};
 
 use basil_types::cluster::Cluster;

@@ -1,11 +1,11 @@
 //! Which transactions a read may see.
 
 ghost use Rattle.std.specs.Prelude.{◌≡◌, option_map, OnOk, IfSome};
+ghost use Rattle.basil_types.specs.Refusals.{Refuses};
 ghost use Rattle.basil_types.specs.Shown.{transaction_of};
 ghost use Rattle.frame_views.specs.Shown.{committed_of, read_of, read_reply_of};
 ghost use Rattle.certificates.specs.Deciding.{HasGoodForm};
 ghost use Rattle.client_reads.specs.Replies as replies;
-ghost use Rattle.client_reads.specs.Faults.{Refuses};
 ghost use Rattle.client_reads.specs.Replies.{bad_version};
 ghost use Rattle.client_reads.specs.Versions as versions;
 

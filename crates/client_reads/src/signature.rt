@@ -1,8 +1,8 @@
 //! Whether the replica that a reply names signed it.
 
+ghost use Rattle.basil_types.specs.Refusals.{Refuses};
 ghost use Rattle.frame_views.specs.Fitting.{FitsReadReply, bounds_of};
 ghost use Rattle.frame_views.specs.Shown.{read_reply_of};
-ghost use Rattle.client_reads.specs.Faults.{Refuses};
 ghost use Rattle.client_reads.specs.Replies.{bad_signature};
 
 use crate::versions::versions_of;

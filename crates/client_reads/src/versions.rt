@@ -6,10 +6,9 @@ ghost use Rattle.frame_views.specs.Shown.{committed_of, read_reply_of};
 ghost use Rattle.frame_views.specs.Signed.{committed_told, version_told};
 ghost use Rattle.client_reads.specs.Versions.{carried_versions};
 
-use basil_types::transaction::TransactionView;
 use basil_types::version::Version;
-use frame_views::frames::{CommittedView, ReadReplyView};
-use txn_meta::form::version_of;
+use frame_views::frames::ReadReplyView;
+use frame_views::signed::{committed_version, prepared_version};
 
 /// The versions of a key that a read reply carries; a missing one is genesis.
 #[derive(Clone, Copy, PartialEq, Eq)]
@@ -20,32 +19,12 @@ pub struct ReplyVersions {
     pub prepared: Version,
 }
 
-/// The version of a transaction that may be missing.
-fn version_told(t: Option<TransactionView<'_>>) -> Version
-    ensures { result ≡ version_told (option_map transaction_of t.entry) }
-{
-    match t {
-        Some(transaction) => version_of(transaction),
-        None => Version::genesis(),
-    }
-}
-
-/// The version of a committed transaction that may be missing.
-fn committed_told(committed: Option<CommittedView<'_>>) -> Version
-    ensures { result ≡ committed_told (option_map committed_of committed.entry) }
-{
-    match committed {
-        Some(part) => version_of(part.transaction),
-        None => Version::genesis(),
-    }
-}
-
 /// The versions that a read reply carries. Takes no memory.
 pub fn versions_of(reply: &ReadReplyView<'_>) -> ReplyVersions
     ensures { result ≡ carried_versions (read_reply_of reply.now) }
 {
     ReplyVersions {
-        committed: committed_told(reply.committed),
-        prepared: version_told(reply.prepared),
+        committed: committed_version(reply.committed),
+        prepared: prepared_version(reply.prepared),
     }
 }

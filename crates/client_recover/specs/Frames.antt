@@ -13,10 +13,6 @@ use Rattle.node_steps.specs.Refusing.{unless}
 use Rattle.client_recover.specs.Taken.{TakenValue, TakenVote, TakenLog, TakenCertificate}
 use Rattle.client_recover.specs.Faults.{vote_fault, log_fault, writeback_fault}
 
--- Ok exactly where there is no fault, and otherwise that one
-abbrev pub Refuses : Result (Unit {0}) FrameFault → Option FrameFault → Type 0
-Refuses result fault = MatchResult result (λ _. fault ≡ None) (λ f. fault ≡ Some f)
-
 -- ---- what a message says, by kinds
 
 abbrev pub vote_of : MessageValue → Option VotedValue

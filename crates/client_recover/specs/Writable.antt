@@ -4,6 +4,7 @@ use Rattle.std.specs.Coded.{×_prop, Π_prop, Unit-prop}
 use Rattle.std.specs.List.{All}
 use Rattle.std.specs.Option.{ForSome}
 use Rattle.std.proofs.Props.{props}
+use Rattle.basil_types.specs.Limits.{IsU64}
 use Rattle.basil_types.specs.declared.party.Decision.{Decision}
 use Rattle.basil_types.specs.Lists.{AreItems}
 use Rattle.basil_types.specs.Transaction.{TransactionValue, IsTransaction, FitsRead, FitsWrite, key_of_read}
@@ -13,7 +14,7 @@ use Rattle.frame_values.specs.declared.owned.parts.InvokePart.{InvokePart}
 use Rattle.frame_values.specs.declared.owned.parts.LogPart.{LogPart}
 use Rattle.frame_values.specs.Owned.{certificate_value}
 use Rattle.frame_views.specs.declared.bounds.Bounds.{Bounds}
-use Rattle.frame_views.specs.Fitting.{widest, IsNumber, IsSignature, AreCounted, after_vote, after_tally, after_log}
+use Rattle.frame_views.specs.Fitting.{widest, IsSignature, AreCounted, after_vote, after_tally, after_log}
 use Rattle.frame_views.specs.Fitting.{FitsVote, FitsVotes, FitsTally, FitsTallies, FitsLog, FitsCommitBody, FitsCommit}
 use Rattle.frame_views.specs.Fitting.{FitsBody, FitsCertificate}
 use Rattle.frame_views.specs.Values.{VoteValue, TallyValue, LogValue, LogReplyValue, CommitBody, FastCommit, Logged}
@@ -39,24 +40,24 @@ AreSigned votes = All IsSigned votes
 
 -- a log reply, as each frame with one carries it
 pub record IsSound (r : LogReplyValue) : Type 0 where
-  pub decided : IsNumber r.decided
+  pub decided : IsU64 r.decided
   pub later : r.decided ≤ r.current
-  pub current : IsNumber r.current
+  pub current : IsU64 r.current
   pub signature : IsSignature r.signature
 
 -- the earliest one of a replica that was decided in a view
 pub record IsEarliest (view replica : ℕ) (p : LogPart) : Type 0 where
   pub numbered : p.replica ≡ replica
   pub later : view ≤ p.current
-  pub current : IsNumber p.current
+  pub current : IsU64 p.current
   pub signature : IsSignature p.signature
 
 -- the latest one of a replica
 pub record IsLatest (replica : ℕ) (p : InvokePart) : Type 0 where
   pub numbered : p.replica ≡ replica
-  pub decided : IsNumber p.decided
+  pub decided : IsU64 p.decided
   pub later : p.decided ≤ p.current
-  pub current : IsNumber p.current
+  pub current : IsU64 p.current
   pub signature : IsSignature p.signature
 
 pub record AreSound (l : Logs) : Type 0 where

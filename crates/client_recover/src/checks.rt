@@ -1,6 +1,7 @@
 //! Which frames a client takes for a transaction that it pursues.
 
 ghost use Rattle.std.specs.Prelude.{◌≡◌, Bool, option_map, option_and_then};
+ghost use Rattle.basil_types.specs.Refusals.{Refuses};
 ghost use Rattle.basil_types.specs.Shown.{transaction_of};
 ghost use Rattle.certificates.specs.Deciding.{HasGoodForm};
 ghost use Rattle.certificates.specs.declared.fault.FrameFault.TheVariants as faults;
@@ -11,7 +12,6 @@ ghost use Rattle.frame_views.specs.Signed.{vote_signed, log_signed};
 ghost use Rattle.node_steps.specs.Refusing.{needs};
 ghost use Rattle.client_recover.specs.Counting.{as_vote};
 ghost use Rattle.client_recover.specs.Faults.{not_accepted, vote_fault, log_fault, writeback_fault};
-ghost use Rattle.client_recover.specs.Frames.{Refuses};
 ghost use Rattle.client_recover.specs.Pursuits.{as_reply};
 
 use basil_types::cluster::Cluster;

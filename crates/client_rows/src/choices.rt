@@ -22,8 +22,8 @@ fn version_at(time: u64) -> Version {
     }
 }
 
-/// The times of the versions that two replies carry, of the committed ones and of the prepared ones; that of the version
-/// that is chosen with f = 1, and whether it is a dependency. Genesis has the time 0.
+/// The times of the versions that two replies carry, of the committed ones and of the prepared ones; that of the
+/// version that is chosen with f = 1, and whether it is a dependency. Genesis has the time 0.
 type Row = ([u64; 2], [u64; 2], u64, bool);
 
 const CHOSEN: &[Row] = &[

@@ -1,6 +1,7 @@
 //! A client, and how many slots it holds.
 
 ghost use Rattle.std.specs.Prelude.{◌≡◌, ◌≤◌, ◌<◌, ℕ, Some};
+ghost use Rattle.basil_types.specs.Limits.{most_clients};
 ghost use Rattle.client_scenes.specs.Guests.{HoldsSlots};
 ghost use Rattle.node_steps.specs.Pens.{pen_value};
 
@@ -80,7 +81,7 @@ impl Guest {
 
     /// A client of this number before its first call.
     pub(crate) fn new(alloc: Global, cluster: Cluster, number: u8, pen: LmsPen) -> Guest
-        requires number { (1 ≤ number) × (number ≤ 16) }
+        requires number { (1 ≤ number) × (number ≤ most_clients) }
         requires party { (⟦<LmsPen as Signer>⟧.fixed pen).party ≡ parties.Client number }
     {
         let keys = PlainKeys::new(&cluster);

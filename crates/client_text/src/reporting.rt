@@ -2,9 +2,9 @@
 
 ghost use Rattle.std.specs.Prelude.{◌≡◌, ◌<◌, ◌++◌, ◌∷◌, [], codes, IfOk, OnOk, length};
 ghost use Rattle.std.specs.List.{flat_map};
+ghost use Rattle.client_core.specs.Shown.{own, ShowsClient};
 ghost use Rattle.client_core.specs.Clients.{ClientValue};
 ghost use Rattle.client_core.specs.Keeping.{told_state};
-ghost use Rattle.client_link.specs.Having.{ShowsClient, own};
 ghost use Rattle.client_link.specs.Running.{outcome_at, value_at};
 ghost use Rattle.client_text.specs.Reports as reports;
 ghost use Rattle.client_text.specs.Reports.{fate_line, keys_with, read_line, report_of, state_token};

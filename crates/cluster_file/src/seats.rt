@@ -9,6 +9,7 @@ ghost use Rattle.cluster_file.specs.Seats.{parties_of, all_below};
 
 use crate::draft::{ClientText, Draft, ReplicaText};
 use basil_types::cluster::Cluster;
+use basil_types::limits::MOST_CLIENTS;
 use basil_types::memory::NoMemory;
 use basil_types::party::Party;
 use std::alloc::Global;
@@ -51,7 +52,7 @@ fn seat_of_client<'a>(client: &ClientText<'a>, cluster: &Cluster) -> Option<Seat
     ensures { result ≡ known_seat cluster.now (client_seat client.now) }
 {
     let number = client.number.small()?;
-    if 1 <= number && number <= 16 {
+    if 1 <= number && number <= MOST_CLIENTS {
         Some(Seat {
             party: Party::Client { number },
             public: client.public,

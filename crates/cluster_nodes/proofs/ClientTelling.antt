@@ -4,6 +4,7 @@ use Rattle.std.proofs.lemmas.List.{append-nil}
 use Rattle.basil_types.specs.declared.outbox.Envelope.{Envelope}
 use Rattle.basil_types.specs.declared.outbox.Outbox.{Outbox}
 use Rattle.keyring.specs.Signing.{Signing}
+use Rattle.node_steps.specs.Pens.{GivesItsSize}
 use Rattle.node_steps.specs.Framed.{framed}
 use Rattle.node_steps.specs.Pendings.{bytes_sent}
 use Rattle.client_core.specs.Clients.{ClientDone, ClientValue}
@@ -12,7 +13,7 @@ use Rattle.client_core.specs.declared.work.ClientPlan.{ClientPlan}
 use Rattle.client_core.specs.declared.work.Work.{Work}
 use Rattle.client_core.specs.declared.work.Work.TheVariants.{Nothing, Ask, Pursue, Start, Hold, Reply, Take}
 use Rattle.client_core.specs.Works.{CanPerform, CanWork, WillDo, pending_bytes, pending_count, sealed_by}
-use Rattle.cluster_nodes.specs.Sizes.{Counts, GivesItsSize}
+use Rattle.cluster_nodes.specs.Sizes.{Counts}
 use Rattle.cluster_nodes.proofs.Telling.{counts_sealed, gives_now}
 
 counts_all : (sent : List Envelope) → Counts sent (length sent) (bytes_sent sent)

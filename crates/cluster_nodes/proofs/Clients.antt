@@ -28,7 +28,7 @@ use Rattle.client_core.specs.Seats.{self_at}
 use Rattle.client_core.specs.Works.{CanPerform, WillDo}
 use Rattle.keyring.specs.declared.verifier.Verifier as verifiers
 use Rattle.keyring.specs.declared.signer.Signer as signers
-use Rattle.node_steps.specs.Pens.{pen_value}
+use Rattle.node_steps.specs.Pens.{pen_value, GivesItsSize}
 use Rattle.cluster_run.specs.Parts.{client_self}
 use Rattle.cluster_run.specs.States.{Setup}
 use Rattle.cluster_nodes.specs.declared.calling.StandingClient.{StandingClient}
@@ -36,7 +36,7 @@ use Rattle.cluster_nodes.specs.declared.handled.Handled.{Handled}
 use Rattle.cluster_nodes.specs.declared.handled.Handled.TheVariants.{Refused, Full, Sent}
 use Rattle.message_pool.specs.declared.pool.Room.{Room}
 use Rattle.cluster_nodes.specs.Asking.{Answers, HasSignature, RefusesAsk, slot_named}
-use Rattle.cluster_nodes.specs.Sizes.{ClientPlansTell, GivesItsSize}
+use Rattle.cluster_nodes.specs.Sizes.{ClientPlansTell}
 use Rattle.cluster_nodes.specs.Standings.{HoldsAs}
 use Rattle.cluster_nodes.proofs.Holding.{gives_after}
 use Rattle.cluster_nodes.proofs.Taking.{fits_as_told}

@@ -1,7 +1,7 @@
 -- What a planned answer of a client leaves of its pen.
 use Rattle.std.proofs.Common.{◌≡◌, ◌+◌, ap, arith}
 use Rattle.keyring.specs.Signing.{Signing}
-use Rattle.node_steps.specs.Pens.{PenValue}
+use Rattle.node_steps.specs.Pens.{PenValue, GivesItsSize}
 use Rattle.client_core.specs.Clients.{ClientDone, ClientValue}
 use Rattle.client_core.specs.declared.held.Held.{Held}
 use Rattle.client_core.specs.declared.work.ClientPlan.{ClientPlan}
@@ -9,7 +9,6 @@ use Rattle.client_core.specs.declared.work.Work.{Work}
 use Rattle.client_core.specs.declared.work.Work.TheVariants.{Nothing, Ask, Pursue, Start, Hold, Reply, Take}
 use Rattle.client_core.specs.Works.{CanPerform, CanWork, Leaves, WillDo}
 use Rattle.basil_types.specs.declared.outbox.Outbox.{Outbox}
-use Rattle.cluster_nodes.specs.Sizes.{GivesItsSize}
 
 -- the pen gives no more than it had
 abbrev Gives : ClientValue → ClientValue → Type 0

@@ -8,7 +8,7 @@ use Rattle.basil_types.specs.declared.party.Party.TheVariants as parties
 use Rattle.fallback_leader.specs.declared.words.KeptWord.{KeptWord}
 use Rattle.keyring.specs.declared.verifier.Verifier as verifiers
 use Rattle.keyring.specs.declared.signer.Signer as signers
-use Rattle.node_steps.specs.Pens.{pen_value}
+use Rattle.node_steps.specs.Pens.{pen_value, GivesItsSize}
 use Rattle.replica_core.specs.declared.parts.Parts.{Parts}
 use Rattle.replica_core.specs.declared.plan.Plan.{Plan}
 use Rattle.replica_core.specs.declared.refusal.Refusal.{Refusal}
@@ -30,7 +30,7 @@ use Rattle.message_pool.specs.declared.pool.Room.{Room}
 use Rattle.cluster_nodes.specs.declared.standing.StandingReplica.{StandingReplica}
 use Rattle.cluster_nodes.specs.Handling.{Takes}
 use Rattle.cluster_nodes.specs.Refusing.{Refuses}
-use Rattle.cluster_nodes.specs.Sizes.{Counts, GivesItsSize, PlansTell}
+use Rattle.cluster_nodes.specs.Sizes.{Counts, PlansTell}
 use Rattle.cluster_nodes.specs.Standings.{StandsAs}
 use Rattle.cluster_nodes.proofs.Taking.{answered, fits_as_told, gives_after, shown_same}
 

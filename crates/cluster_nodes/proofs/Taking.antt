@@ -8,7 +8,7 @@ use Rattle.keyring.specs.Signing.{Signing}
 use Rattle.node_steps.specs.Envelopes.{EnvelopeValue}
 use Rattle.node_steps.specs.Framed.{framed}
 use Rattle.node_steps.specs.Pendings.{bytes_sent}
-use Rattle.node_steps.specs.Pens.{PenValue}
+use Rattle.node_steps.specs.Pens.{PenValue, GivesItsSize}
 use Rattle.txn_table.specs.Entries.{EntryValue}
 use Rattle.replica_core.specs.declared.parts.Parts.{Parts}
 use Rattle.replica_core.specs.declared.refusal.Refusal.{Refusal}
@@ -22,7 +22,7 @@ use Rattle.basil_types.specs.declared.outbox.Outbox.{Outbox}
 use Rattle.cluster_nodes.specs.Handling.{HasRoom, fits}
 use Rattle.std.proofs.Math.Dec.{leb-zero}
 use Rattle.std.proofs.lemmas.Bool.{leb-true}
-use Rattle.cluster_nodes.specs.Sizes.{Counts, GivesItsSize}
+use Rattle.cluster_nodes.specs.Sizes.{Counts}
 
 -- ---- what is shown
 

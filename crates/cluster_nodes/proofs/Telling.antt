@@ -8,7 +8,7 @@ use Rattle.keyring.specs.Signing.{Signing}
 use Rattle.node_steps.specs.declared.pending.Pending.{Pending}
 use Rattle.node_steps.specs.declared.pending.Unsigned.{Unsigned}
 use Rattle.node_steps.specs.Pendings.{bytes_in, bytes_sent, sealed, sealed_all}
-use Rattle.node_steps.specs.Pens.{PenValue, after_one}
+use Rattle.node_steps.specs.Pens.{PenValue, after_one, GivesItsSize}
 use Rattle.replica_core.specs.declared.logging.Said.{Said}
 use Rattle.replica_core.specs.declared.logging.Said.TheVariants.{Again, Anew, Entered}
 use Rattle.replica_core.specs.declared.parts.Parts.{Parts}
@@ -25,7 +25,7 @@ use Rattle.replica_core.specs.Nodes.{CanCommit, perform_plan}
 use Rattle.replica_core.specs.Replicas.{BookValue}
 use Rattle.replica_core.specs.Telling.{Told, begun, with_signed}
 use Rattle.replica_core.specs.Works as works
-use Rattle.cluster_nodes.specs.Sizes.{Counts, GivesItsSize}
+use Rattle.cluster_nodes.specs.Sizes.{Counts}
 
 -- ---- frames with their signatures
 

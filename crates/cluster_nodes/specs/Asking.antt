@@ -1,5 +1,6 @@
 -- What a client that is asked comes to, under the room of a pool.
 use Rattle.std.specs.Prelude.{◌≡◌, ◌≢◌, ℕ, ⊤, true, false, Option, Some, None, Result, Ok, Err}
+use Rattle.node_steps.specs.Holding.{Holds}
 use Rattle.basil_types.specs.declared.memory.NoMemory.{NoMemory}
 use Rattle.certificates.specs.declared.fault.FrameFault.TheVariants as frames
 use Rattle.client_core.specs.Asks.{is_call, is_call_fault}
@@ -18,7 +19,7 @@ use Rattle.cluster_nodes.specs.declared.calling.StandingClient.{StandingClient}
 use Rattle.cluster_nodes.specs.declared.handled.Handled.{Handled}
 use Rattle.cluster_nodes.specs.declared.handled.Handled.TheVariants.{Refused, Full, Sent}
 use Rattle.message_pool.specs.declared.pool.Room.{Room}
-use Rattle.cluster_nodes.specs.Handling.{Holds, fits}
+use Rattle.cluster_nodes.specs.Handling.{fits}
 use Rattle.cluster_nodes.specs.Standings.{HoldsAs}
 
 -- a signature that is given has a good length

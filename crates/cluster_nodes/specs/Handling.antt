@@ -2,9 +2,9 @@
 use Rattle.std.specs.Prelude.{◌≡◌, ◌≤◌, ◌&&◌, ⊤, Bool, true, false, List, length, map, nat_le, Result, Ok, Err}
 use Rattle.basil_types.specs.declared.memory.NoMemory.{NoMemory}
 use Rattle.basil_types.specs.declared.outbox.Outbox.{Outbox}
-use Rattle.basil_types.specs.Words.{SignedWords, words_of}
 use Rattle.keyring.specs.declared.verifier.Verifier as verifiers
 use Rattle.keyring.specs.declared.signer.Signer as signers
+use Rattle.node_steps.specs.Holding.{Holds}
 use Rattle.node_steps.specs.Envelopes.{EnvelopeValue}
 use Rattle.node_steps.specs.Framed.{framed}
 use Rattle.node_steps.specs.Pendings.{bytes_sent}
@@ -21,11 +21,6 @@ use Rattle.cluster_nodes.specs.Standings.{StandsAs}
 abbrev pub fits : Room → List EnvelopeValue → Bool
 fits room sent =
     nat_le (length (map framed sent)) room.messages && nat_le (bytes_sent (map framed sent)) room.bytes
-
--- the outbox has the messages and the signed words, each in order
-pub record Holds (out : Outbox) (mail : List EnvelopeValue) (said : List SignedWords) : Type 0 where
-  pub messages : out.messages.items ≡ map framed mail
-  pub signed : out.signed.items ≡ map words_of said
 
 -- what is sent has room
 pub record HasRoom (room : Room) (out : Outbox) : Type 0 where

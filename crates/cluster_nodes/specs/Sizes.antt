@@ -1,11 +1,11 @@
 -- What a plan tells of the messages that it will send.
-use Rattle.std.specs.Prelude.{◌≡◌, ℕ, ◌+◌, ◌<◌, List, length, map}
+use Rattle.std.specs.Prelude.{◌≡◌, ℕ, List, length, map}
 use Rattle.basil_types.specs.declared.outbox.Envelope.{Envelope}
 use Rattle.fallback_leader.specs.declared.words.KeptWord.{KeptWord}
 use Rattle.keyring.specs.Signing.{Signing}
 use Rattle.node_steps.specs.Framed.{framed}
 use Rattle.node_steps.specs.Pendings.{bytes_sent}
-use Rattle.node_steps.specs.Pens.{PenValue}
+use Rattle.node_steps.specs.Pens.{GivesItsSize}
 use Rattle.client_core.specs.Clients.{ClientDone, ClientValue}
 use Rattle.client_core.specs.declared.held.Held.{Held}
 use Rattle.client_core.specs.declared.work.ClientPlan.{ClientPlan}
@@ -15,11 +15,6 @@ use Rattle.replica_core.specs.declared.plan.Plan.{Plan}
 use Rattle.replica_core.specs.Nodes.{CanCommit, perform_plan}
 use Rattle.replica_core.specs.Replicas.{BookValue}
 use Rattle.replica_core.specs.Telling.{begun}
-
--- each signature that the pen still gives has the size of its signatures
-abbrev pub GivesItsSize : Signing → PenValue → Type 0
-GivesItsSize signing pen =
-    (place : ℕ) (words : List ℕ) → place < pen.spent + pen.left → length (signing.gives place words) ≡ signing.size
 
 -- so many messages, and so many bytes of their frames together
 pub record Counts (sent : List Envelope) (count size : ℕ) : Type 0 where

@@ -6,7 +6,7 @@ use Rattle.certificates.specs.Accepted.{Accepted}
 use Rattle.keyring.specs.declared.verifier.Verifier as verifiers
 use Rattle.keyring.specs.declared.signer.Signer as signers
 use Rattle.keyring.specs.Signing.{Signing}
-use Rattle.node_steps.specs.Pens.{PenValue, pen_value}
+use Rattle.node_steps.specs.Pens.{PenValue, pen_value, GivesItsSize}
 use Rattle.replica_core.specs.Nodes.{Shows}
 use Rattle.replica_core.specs.Seats.{self_at}
 use Rattle.client_core.specs.Clients.{ClientValue}
@@ -16,7 +16,6 @@ use Rattle.cluster_run.specs.Parts.{client_self, replica_self}
 use Rattle.cluster_run.specs.States.{KitValue, Setup, Standing}
 use Rattle.cluster_nodes.specs.declared.calling.StandingClient.{StandingClient}
 use Rattle.cluster_nodes.specs.declared.standing.StandingReplica.{StandingReplica}
-use Rattle.cluster_nodes.specs.Sizes.{GivesItsSize}
 
 -- a keyring that accepts this, and a pen at this place that signs so, are those of a kit for a party, of one size
 pub record IsOf (k : KitValue) (party : Party)

@@ -2,6 +2,7 @@
 
 ghost use Rattle.std.specs.Prelude.{◌≡◌, ◌≤◌, ◌<◌, ℕ, [], true, false, IfOk, IfSome};
 ghost use Rattle.std.specs.Prelude.{Ok, length, option_map, option_and_then, slice_get};
+ghost use Rattle.basil_types.specs.Limits.{most_clients};
 ghost use Rattle.basil_types.specs.declared.party.Party.TheVariants as parties;
 ghost use Rattle.certificates.specs.Deciding.{HasGoodForm};
 ghost use Rattle.client_core.specs.Asks.{CanBeAsked, answer_to};
@@ -62,7 +63,7 @@ impl<V: Verifier, S: Signer> StandingClient<V, S> {
         keys: V,
         signer: S,
     ) -> StandingClient<V, S>
-        requires number { (1 ≤ number) × (number ≤ 16) }
+        requires number { (1 ≤ number) × (number ≤ most_clients) }
         requires party { (S.fixed signer).party ≡ parties.Client number }
         ensures { (s : Setup) → cluster ≡ s.cluster →
             IsOf s.kit (parties.Client number) (V.accepted keys) (S.fixed signer)

@@ -18,10 +18,11 @@ use Rattle.client_core.specs.Answers.{on_message}
 use Rattle.node_steps.specs.Pens.{PenValue, after_one}
 use Rattle.client_core.specs.Calls as calls
 use Rattle.client_core.specs.Calls.{at_slot, by_slot, begun_slot, call_begin, is_written, read_fault, read_at, read_done}
-use Rattle.client_core.specs.Calls.{write_fault, pending, pursued, prepare_fault, prepare_done}
+use Rattle.client_core.specs.Calls.{write_fault, pending, prepare_fault, prepare_done}
 use Rattle.client_core.specs.Calls.{settle_by, recovered_slot, recover_held, recover_by, invoke_by, pursuit_done}
 use Rattle.client_core.specs.Calls.{formed}
 use Rattle.client_core.specs.Clients.{ClientSelf, ClientValue, ClientDone, SlotValue, AskedRead, quiet}
+use Rattle.client_recover.specs.Owned.{unstarted}
 use Rattle.client_recover.specs.Taken.{PursuitValue, TakenValue}
 use Rattle.client_core.specs.declared.fault.CallFault.{CallFault}
 use Rattle.client_core.specs.declared.fault.CallFault.TheVariants as callfault
@@ -441,7 +442,7 @@ module _ (me : ClientSelf) (Took : Takes) (E : OfKind) (c : ClientValue) (held :
         let free = not_some was.pursuit callfault.NotOpen a.0 in
         let t : TransactionValue = formed me was in
         let p : PursuitValue =
-        pursued t (me.signing.gives c.pen.spent (Rattle.basil_types.specs.Words.words_of (TransactionWords (id t)))) in
+        unstarted t (me.signing.gives c.pen.spent (Rattle.basil_types.specs.Words.words_of (TransactionWords (id t)))) in
         let s : SlotValue = with_pursuit was p in
         let done : ClientDone = prepare_done me c place was in
         to done d o.1

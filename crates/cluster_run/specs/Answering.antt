@@ -1,7 +1,8 @@
 -- Each answer of a replica is a list of lawful acts.
-use Rattle.std.specs.Prelude.{◌≡◌, ℕ, ◌<◌, ◌^◌, ◌++◌, List, Bool, true, Some, Ok, Contains}
+use Rattle.std.specs.Prelude.{◌≡◌, ℕ, ◌<◌, ◌++◌, List, Bool, true, Some, Ok, Contains}
 use Rattle.std.specs.List.{IsDistinct}
 use Rattle.std.specs.Str.{bytes_eq}
+use Rattle.basil_types.specs.Limits.{IsU64}
 use Rattle.basil_types.specs.declared.party.Party.{Party}
 use Rattle.basil_types.specs.declared.party.Party.TheVariants.{Replica}
 use Rattle.basil_types.specs.Setting.{Setting, IsSetting}
@@ -91,8 +92,8 @@ AnswersKeepOrder =
 -- ---- sizes
 
 pub record AreNumbers (cell : LogCell) : Type 0 where
-  pub decided : cell.decided < 2 ^ 64
-  pub current : cell.current < 2 ^ 64
+  pub decided : IsU64 cell.decided
+  pub current : IsU64 cell.current
 
 -- known transactions have spellings, and logged views are numbers of 64 bits
 pub record IsSized (book : BookValue) : Type 0 where

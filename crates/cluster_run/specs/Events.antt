@@ -5,6 +5,7 @@ use Rattle.std.specs.Prelude.{slice_get, slice_set, length, is_some, nat_lt, if�
 use Rattle.std.specs.Option.{option_map_or}
 use Rattle.node_steps.specs.Lists.{by_key, put}
 use Rattle.node_steps.specs.Refusing.{unless_refused}
+use Rattle.basil_types.specs.Limits.{most_keys}
 use Rattle.basil_types.specs.Built.{built, key_fits, write_fits}
 use Rattle.basil_types.specs.Steps.{◌>>=◌}
 use Rattle.basil_types.specs.declared.party.Party.{Party}
@@ -18,7 +19,7 @@ use Rattle.basil_types.specs.Transaction.{id, version_of, key_of_read}
 use Rattle.basil_types.specs.Words.{TransactionWords}
 use Rattle.client_core.specs.declared.fault.CallFault.{CallFault}
 use Rattle.client_core.specs.declared.fault.CallFault.TheVariants.{NotOpen, TooMany, SizeOut, Empty, NotPrepared}
-use Rattle.client_core.specs.Calls.{most_keys, call_begin, call_read, call_write}
+use Rattle.client_core.specs.Calls.{call_begin, call_read, call_write}
 use Rattle.client_core.specs.Calls.{call_prepare, call_settle, call_recover, call_invoke}
 use Rattle.client_core.specs.Clients.{ClientValue, ClientDone, SlotValue}
 use Rattle.client_recover.specs.Taken.{PursuitValue}

@@ -1,6 +1,7 @@
 -- What a client holds of its slots, and what it keeps and signs at a call or a frame.
+use Rattle.basil_types.specs.Limits.{IsU64, most_keys}
 use Rattle.basil_types.specs.Texts.{IsBytes, IsKey, IsValue}
-use Rattle.std.specs.Prelude.{◌≡◌, ℕ, ◌+◌, ◌<◌, ◌^◌, length, ◌≤◌, List, [], ◌∷◌, true, false}
+use Rattle.std.specs.Prelude.{◌≡◌, ℕ, ◌+◌, length, ◌≤◌, List, [], ◌∷◌, true, false}
 use Rattle.std.specs.Prelude.{Option, Some, None, Contains, Ok, is_some, Bool, slice_get}
 use Rattle.std.specs.declared.cmp.Ordering.TheVariants.{Less}
 use Rattle.std.specs.Ordering.{nat_cmp}
@@ -37,10 +38,10 @@ pub record IsWrite (w : WritePart) : Type 0 where
 
 -- what a slot holds has the sizes of a transaction's parts
 pub record AreSized (slot : SlotValue) : Type 0 where
-  pub time : slot.begun ≡ true → slot.time < 2 ^ 64
-  pub few_reads : length slot.reads ≤ 32
+  pub time : slot.begun ≡ true → IsU64 slot.time
+  pub few_reads : length slot.reads ≤ most_keys
   pub keys : (r : AskedRead) → Contains slot.reads r → IsKey r.key
-  pub few_writes : length slot.writes ≤ 32
+  pub few_writes : length slot.writes ≤ most_keys
   pub rise : AscendBy key_of_write slot.writes
   pub writes : (w : WritePart) → Contains slot.writes w → IsWrite w
 
@@ -113,7 +114,7 @@ pub record ClientsGo (me : ClientSelf) (Took : Takes) (E : OfKind) : Type 0 wher
       ((r : ReadReplyValue) → m ≡ ReadReply r → (read : ReadValue) → reply_fault me.accepts me.cluster read r ≡ None →
       Took read r) →
       on_message me c m ≡ Ok d → Went me Took E c d
-  pub at_begin : (c : ClientValue) (time : ℕ) (d : ClientDone) → time < 2 ^ 64 → IsHeld me Took c → call_begin c time
+  pub at_begin : (c : ClientValue) (time : ℕ) (d : ClientDone) → IsU64 time → IsHeld me Took c → call_begin c time
       ≡ Ok d → Went me Took E c d
   pub at_read : (c : ClientValue) (place : ℕ) (key : List ℕ) (d : ClientDone) → IsBytes key → IsHeld me Took c →
       call_read me c place key ≡ Ok d → Went me Took E c d

@@ -2,6 +2,7 @@
 use Rattle.std.specs.Prelude.{ℕ, ◌+◌, ◌-◌, List, [], ◌∷◌, ◌++◌, Bool, not, ◌&&◌, ◌||◌, Option, Some, None, Result}
 use Rattle.std.specs.Prelude.{Ok, Err, filter, map, length, slice_set, sum, nat_lt, nat_le, is_none, if◌then◌else◌}
 use Rattle.std.specs.List.{list_all}
+use Rattle.basil_types.specs.declared.outbox.Envelope.{Envelope}
 use Rattle.basil_types.specs.Steps.{◌>>=◌}
 use Rattle.basil_types.specs.declared.party.Party.{Party}
 use Rattle.basil_types.specs.declared.party.Party.TheVariants.{Replica, Client}
@@ -72,6 +73,10 @@ pub record Mail : Type 0 where
   pub from : Party
   pub to : Party
   pub frame : List ℕ
+
+-- an envelope that a party sends
+abbrev pub mail_from : Party → Envelope → Mail
+mail_from from e = record { from = from; to = e.to; frame = e.frame }
 
 abbrev pub mail_bytes : List Mail → ℕ
 mail_bytes mail = sum (map (λ (m : Mail). length m.frame) mail)

@@ -1,5 +1,6 @@
 -- Every run without a breach is safe.
-use Rattle.std.specs.Prelude.{◌≡◌, ℕ, ◌+◌, ◌<◌, ◌^◌, List, [], ◌∷◌, Ok}
+use Rattle.std.specs.Prelude.{◌≡◌, ℕ, ◌+◌, ◌<◌, List, [], ◌∷◌, Ok}
+use Rattle.basil_types.specs.Limits.{IsU64}
 use Rattle.basil_types.specs.declared.party.Party.TheVariants.{Client}
 use Rattle.basil_types.specs.Texts.{IsBytes}
 use Rattle.frame_views.specs.Fitting.{IsSignature}
@@ -10,7 +11,7 @@ use Rattle.cluster_run.specs.States.{KitValue, Setup, IsSetup, State, start}
 
 -- times are numbers of 64 bits, and keys and values are bytes
 abbrev pub IsEvent : EventValue → Type 0
-IsEvent (event.Begin client time) = time < 2 ^ 64
+IsEvent (event.Begin client time) = IsU64 time
 IsEvent (event.Read tx key) = IsBytes key
 IsEvent (event.Write tx w) = IsBytes w.key × IsBytes w.value
 IsEvent _ = Unit {0}

@@ -4,7 +4,6 @@ use Rattle.basil_types.specs.Setting.{Setting}
 use Rattle.basil_types.specs.Transaction.{TransactionValue, id}
 use Rattle.basil_types.specs.Words.{SignedWords, TransactionWords, VoteWords, ReadReplyWords}
 use Rattle.basil_types.specs.Words.{LogReplyWords, ElectionWords, ProposalWords}
-use Rattle.txn_table.specs.declared.released.Home.{Home}
 use Rattle.agreement_laws.specs.Words as laws
 use Rattle.agreement_laws.specs.Settings as settings
 use Rattle.law_joins.specs.Shown.{decision_of as decision_as}
@@ -17,9 +16,6 @@ Lookup = List ℕ → TransactionValue
 -- it has this transaction under its id
 abbrev pub Finds : Lookup → TransactionValue → Type 0
 Finds tx t = tx (id t) ≡ t
-
-abbrev pub home_of : Setting → ℕ → Home
-home_of c shard = record { cluster = c; shard = shard }
 
 -- agreement asks nothing of clients
 abbrev pub basis_of : Setting → (shard-replica : ℕ → ℕ → Bool) → Lookup → Basis

@@ -2,6 +2,7 @@
 use Rattle.std.specs.Prelude.{ℕ, ◌-◌, ◌≤◌, ◌==◌, ◌&&◌, find, nat_le, slice_get}
 use Rattle.std.specs.Prelude.{if◌then◌else◌, List, [], ◌∷◌, Bool, Option, None, map}
 use Rattle.std.specs.List.{flat_map, list_any, range_with_len}
+use Rattle.basil_types.specs.Limits.{most_clients}
 use Rattle.basil_types.specs.declared.party.Party.{Party}
 use Rattle.basil_types.specs.declared.party.Party.TheVariants.{Replica, Client}
 use Rattle.basil_types.specs.declared.transaction.parts.ReadPart.{ReadPart}
@@ -115,7 +116,7 @@ shard_standing s shard = map (first_standing s shard) (range_with_len 0 (replica
 abbrev pub start : Setup → State
 start s = record {
   replicas = flat_map (shard_standing s) (range_with_len 0 s.cluster.shards);
-  clients = map (λ number. empty_client (s.kit.pen (Client number))) (range_with_len 1 16);
+  clients = map (λ number. empty_client (s.kit.pen (Client number))) (range_with_len 1 most_clients);
   lied = [];
   begun = [];
   pool = [];

@@ -15,10 +15,11 @@ use Rattle.client_core.specs.declared.fault.CallFault.{CallFault}
 use Rattle.keyring.specs.declared.verifier.Verifier as verifiers
 use Rattle.keyring.specs.declared.signer.Signer as signers
 use Rattle.message_pool.specs.Posts.{PoolValue, pool_bytes}
+use Rattle.node_steps.specs.Holding.{Holds}
 use Rattle.node_steps.specs.Envelopes.{EnvelopeValue}
 use Rattle.cluster_nodes.specs.declared.handled.Handled.{Handled}
 use Rattle.cluster_nodes.specs.declared.handled.Handled.TheVariants as did
-use Rattle.cluster_nodes.specs.Handling.{Holds, fits}
+use Rattle.cluster_nodes.specs.Handling.{fits}
 use Rattle.cluster_run.specs.declared.fault.WorldFault.TheVariants as worlds
 use Rattle.cluster_run.specs.Events.{at_client, by_client, called}
 use Rattle.cluster_run.specs.Parts.{client_self, mail_of, noted, send}

@@ -16,8 +16,8 @@ use Rattle.message_pool.specs.Posts.{PoolValue, pool_bytes, posted_at}
 use Rattle.basil_types.specs.declared.outbox.Outbox.{Outbox}
 use Rattle.basil_types.specs.Texts.{IsBytes}
 use Rattle.basil_types.specs.Words.{SignedWords}
+use Rattle.node_steps.specs.Holding.{Holds}
 use Rattle.node_steps.specs.Envelopes.{EnvelopeValue}
-use Rattle.cluster_nodes.specs.Handling.{Holds}
 use Rattle.cluster_run.specs.declared.fault.WorldFault.{WorldFault}
 use Rattle.cluster_run.specs.declared.fault.WorldFault.TheVariants as worlds
 use Rattle.cluster_run.specs.Parts.{are_bytes, handle, handle_by, hand, see, send}

@@ -14,10 +14,9 @@ use Rattle.cluster_run.specs.declared.fault.WorldFault.{WorldFault}
 use Rattle.cluster_run.specs.declared.fault.WorldFault.TheVariants as worlds
 use Rattle.cluster_run.specs.Events.{Raw, Second, at_formed, happens}
 use Rattle.cluster_run.specs.Faulty.{LieValue, after_lie, faulty_second, faulty_signature, has_left, lies, spent_by}
-use Rattle.cluster_run.specs.Parts.{enter, enter_all, mail_of}
+use Rattle.cluster_run.specs.Parts.{enter, enter_all, mail_of, mail_from}
 use Rattle.cluster_run.specs.States.{BegunValue, FormedValue, Setup, State, is_faulty}
 use Rattle.faulty_parties.specs.declared.lie.Lie.{Lie}
-use Rattle.faulty_parties.specs.Holding.{mailed}
 use Rattle.faulty_parties.specs.Lies.{Tells}
 use Rattle.faulty_parties.specs.Pens.{LiesAs}
 use Rattle.faulty_parties.specs.Unsaid.{Unsaid}
@@ -34,7 +33,7 @@ use Rattle.cluster_world.specs.Comes.{Comes}
 use Rattle.cluster_world.specs.declared.engine.Engine.{Engine}
 use Rattle.cluster_world.specs.declared.fault.StepFault.{StepFault}
 use Rattle.cluster_world.specs.Lying.{exhausted, says, says_as}
-use Rattle.cluster_world.specs.Sending.{Goes, HasRoomFor, full_of, mail_from, mails, room_of}
+use Rattle.cluster_world.specs.Sending.{Goes, HasRoomFor, full_of, mails, room_of}
 use Rattle.cluster_world.specs.Shows.{Shows, Stands}
 use Rattle.cluster_world.proofs.AskingLaws.{room_left}
 use Rattle.cluster_world.proofs.SendingLaws.{Leaves, enters_by, fits_room, full_by, mails_same, room_by, same_size}
@@ -175,7 +174,7 @@ module _ {V S : Type 0} (v : verifiers.Ghosts V) (g : signers.Ghosts S) (s : Set
 module _ {V S : Type 0} (v : verifiers.Ghosts V) (g : signers.Ghosts S) (s : Setup) (st : State) where
   pub second_comes : (core new : Engine V S v g) (f : FormedValue) (tx : ℕ) (d : Decision) (replica number : ℕ) (m : Envelope)
       (r : Result (Unit {0}) StepFault) → Shows s core st → Some f ≡ formed_in core.begun.items tx → number ≡ f.transaction.client →
-      faulty_second s f d replica st ≡ mailed (Client f.transaction.client) m ∷ [] →
+      faulty_second s f d replica st ≡ mail_from (Client f.transaction.client) m ∷ [] →
       Comes s st (enter s (mail_from (Client number) m ∷ []) st) new r → Comes s st (happens s (Second tx d replica) st) new r
   second_comes core new f tx d replica number m r h some own mail comes =
       subst (λ x. Comes s st x new r)

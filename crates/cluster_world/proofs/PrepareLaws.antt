@@ -24,6 +24,7 @@ use Rattle.frame_views.specs.Values.{SignedValue}
 use Rattle.keyring.specs.declared.verifier.Verifier as verifiers
 use Rattle.keyring.specs.declared.signer.Signer as signers
 use Rattle.message_pool.specs.Posts.{PoolValue}
+use Rattle.node_steps.specs.Holding.{Holds}
 use Rattle.node_steps.specs.Envelopes.{EnvelopeValue}
 use Rattle.txn_meta.specs.declared.form.FormFault.{FormFault}
 use Rattle.txn_meta.specs.declared.form.FormFault.TheVariants.{Empty}
@@ -31,7 +32,6 @@ use Rattle.txn_meta.specs.Form.{is_empty}
 use Rattle.cluster_nodes.specs.Asking.{IsOfKind}
 use Rattle.cluster_nodes.specs.declared.handled.Handled.{Handled}
 use Rattle.cluster_nodes.specs.declared.handled.Handled.TheVariants as did
-use Rattle.cluster_nodes.specs.Handling.{Holds}
 use Rattle.cluster_run.specs.declared.fault.WorldFault.{WorldFault}
 use Rattle.cluster_run.specs.declared.fault.WorldFault.TheVariants as worlds
 use Rattle.cluster_run.specs.Events.{at_formed, by_client, called, held_call, prepared_by, prepares_own, recovers_at, set_begun}

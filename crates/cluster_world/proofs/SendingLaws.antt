@@ -33,6 +33,7 @@ use Rattle.basil_types.specs.Transaction.{TransactionValue}
 use Rattle.premise_watch.specs.Breaches.{WatchValue, after_marks, first_breach, seen_text}
 use Rattle.premise_watch.specs.Marks.{MarkValue, Signature, Text, marks}
 use Rattle.cluster_nodes.specs.Handling.{fits}
+use Rattle.cluster_run.specs.Parts.{mail_from}
 use Rattle.cluster_run.specs.declared.fault.WorldFault.{WorldFault}
 use Rattle.cluster_run.specs.declared.fault.WorldFault.TheVariants as worlds
 use Rattle.cluster_run.specs.Parts.{Mail, mail_bytes, has_room, posted, read_frame, see, see_message, enter, enter_all, mail_of, noted, saw}
@@ -44,7 +45,7 @@ use Rattle.cluster_world.specs.declared.fault.StepFault.{StepFault}
 use Rattle.cluster_world.specs.declared.fault.StepFault.TheVariants as faults
 use Rattle.cluster_world.specs.Breaking.{step_fault}
 use Rattle.cluster_world.specs.Comes.{Comes}
-use Rattle.cluster_world.specs.Sending.{Goes, HasRoomFor, IsWithin, full_of, has_frame_at, mail_from, mails, room_of}
+use Rattle.cluster_world.specs.Sending.{Goes, HasRoomFor, IsWithin, full_of, has_frame_at, mails, room_of}
 use Rattle.sight_laws.specs.Seen.{IsSeenFrame, PoolIsSeen}
 use Rattle.sight_laws.proofs.Growing.{enter_grows, grows_noted, see_grows}
 use Rattle.sight_laws.proofs.Happening.{pool_seen}

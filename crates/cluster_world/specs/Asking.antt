@@ -1,5 +1,6 @@
 -- What a client of a world does that is asked.
 use Rattle.std.specs.Prelude.{◌≡◌, ◌≢◌, ℕ, suc, true, false, Option, Some, None, Result, Ok, Err, slice_set, ⊤}
+use Rattle.node_steps.specs.Holding.{Holds}
 use Rattle.basil_types.specs.declared.memory.NoMemory.{NoMemory}
 use Rattle.client_core.specs.Asks.{by_call}
 use Rattle.client_core.specs.Calls.{call_recover}
@@ -11,7 +12,7 @@ use Rattle.client_core.specs.declared.fault.CallFault.TheVariants as calls
 use Rattle.cluster_nodes.specs.Asking.{IsOfKind}
 use Rattle.cluster_nodes.specs.declared.handled.Handled.{Handled}
 use Rattle.cluster_nodes.specs.declared.handled.Handled.TheVariants.{Refused, Full, Sent}
-use Rattle.cluster_nodes.specs.Handling.{Holds, fits}
+use Rattle.cluster_nodes.specs.Handling.{fits}
 use Rattle.cluster_run.specs.Parts.{client_self}
 use Rattle.cluster_run.specs.States.{FormedValue, Setup, State}
 use Rattle.keyring.specs.declared.verifier.Verifier as verifiers

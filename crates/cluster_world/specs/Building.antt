@@ -1,6 +1,7 @@
 -- What a world begins with.
 use Rattle.std.specs.Prelude.{◌++◌, [], ℕ, List, filter, map}
 use Rattle.std.specs.List.{flat_map, range_with_len}
+use Rattle.basil_types.specs.Limits.{most_clients}
 use Rattle.basil_types.specs.declared.party.Party.{Party}
 use Rattle.basil_types.specs.declared.party.Party.TheVariants.{Replica, Client}
 use Rattle.basil_types.specs.Setting.{Setting}
@@ -71,7 +72,7 @@ client_parties count = map Client (range_with_len 1 count)
 
 -- all parties of a cluster
 abbrev pub parties_of : Setting → List Party
-parties_of c = parties_of_shards c c.shards ++ client_parties 16
+parties_of c = parties_of_shards c c.shards ++ client_parties most_clients
 
 module _ {S : Type 0} (g : signers.Ghosts S) (s : Setup) (faulty : List Party) where
   -- the pens are those of the faulty ones of these parties

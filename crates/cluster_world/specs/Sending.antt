@@ -13,16 +13,13 @@ use Rattle.node_steps.specs.Pendings.{bytes_sent}
 use Rattle.premise_watch.specs.declared.broken.WatchFault.{WatchFault}
 use Rattle.cluster_run.specs.declared.fault.WorldFault.{WorldFault}
 use Rattle.cluster_run.specs.declared.fault.WorldFault.TheVariants as worlds
-use Rattle.cluster_run.specs.Parts.{Mail}
+use Rattle.cluster_run.specs.Parts.{Mail, mail_from}
 use Rattle.cluster_run.specs.States.{Setup, State}
 use Rattle.run_sight.specs.Sights.{Ends}
 use Rattle.cluster_world.specs.declared.engine.Engine.{Engine}
 use Rattle.cluster_world.specs.declared.fault.StepFault.{StepFault}
 use Rattle.cluster_world.specs.declared.fault.StepFault.TheVariants as faults
 use Rattle.cluster_world.specs.Shows.{Shows}
-
-abbrev pub mail_from : Party → Envelope → Mail
-mail_from from e = record { from = from; to = e.to; frame = e.frame }
 
 -- of these messages
 abbrev pub mails : Party → List Envelope → List Mail

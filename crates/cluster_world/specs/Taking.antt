@@ -4,13 +4,14 @@ use Rattle.basil_types.specs.declared.party.Party.{Party}
 use Rattle.basil_types.specs.Words.{SignedWords}
 use Rattle.cluster_nodes.specs.declared.handled.Handled.{Handled}
 use Rattle.cluster_nodes.specs.declared.handled.Handled.TheVariants as handled
-use Rattle.cluster_nodes.specs.Handling.{Holds, fits}
+use Rattle.cluster_nodes.specs.Handling.{fits}
 use Rattle.cluster_run.specs.declared.fault.WorldFault.{WorldFault}
 use Rattle.cluster_run.specs.Parts.{refuse, send}
 use Rattle.cluster_run.specs.States.{Setup, State}
 use Rattle.keyring.specs.declared.verifier.Verifier as verifiers
 use Rattle.keyring.specs.declared.signer.Signer as signers
 use Rattle.message_pool.specs.Posts.{PoolValue}
+use Rattle.node_steps.specs.Holding.{Holds}
 use Rattle.node_steps.specs.Envelopes.{EnvelopeValue}
 use Rattle.cluster_world.specs.declared.engine.Engine.{Engine}
 use Rattle.cluster_world.specs.declared.fault.StepFault.{StepFault}

@@ -86,7 +86,8 @@ impl<V: Verifier, S: Signer> Engine<V, S> {
     ) -> Result<(), StepFault>
         requires { IsAnswer self.old.pool handled }
         ensures { (s : Setup) (st : State) (place : ℕ) (answer : Result ClientDone CallFault) → suc place ≡ number →
-            self.old.pool.posts ≡ st.pool → PoolIsSeen s st → Does s st place self.old.pool (by_call answer) self.old handled →
+            self.old.pool.posts ≡ st.pool → PoolIsSeen s st →
+            Does s st place self.old.pool (by_call answer) self.old handled →
             Comes s st (events.called s number answer st) self.new result }
     {
         match handled {

@@ -1,6 +1,7 @@
 //! The parts of a world before its first event.
 
 ghost use Rattle.std.specs.Prelude.{◌≡◌, ◌<◌, ◌≤◌, ◌∷◌, [], IfOk, OnOk, List};
+ghost use Rattle.basil_types.specs.Limits.{most_clients};
 ghost use Rattle.basil_types.specs.declared.party.Party.{Party};
 ghost use Rattle.cluster_nodes.specs.Standings.{HoldsAs, StandsAs};
 ghost use Rattle.cluster_run.specs.States.{Setup, first_standing, shard_standing, start};
@@ -13,6 +14,7 @@ ghost use Rattle.cluster_world.specs.Shows.{AreMembers, Shows};
 
 use crate::engine::Engine;
 use basil_types::cluster::Cluster;
+use basil_types::limits::MOST_CLIENTS;
 use basil_types::memory::NoMemory;
 use basil_types::party::Party;
 use cluster_nodes::calling::StandingClient;
@@ -23,9 +25,6 @@ use premise_watch::faulty::Faulty;
 use run_kit::{Kit, equip};
 use run_sight::Sight;
 use std::alloc::Global;
-
-/// How many clients a cluster has: they are numbered from 1 on.
-const CLIENTS: u8 = 16;
 
 /// What a world begins with.
 #[derive(Clone, Copy)]
@@ -118,7 +117,7 @@ fn client<K: Kit>(
     number: u8,
     kit: &K,
 ) -> Result<StandingClient<K::Keys, K::Pen>, NoMemory>
-    requires { (1 ≤ number) × (number ≤ 16) }
+    requires { (1 ≤ number) × (number ≤ most_clients) }
     ensures { (faulty : List Party) → let s = setup_of beginning.now faulty (K.value kit.now) in
         IfOk result (λ node. HoldsAs s number node (first_client s number)) }
 {
@@ -133,10 +132,10 @@ fn all_clients<K: Kit>(
     kit: &K,
 ) -> Result<Vec<StandingClient<K::Keys, K::Pen>>, NoMemory>
     ensures { (faulty : List Party) → let s = setup_of beginning.now faulty (K.value kit.now) in
-        IfOk result (λ nodes. AreCallers s nodes.items (first_clients s 16)) }
+        IfOk result (λ nodes. AreCallers s nodes.items (first_clients s most_clients)) }
 {
     let mut nodes = Vec::new(alloc);
-    for place in 0..CLIENTS {
+    for place in 0..MOST_CLIENTS {
         nodes.push(client(alloc, beginning, place + 1, kit)?)?;
     }
     Ok(nodes)
@@ -198,9 +197,9 @@ fn add_client_pens<K: Kit>(
     kit: &K,
 ) -> Result<(), NoMemory>
     ensures { (s : Setup) → s.kit ≡ K.value kit.now →
-        OnOk result (AddsPens K.Pen.Signer s faulty.now (client_parties 16) pens.old pens.new) }
+        OnOk result (AddsPens K.Pen.Signer s faulty.now (client_parties most_clients) pens.old pens.new) }
 {
-    for place in 0..CLIENTS {
+    for place in 0..MOST_CLIENTS {
         add_pen(pens, Party::Client { number: place + 1 }, faulty, kit)?;
     }
     Ok(())

@@ -2,6 +2,7 @@
 
 ghost use Rattle.std.specs.Prelude.{◌≡◌, ◌<◌, ◌&&◌, suc, true, None, Some, Ok, IfOk, OnOk, length, nat_le, option_map};
 ghost use Rattle.std.specs.Prelude.{slice_get, vec_capacity, vec_len};
+ghost use Rattle.basil_types.specs.Limits.{most_clients};
 ghost use Rattle.basil_types.specs.declared.party.Party.TheVariants as parties;
 ghost use Rattle.client_core.specs.Calls.{call_begin, call_write};
 ghost use Rattle.client_core.specs.Clients.{ClientValue};
@@ -20,6 +21,7 @@ use crate::asking::of_call;
 use crate::engine::Engine;
 use crate::fault::StepFault;
 use crate::written::Written;
+use basil_types::limits::MOST_CLIENTS;
 use basil_types::memory::NoMemory;
 use basil_types::party::Party;
 use basil_types::version::Version;
@@ -32,10 +34,10 @@ use txn_meta::form::version_of;
 
 /// Whether a client has this number.
 fn is_client(number: u8) -> bool
-    ensures exact { result ≡ (nat_le 1 number && nat_le number 16) }
+    ensures exact { result ≡ (nat_le 1 number && nat_le number most_clients) }
     ensures client { result ≡ true → IsClient number }
 {
-    1 <= number && number <= 16
+    1 <= number && number <= MOST_CLIENTS
 }
 
 /// A begun transaction.

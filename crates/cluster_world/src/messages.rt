@@ -32,8 +32,8 @@ impl<V: Verifier, S: Signer> Engine<V, S> {
         }
     }
 
-    /// A frame is seen, if it wasn't before, and its receiver takes it. Where what it would send has no room, nothing was
-    /// seen.
+    /// A frame is seen, if it wasn't before, and its receiver takes it. Where what it would send has no room, nothing
+    /// was seen.
     fn hand(
         &mut self,
         from: Party,
@@ -77,8 +77,8 @@ impl<V: Verifier, S: Signer> Engine<V, S> {
         }
     }
 
-    /// A message is delivered, and its receiver is handed these bytes. They are seen, unless they are the message's own,
-    /// which were seen when it entered.
+    /// A message is delivered, and its receiver is handed these bytes. They are seen, unless they are the message's
+    /// own, which were seen when it entered.
     pub(crate) fn deliver(&mut self, message: u64, given: &[u8]) -> Result<(), StepFault>
         ensures { (s : Setup) (st : State) → Shows s self.old st →
             Comes s st (events.happens s (events.Deliver message given.now) st) self.new result }

@@ -4,10 +4,10 @@ ghost use Rattle.std.specs.Prelude.{◌≡◌, ◌<◌, List, Some, IfOk, IfSome
 ghost use Rattle.basil_types.specs.declared.party.Party.TheVariants as parties;
 ghost use Rattle.basil_types.specs.Words.{SignedWords};
 ghost use Rattle.client_core.specs.Clients.{ClientValue};
-ghost use Rattle.cluster_nodes.specs.Handling.{Holds};
 ghost use Rattle.cluster_run.specs.Events as events;
 ghost use Rattle.cluster_run.specs.Parts.{send};
 ghost use Rattle.cluster_run.specs.States.{BegunValue, Setup, State};
+ghost use Rattle.node_steps.specs.Holding.{Holds};
 ghost use Rattle.node_steps.specs.Envelopes.{EnvelopeValue};
 ghost use Rattle.cluster_world.specs.Asking.{IsAnswer, Recovers};
 ghost use Rattle.cluster_world.specs.Beginning as beginning;

@@ -2,13 +2,14 @@
 
 ghost use Rattle.std.specs.Prelude.{◌≡◌, ◌+◌, ◌≤◌, ◌++◌, ◌∷◌, [], List, OnOk, length};
 ghost use Rattle.basil_types.specs.Words.{SignedWords};
-ghost use Rattle.cluster_nodes.specs.Handling.{Holds};
+ghost use Rattle.cluster_run.specs.Parts.{mail_from};
 ghost use Rattle.cluster_run.specs.Parts as parts;
 ghost use Rattle.cluster_run.specs.States.{Setup, State};
 ghost use Rattle.message_pool.specs.Posts.{pool_bytes, sent};
+ghost use Rattle.node_steps.specs.Holding.{Holds};
 ghost use Rattle.node_steps.specs.Envelopes.{EnvelopeValue};
 ghost use Rattle.cluster_world.specs.Comes.{Comes};
-ghost use Rattle.cluster_world.specs.Sending.{Goes, HasRoomFor, full_of, has_frame_at, mail_from, mails};
+ghost use Rattle.cluster_world.specs.Sending.{Goes, HasRoomFor, full_of, has_frame_at, mails};
 ghost use Rattle.cluster_world.specs.Shows.{Shows};
 
 use crate::engine::Engine;

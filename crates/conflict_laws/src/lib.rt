@@ -10,8 +10,8 @@ use mvtso_check::laws::nothing_that_stands_conflicts;
 use txn_meta::conflicts::shard_conflicts;
 use txn_table::laws::{ids_tell_places, released_votes_ascend};
 
-/// From the empty book on, of two transactions that conflict on a key of the replica's shard, and of which each waits or
-/// has voted to commit, one has an abort outcome (Basil, multiversion timestamp ordering check).
+/// From the empty book on, of two transactions that conflict on a key of the replica's shard, and of which each waits
+/// or has voted to commit, one has an abort outcome (Basil, multiversion timestamp ordering check).
 pub fn one_is_aborted()
     ensures { OneIsAborted }
 {

@@ -15,10 +15,10 @@ use Rattle.cluster_run.specs.Events as event
 use Rattle.cluster_run.specs.Events.{EventValue, happens, marked, lost, ticks}
 use Rattle.cluster_run.specs.Faulty.{faulty_proposal, faulty_reply, faulty_second, faulty_vote, faulty_word, lies}
 use Rattle.cluster_run.specs.Parts as parts
-use Rattle.cluster_run.specs.Parts.{are_bytes, enter, replica_self, see, send}
+use Rattle.cluster_run.specs.Parts.{are_bytes, enter, replica_self, see, send, Mail}
 use Rattle.cluster_run.specs.States.{Delivered, Posted, Setup, Standing, State, client_at, is_at, is_faulty, posted_at, put_standing}
 use Rattle.cluster_run.specs.States.{standing}
-use Rattle.delivery_laws.specs.Deliveries.{Hand, Taking, after_taking, taken_at, taken_by, taken_of, takes}
+use Rattle.delivery_laws.specs.Deliveries.{Taking, after_taking, taken_at, taken_by, taken_of, takes}
 use Rattle.delivery_laws.specs.Laws.{BooksFollowDeliveries, ReplicasStay, place_of}
 use Rattle.delivery_laws.proofs.Putting.{found_own, is_here, put_found, put_places}
 use Rattle.delivery_laws.proofs.Staying.{Stays, at_formed_stays, at_tx_stays, begins_stays, claims_stays, client_stays}
@@ -80,7 +80,7 @@ module _ (s : Setup) where
             ∙ same_book a b (book_of (find (is_at a b) rs))
 
     -- it takes a frame
-    module _ (h : Hand) where
+    module _ (h : Mail) where
       abbrev answered : Result Done Refusal
       answered = answer (replica_self s x.shard x.index) x.moment h.from x.book h.frame
 
@@ -115,7 +115,7 @@ module _ (s : Setup) where
   follows_then rs t mid (Ok after) f h = subst (λ l. Follows s rs t l) (sym h) f
   follows_then rs t mid (Err e) f h = tt
 
-  module _ (number : ℕ) (h : Hand) (st : State) where
+  module _ (number : ℕ) (h : Mail) (st : State) where
     replica_follows : (o : Option Standing) → ((x : Standing) → o ≡ Some x → find (is_at x.shard x.index) st.replicas ≡ Some x) →
         FollowsIn s st.replicas (option_and_then (taken_by s h) o) (parts.replica_handles s number h.from h.frame o st)
     replica_follows None there = follows_same st.replicas
@@ -147,7 +147,7 @@ module _ (s : Setup) where
         by false = at h.to
 
   -- what is taken is a matter of the replicas alone
-  taken_same : (h : Hand) (st next : State) → next.replicas ≡ st.replicas → taken_of s next h ≡ taken_of s st h
+  taken_same : (h : Mail) (st next : State) → next.replicas ≡ st.replicas → taken_of s next h ≡ taken_of s st h
   taken_same h st next e = by (is_faulty s h.to || not (are_bytes h.frame))
     where
       at : (to : Party) → taken_at s next h to ≡ taken_at s st h to
@@ -158,7 +158,7 @@ module _ (s : Setup) where
       by true = refl
       by false = at h.to
 
-  hand_follows : (number : ℕ) (h : Hand) (st : State) →
+  hand_follows : (number : ℕ) (h : Mail) (st : State) →
       FollowsIn s st.replicas (taken_of s st h) (parts.hand s number h.from h.to h.frame st)
   hand_follows number h st = by (see s h.frame st) (see_stays s h.frame st)
     where

@@ -1,5 +1,5 @@
 -- What an event hands to a party, and what a replica takes of it.
-use Rattle.std.specs.Prelude.{ℕ, List, ◌==◌, ◌&&◌, ◌||◌, not, is_ok, if◌then◌else◌}
+use Rattle.std.specs.Prelude.{ℕ, ◌==◌, ◌&&◌, ◌||◌, not, is_ok, if◌then◌else◌}
 use Rattle.std.specs.Prelude.{Option, Some, None, option_map, option_and_then}
 use Rattle.basil_types.specs.declared.party.Party.{Party}
 use Rattle.basil_types.specs.declared.party.Party.TheVariants.{Replica, Client}
@@ -7,17 +7,11 @@ use Rattle.replica_core.specs.Answers.{answer}
 use Rattle.replica_core.specs.Replicas.{BookValue}
 use Rattle.replica_laws.specs.Steps.{Handed, step}
 use Rattle.cluster_run.specs.Events.{EventValue, Deliver, Divert}
-use Rattle.cluster_run.specs.Parts.{are_bytes, replica_self}
+use Rattle.cluster_run.specs.Parts.{are_bytes, replica_self, Mail}
 use Rattle.cluster_run.specs.States.{Setup, is_faulty, Posted, Standing, State, posted_at, standing}
 
--- a frame that is handed to a party, and who sent it
-pub record Hand : Type 0 where
-  pub from : Party
-  pub to : Party
-  pub frame : List ℕ
-
 -- what an event hands: the bytes that are given in place of a message of the pool, to its receiver or to another
-abbrev pub handed_by : State → EventValue → Option Hand
+abbrev pub handed_by : State → EventValue → Option Mail
 handed_by st (Deliver message given) =
     option_map (λ (p : Posted). record { from = p.from; to = p.to; frame = given }) (posted_at st message)
 handed_by st (Divert message to given) =
@@ -31,7 +25,7 @@ pub record Taking : Type 0 where
   pub handed : Handed
 
 -- a replica takes the frame that it doesn't refuse
-abbrev pub taken_by : Setup → Hand → Standing → Option Taking
+abbrev pub taken_by : Setup → Mail → Standing → Option Taking
 taken_by s h x =
     if is_ok (answer (replica_self s x.shard x.index) x.moment h.from x.book h.frame) then Some (record {
       shard = x.shard;
@@ -40,12 +34,12 @@ taken_by s h x =
     }) else None
 
 -- a replica that isn't one of the cluster takes nothing, and a client is none
-abbrev pub taken_at : Setup → State → Hand → Party → Option Taking
+abbrev pub taken_at : Setup → State → Mail → Party → Option Taking
 taken_at s st h (Replica shard index) = option_and_then (taken_by s h) (standing st shard index)
 taken_at s st h (Client client) = None
 
 -- a faulty party takes nothing, and what are no bytes isn't taken
-abbrev pub taken_of : Setup → State → Hand → Option Taking
+abbrev pub taken_of : Setup → State → Mail → Option Taking
 taken_of s st h = if is_faulty s h.to || not (are_bytes h.frame) then None else taken_at s st h h.to
 
 -- what is taken at an event

@@ -3,6 +3,7 @@ use Rattle.std.specs.Prelude.{ℕ, ◌+◌, ◌-◌, ◌^◌, ◌<◌, All, List
 use Rattle.std.specs.Prelude.{min, nat_lt, nat_le, count_by, filter, unwrap_or}
 use Rattle.std.specs.List.{reduce}
 use Rattle.std.specs.Option.{option_map_or}
+use Rattle.basil_types.specs.Limits.{IsU64}
 use Rattle.quorum_laws.specs.Numbers.{catch_up, view_over}
 
 -- how many reports count for a view: those of this view and of later ones
@@ -33,7 +34,7 @@ raised f views current =
 
 -- a view of 64 bits
 abbrev pub IsView : ℕ → Type 0
-IsView view = view < 2 ^ 64
+IsView view = IsU64 view
 
 -- what views of 64 bits raise one of 64 bits to has 64 bits
 abbrev pub RaisedIsView : Type 0

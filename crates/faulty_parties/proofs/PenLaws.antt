@@ -17,6 +17,7 @@ use Rattle.basil_types.specs.declared.party.Party.TheVariants.{Replica, Client}
 use Rattle.basil_types.specs.Words.{SignedWords, words_of}
 use Rattle.keyring.specs.declared.signer.Signer as signers
 use Rattle.keyring.specs.Signing.{Signing}
+use Rattle.node_steps.specs.Holding.{Holds}
 use Rattle.node_steps.specs.declared.pending.Pending.{Pending}
 use Rattle.node_steps.specs.Pendings.{CanSign, IsReady, Sends, bytes_in, bytes_sent, sealed_all}
 use Rattle.node_steps.specs.Pens.{PenValue, after_one, pen_value}
@@ -27,7 +28,6 @@ use Rattle.cluster_run.specs.States.{KitValue, Setup, State, is_faulty}
 use Rattle.faulty_parties.specs.declared.pens.Pen.{Pen}
 use Rattle.faulty_parties.specs.declared.pens.Pens.{Pens}
 use Rattle.faulty_parties.specs.declared.lie.Lie.{Lie}
-use Rattle.faulty_parties.specs.Holding.{Holds}
 use Rattle.faulty_parties.specs.Lies.{CanBeSaid, Says, Tells}
 use Rattle.faulty_parties.specs.Pens.{Begins, HasGiven, IsThere, LieFor, LiesAs, StepsAt, left_in, pen_of, size_in, times}
 use Rattle.faulty_parties.specs.Unsaid.{Unsaid}

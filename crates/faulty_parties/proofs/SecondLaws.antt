@@ -11,9 +11,8 @@ use Rattle.frame_views.specs.Spelling.{spelling}
 use Rattle.frame_views.specs.Values.{St2, St2Value, TallyValue}
 use Rattle.txn_meta.specs.Places.{log_shard}
 use Rattle.cluster_run.specs.Faulty.{faulty_second, tallies_from}
-use Rattle.cluster_run.specs.Parts.{Mail}
+use Rattle.cluster_run.specs.Parts.{Mail, mail_from}
 use Rattle.cluster_run.specs.States.{FormedValue, Posted, Setup, State}
-use Rattle.faulty_parties.specs.Holding.{mailed}
 use Rattle.faulty_parties.specs.Tallies.{tallies_in}
 use Rattle.faulty_parties.proofs.HeardLaws.{tallies_are}
 
@@ -25,10 +24,10 @@ pub second_is : (s : Setup) (st : State) (f : FormedValue) (d : Decision) (r : �
     A ≡ s.kit.accepts → posts ≡ st.pool → t ≡ f.transaction → signature ≡ f.signature →
     map tally_value list ≡ tallies_in A c posts t d → slice ≡ list →
     frame ≡ spelling (St2 (second_of d t signature (map tally_value slice))) → bytes ≡ frame → shard ≡ log_shard c t →
-    faulty_second s f d r st ≡ mailed (Client f.transaction.client) (record { to = Replica shard r; frame = bytes }) ∷ []
+    faulty_second s f d r st ≡ mail_from (Client f.transaction.client) (record { to = Replica shard r; frame = bytes }) ∷ []
 second_is s st f d r A c posts t signature list slice frame bytes shard ec ea ep et es el en ef eb eh =
     let made : ℕ → List ℕ → List Mail =
-    λ n b. mailed (Client f.transaction.client) (record { to = Replica n r; frame = b }) ∷ [] in
+    λ n b. mail_from (Client f.transaction.client) (record { to = Replica n r; frame = b }) ∷ [] in
     let there : shard ≡ log_shard s.cluster f.transaction =
     eh ∙ ap (λ x. log_shard x t) ec ∙ ap (log_shard s.cluster) et in
     let tallies : map tally_value slice ≡ tallies_from s st f.transaction d =

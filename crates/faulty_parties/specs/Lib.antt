@@ -1,8 +1,6 @@
-pub mod Sizes
 pub mod Unsaid
 pub mod Lies
 pub mod Pens
-pub mod Holding
 pub mod Fronts
 pub mod Hearing
 pub mod Heard

@@ -4,13 +4,12 @@ use Rattle.std.specs.List.{count_by, list_any}
 use Rattle.std.specs.Option.{option_map_or}
 use Rattle.basil_types.specs.declared.party.Party.{Party}
 use Rattle.keyring.specs.declared.signer.Signer as signers
-use Rattle.node_steps.specs.Pens.{PenValue, after_one, pen_value}
+use Rattle.node_steps.specs.Pens.{PenValue, after_one, pen_value, GivesItsSize}
 use Rattle.premise_watch.specs.Breaches.{NotedWords}
 use Rattle.txn_table.specs.Entries.{same_party}
 use Rattle.cluster_run.specs.States.{KitValue, Setup}
 use Rattle.faulty_parties.specs.declared.pens.Pen.{Pen}
 use Rattle.faulty_parties.specs.declared.pens.Pens.{Pens}
-use Rattle.faulty_parties.specs.Sizes.{GivesItsSize}
 
 -- the first pen of a party
 abbrev pub pen_of : {S : Type 0} → List (Pen S) → Party → Option S

@@ -5,6 +5,7 @@ ghost use Rattle.basil_types.specs.declared.party.Decision.TheVariants as decisi
 ghost use Rattle.basil_types.specs.declared.party.Party.TheVariants as parties;
 ghost use Rattle.basil_types.specs.Shown.{transaction_of};
 ghost use Rattle.basil_types.specs.Transaction as transactions;
+ghost use Rattle.cluster_run.specs.Parts.{mail_from};
 ghost use Rattle.cluster_run.specs.Faulty.{faulty_second};
 ghost use Rattle.cluster_run.specs.States.{FormedValue, Setup, State};
 ghost use Rattle.frame_values.specs.Owned.{tally_value};
@@ -13,7 +14,6 @@ ghost use Rattle.frame_views.specs.Spelling.{spelling};
 ghost use Rattle.frame_views.specs.Values.{St2};
 ghost use Rattle.txn_meta.specs.Form.{is_empty};
 ghost use Rattle.txn_meta.specs.Places.{members};
-ghost use Rattle.faulty_parties.specs.Holding.{mailed};
 ghost use Rattle.faulty_parties.specs.Tallies.{is_enough, shard_in, tallies_in, tally_in};
 
 use crate::listing::{all_heard, first_ones, listed, votes_of};
@@ -251,7 +251,8 @@ pub fn second<V: Verifier>(
     ensures { (s : Setup) (st : State) (f : FormedValue) → cluster.now ≡ s.cluster →
         V.accepted keys.now ≡ s.kit.accepts → pool.now.posts ≡ st.pool → transaction_of t.entry ≡ f.transaction →
         signature.now ≡ f.signature →
-        IfOk result (λ e. faulty_second s f decision replica st ≡ mailed (parties.Client f.transaction.client) e ∷ []) }
+        IfOk result (λ e.
+        faulty_second s f decision replica st ≡ mail_from (parties.Client f.transaction.client) e ∷ []) }
 {
     let list = tallies(alloc, keys, cluster, pool, t, decision)?;
     let frame = second_frame(alloc, t, signature, decision, list.as_slice())?;

@@ -4,7 +4,7 @@ use Rattle.std.proofs.Common.{◌∷◌, ◌++◌, length, Option, Some, None, r
 use Rattle.std.specs.Prelude.{◌&&◌, ◌↔◌, option_and_then, ⊤, IsTrue, is_some, OnSome}
 use Rattle.std.specs.List.{flat_map}
 use Rattle.std.proofs.lemmas.Bool.{le-leb, leb-true, lt-ltb, ltb-true, eqb-true}
-use Rattle.basil_types.specs.Limits.{signature_limit}
+use Rattle.basil_types.specs.Limits.{signature_limit, IsU64}
 use Rattle.basil_types.specs.Lists.{AreItems}
 use Rattle.basil_types.specs.Texts.{IsBytes, IsKey}
 use Rattle.basil_types.specs.Transaction.{TransactionValue, IsTransaction, canonical, short_text, long_text}
@@ -18,7 +18,7 @@ use Rattle.frame_views.specs.Values.{St2, LogReply, Writeback, Recover, Invoke, 
 use Rattle.frame_views.specs.Spelling.{u64_bytes, counted, optional, vote_bytes, tally_bytes, tallies_bytes, log_bytes}
 use Rattle.frame_views.specs.Spelling.{reply_bytes, word_bytes, logged_bytes, commit_body_bytes, commit_bytes, conflict_bytes}
 use Rattle.frame_views.specs.Spelling.{body_bytes, certificate_bytes, committed_bytes, signed_bytes, message_bytes, spelling}
-use Rattle.frame_views.specs.Fitting.{IsSignature, IsId, IsNumber, IsClient, AreCounted, FitsPart, is_abort}
+use Rattle.frame_views.specs.Fitting.{IsSignature, IsId, IsClient, AreCounted, FitsPart, is_abort}
 use Rattle.frame_views.specs.Fitting.{is_commit, after_vote, after_tally, after_log, after_reply, after_word}
 use Rattle.frame_views.specs.Fitting.{FitsVote, FitsVotes, FitsTally, FitsTallies, FitsLog, FitsReply, FitsWord}
 use Rattle.frame_views.specs.Fitting.{FitsLogged, FitsCommitBody, FitsCommit, FitsConflict, FitsBody}
@@ -117,9 +117,9 @@ unfolding number_room
 number_takes high floor n = tested (leb floor n && ltb n high) ((floor ≤ n) × (n < high)) 1
     (λ e. (let t = both-true _ _ e in (leb-true _ _ t.0, ltb-true _ _ t.1))) (λ h. true-both _ _ (le-leb floor n h.0) (lt-ltb n high h.1))
 
-long_takes : (low n : ℕ) → Takes (long_room low n) ((low ≤ n) × IsNumber n) 8
+long_takes : (low n : ℕ) → Takes (long_room low n) ((low ≤ n) × IsU64 n) 8
 unfolding long_room
-long_takes low n = tested (leb low n && ltb n (2 ^ 64)) ((low ≤ n) × IsNumber n) 8
+long_takes low n = tested (leb low n && ltb n (2 ^ 64)) ((low ≤ n) × IsU64 n) 8
     (λ e. (let t = both-true _ _ e in (leb-true _ _ t.0, ltb-true _ _ t.1))) (λ h. true-both _ _ (le-leb low n h.0) (lt-ltb n (2 ^ 64) h.1))
 
 id_takes : (id : List ℕ) → Takes (id_room id) (IsId id) 32

@@ -2,7 +2,7 @@
 -- room is too small.
 use Rattle.std.specs.Prelude.{ℕ, ◌+◌, ◌-◌, ◌^◌, List, [], ◌∷◌, length, Option, Some, None, Bool, true, ◌&&◌, ◌==◌}
 use Rattle.std.specs.Prelude.{nat_le, nat_lt, if◌then◌else◌, option_and_then}
-use Rattle.basil_types.specs.Limits.{signature_limit}
+use Rattle.basil_types.specs.Limits.{signature_limit, id_size, longest_key, most_clients}
 use Rattle.basil_types.specs.Transaction.{TransactionValue, canonical}
 use Rattle.frame_views.specs.declared.bounds.Bounds.{Bounds}
 use Rattle.frame_views.specs.Fitting.{after_vote, after_tally, after_log, after_reply, after_word, is_abort, is_commit}
@@ -53,16 +53,16 @@ unfoldable pub long_room : ℕ → ℕ → ℕ → Option ℕ
 long_room low n = guarded (nat_le low n && nat_lt n (2 ^ 64)) (spent 8)
 
 unfoldable pub id_room : List ℕ → ℕ → Option ℕ
-id_room id = guarded (length id == 32) (spent 32)
+id_room id = guarded (length id == id_size) (spent id_size)
 
 unfoldable pub signature_room : List ℕ → ℕ → Option ℕ
 signature_room s = guarded (nat_le 1 (length s) && nat_le (length s) signature_limit) (spent (length s + 2))
 
 unfoldable pub key_room : List ℕ → ℕ → Option ℕ
-key_room k = guarded (nat_le 1 (length k) && nat_le (length k) 64) (spent (length k + 1))
+key_room k = guarded (nat_le 1 (length k) && nat_le (length k) longest_key) (spent (length k + 1))
 
 unfoldable pub client_room : ℕ → ℕ → Option ℕ
-client_room c = guarded (nat_le 1 c && nat_le c 16) (spent 1)
+client_room c = guarded (nat_le 1 c && nat_le c most_clients) (spent 1)
 
 unfoldable pub transaction_room : TransactionValue → ℕ → Option ℕ
 transaction_room t = spent (length (canonical t))

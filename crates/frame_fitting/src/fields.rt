@@ -9,7 +9,7 @@ ghost use Rattle.frame_views.specs.Fitting.{bounds_of};
 ghost use Rattle.frame_fitting.specs.Room as rooms;
 
 use basil_types::cluster::Cluster;
-use basil_types::limits::SIGNATURE_LIMIT;
+use basil_types::limits::{MOST_CLIENTS, SIGNATURE_LIMIT};
 use basil_types::party::Decision;
 use basil_types::reading::in_range;
 use basil_types::transaction::TransactionView;
@@ -88,12 +88,12 @@ pub(super) fn key_room(key: &[u8], room: usize) -> Option<usize>
     }
 }
 
-/// A client, 1 to 16.
+/// A client.
 #[tactic(auto, unfolding(crate::specs::Room::client_room))]
 pub(super) fn client_room(client: u8, room: usize) -> Option<usize>
     ensures { result ≡ rooms.client_room client room }
 {
-    if 1 <= client && client <= 16 {
+    if 1 <= client && client <= MOST_CLIENTS {
         spent(1, room)
     } else {
         None

@@ -21,7 +21,7 @@ use super::fields::{
 use super::lists::{replies_room, tallies_room, words_room};
 use basil_types::cluster::Cluster;
 use basil_types::limits::FRAME_LIMIT;
-use basil_types::party::Decision;
+use basil_types::party::{Decision, is_abort};
 use basil_types::transaction::TransactionView;
 use frame_values::lending::{
     DecideParts, InvokeParts, MessageParts, ReadReplyParts, St2Parts, VoteParts, WritebackParts,
@@ -65,15 +65,6 @@ fn signed_room(transaction: &TransactionView<'_>, signature: &[u8], room: usize)
 {
     let room = transaction_room(transaction, room)?;
     signature_room(signature, room)
-}
-
-fn is_abort(decision: Decision) -> bool
-    ensures { result ≡ Rattle.frame_views.specs.Fitting.is_abort decision }
-{
-    match decision {
-        Decision::Commit => false,
-        Decision::Abort => true,
-    }
 }
 
 #[tactic(auto, unfolding(crate::specs::Room::voted_room))]

@@ -8,7 +8,7 @@ use Rattle.basil_types.specs.declared.reading.Fault.{Fault}
 use Rattle.basil_types.specs.declared.reading.Fault.TheVariants.{Range, Order}
 use Rattle.basil_types.specs.declared.party.Decision.{Decision}
 use Rattle.basil_types.specs.declared.party.Decision.TheVariants.{Commit, Abort}
-use Rattle.basil_types.specs.Limits.{signature_limit}
+use Rattle.basil_types.specs.Limits.{signature_limit, IsU64}
 use Rattle.basil_types.specs.Texts.{IsBytes, IsKey}
 use Rattle.basil_types.specs.Reading.{number_at, run_at, between, flag_at, key_at}
 use Rattle.basil_types.specs.Parsed.{transaction_at}
@@ -19,7 +19,7 @@ use Rattle.basil_types.proofs.Fields.{number_takes, number_again, wide16, wide64
 use Rattle.basil_types.proofs.PartLaws.{key_takes, key_again}
 use Rattle.basil_types.proofs.TransactionLaws.{transaction_takes, transaction_again}
 use Rattle.frame_views.specs.Forms.{part_at, allowed_flag_at}
-use Rattle.frame_views.specs.Fitting.{IsSignature, IsNumber, IsId, FitsPart}
+use Rattle.frame_views.specs.Fitting.{IsSignature, IsId, FitsPart}
 use Rattle.frame_views.specs.Spelling.{u64_bytes, optional}
 use Rattle.frame_views.specs.Grammar.{signature_at, decision_at, number_from_at, next_number_at, maybe_at}
 use Rattle.frame_views.proofs.FormLaws.{Lawful, made_takes, made_again}
@@ -96,7 +96,7 @@ decision_law = record {
 
 -- ---- numbers of eight bytes
 
-pub number_law : Lawful (number_at w64) (number_at w64) u64_bytes IsNumber
+pub number_law : Lawful (number_at w64) (number_at w64) u64_bytes IsU64
 unfolding u64_bytes
 number_law = record {
   takes = λ bytes x fits e. number_takes w64 (2 ^ 64) wide64 bytes x.0 x.1 fits e;
@@ -104,20 +104,20 @@ number_law = record {
 }
 
 from_takes : (low : ℕ) (bytes : List ℕ) (x : ℕ × List ℕ) → IsBytes bytes → number_from_at low bytes ≡ Ok x
-    → Takes bytes (u64_bytes x.0) x.1 × ((low ≤ x.0) × IsNumber x.0)
+    → Takes bytes (u64_bytes x.0) x.1 × ((low ≤ x.0) × IsU64 x.0)
 unfolding number_from_at u64_bytes
 from_takes low bytes x fits e =
     let b = bind_ok (number_at w64 bytes) (λ n. cond (leb low n.0) (Ok n) (Err (Range (length bytes)))) x e in
     let g = pass_ok (leb low b.0.0) (Range (length bytes)) (Ok b.0) x b.2 in
     let t = number_takes w64 (2 ^ 64) wide64 bytes b.0.0 b.0.1 fits b.1 in
-    subst (λ (y : ℕ × List ℕ). Takes bytes (u64_bytes y.0) y.1 × ((low ≤ y.0) × IsNumber y.0)) (ok_is b.0 x g.1)
+    subst (λ (y : ℕ × List ℕ). Takes bytes (u64_bytes y.0) y.1 × ((low ≤ y.0) × IsU64 y.0)) (ok_is b.0 x g.1)
     (t.0, (leb-true _ _ g.0, t.1))
 
-from_again : (low n : ℕ) (rest : List ℕ) → low ≤ n → IsNumber n → number_from_at low (u64_bytes n ++ rest) ≡ Ok (n, rest)
+from_again : (low n : ℕ) (rest : List ℕ) → low ≤ n → IsU64 n → number_from_at low (u64_bytes n ++ rest) ≡ Ok (n, rest)
 unfolding number_from_at u64_bytes
 from_again low n rest above fits = rw (number_again w64 (2 ^ 64) wide64 n rest fits, le-leb low n above) refl
 
-pub from_law : (low lower : ℕ) → lower ≤ low → Lawful (number_from_at low) (number_from_at lower) u64_bytes (λ n. (low ≤ n) × IsNumber n)
+pub from_law : (low lower : ℕ) → lower ≤ low → Lawful (number_from_at low) (number_from_at lower) u64_bytes (λ n. (low ≤ n) × IsU64 n)
 from_law low lower le = record {
   takes = λ bytes x fits e. from_takes low bytes x fits e;
   again = λ v rest fits. from_again lower v rest (omega (arith, fits.0)) fits.1;

@@ -3,6 +3,7 @@ use Rattle.std.proofs.Common.{◌≡◌, ℕ, ◌<◌, ◌≤◌, Bool, true, fa
 use Rattle.std.proofs.Common.{refl, sym, ap, subst, append_assoc, arith}
 use Rattle.std.specs.Int.{w64}
 use Rattle.std.proofs.lemmas.Bool.{ltb-true, ltb-false}
+use Rattle.basil_types.specs.Limits.{IsU64}
 use Rattle.basil_types.specs.declared.reading.Fault.{Fault}
 use Rattle.basil_types.specs.declared.party.Decision.{Decision}
 use Rattle.basil_types.specs.Texts.{IsBytes}
@@ -25,7 +26,7 @@ use Rattle.frame_views.specs.Spelling.{word_bytes, logged_bytes, commit_kind, co
 use Rattle.frame_views.specs.Spelling.{certificate_kind, body_bytes, certificate_bytes}
 use Rattle.frame_views.specs.Spelling.{committed_bytes, read_bytes, read_reply_bytes, signed_bytes, voted_bytes, st2_bytes, log_reply_bytes}
 use Rattle.frame_views.specs.Spelling.{writeback_bytes, invoke_bytes, elect_bytes, decide_bytes, message_bytes, kind_of}
-use Rattle.frame_views.specs.Fitting.{Within, IsSignature, IsId, IsNumber, AreCounted, FitsPart, is_abort, after_vote}
+use Rattle.frame_views.specs.Fitting.{Within, IsSignature, IsId, AreCounted, FitsPart, is_abort, after_vote}
 use Rattle.frame_views.specs.Fitting.{after_tally, after_log, after_reply, after_word}
 use Rattle.frame_views.specs.Fitting.{FitsVote, FitsVotes, FitsTally, FitsTallies, FitsLog, FitsReply, FitsWord, FitsLogged, FitsCommitBody}
 use Rattle.frame_views.specs.Fitting.{FitsCommit, FitsConflict, FitsBody, FitsCertificate, is_commit}
@@ -130,11 +131,11 @@ module _ (b wide : Bounds) (w : Within b wide) where
     where
       views_law : Lawful (number_at w64 ▹ λ decided. number_from_at decided ‖ signature_at)
           (number_at w64 ▹ λ decided. number_from_at decided ‖ signature_at) (λ p. u64_bytes p.0 ++ (u64_bytes p.1.0 ++ long_text p.1.1))
-          (λ p. IsNumber p.0 × (((p.0 ≤ p.1.0) × IsNumber p.1.0) × IsSignature p.1.1))
+          (λ p. IsU64 p.0 × (((p.0 ≤ p.1.0) × IsU64 p.1.0) × IsSignature p.1.1))
       views_law =
-          then_law (number_at w64) (number_at w64) u64_bytes IsNumber (λ decided. number_from_at decided ‖ signature_at)
+          then_law (number_at w64) (number_at w64) u64_bytes IsU64 (λ decided. number_from_at decided ‖ signature_at)
           (λ decided. number_from_at decided ‖ signature_at) (λ decided p. u64_bytes p.0 ++ long_text p.1)
-          (λ decided p. ((decided ≤ p.0) × IsNumber p.0) × IsSignature p.1)
+          (λ decided p. ((decided ≤ p.0) × IsU64 p.0) × IsSignature p.1)
           number_law (λ decided _. both (from_law decided decided (omega arith)) signature_law)
 
   pub reads_replies : Reads (reply_at b) (reply_at wide) reply_bytes (FitsReply b)
@@ -170,7 +171,7 @@ module _ (b wide : Bounds) (w : Within b wide) where
       (between 0 b.shards ‖ decision_at ‖ (number_at w64 ▹ λ decided. logs_at b decided))
       (between 0 wide.shards ‖ decision_at ‖ (number_at w64 ▹ λ decided. logs_at wide decided)) _ _ logged_bytes (FitsLogged b)
       (both (byte_law 0 b.shards wide.shards w.shards) (both decision_law
-      (then_law (number_at w64) (number_at w64) u64_bytes IsNumber (logs_at b) (logs_at wide) (λ decided. counted log_bytes)
+      (then_law (number_at w64) (number_at w64) u64_bytes IsU64 (logs_at b) (logs_at wide) (λ decided. counted log_bytes)
       (λ decided. AreCounted (FitsLog b decided) after_log) number_law (λ decided _. logs_law decided decided (omega arith)))))
       (λ a f. refl) (λ a f. record { shard = f.0.1; decided = f.1.1.0; logs = f.1.1.1 })
       (λ v f. ((v.shard, (v.decision, (v.decided, v.logs))), refl, ((omega arith, f.shard), (tt, (f.decided, f.logs)))))
@@ -475,9 +476,9 @@ module _ (b wide : Bounds) (w : Within b wide) where
       ‖ (number_at w64 ▹ λ decided. number_from_at decided ‖ signature_at)) _ _ log_reply_bytes (FitsLogReply b)
       (both (byte_law 0 b.shards wide.shards w.shards) (both (byte_law 0 b.replicas wide.replicas w.replicas)
       (both id_law (both decision_law
-      (then_law (number_at w64) (number_at w64) u64_bytes IsNumber (λ decided. number_from_at decided ‖ signature_at)
+      (then_law (number_at w64) (number_at w64) u64_bytes IsU64 (λ decided. number_from_at decided ‖ signature_at)
       (λ decided. number_from_at decided ‖ signature_at) (λ decided p. u64_bytes p.0 ++ long_text p.1)
-      (λ decided p. ((decided ≤ p.0) × IsNumber p.0) × IsSignature p.1)
+      (λ decided p. ((decided ≤ p.0) × IsU64 p.0) × IsSignature p.1)
       number_law (λ decided _. both (from_law decided decided (omega arith)) signature_law))))))
       (λ a f. refl) (λ a f. record {
         shard = f.0.1;

@@ -6,7 +6,7 @@ use Rattle.basil_types.specs.Setting.{Setting}
 use Rattle.basil_types.specs.Texts.{IsKey}
 use Rattle.basil_types.specs.Transaction.{IsTransaction}
 pub use Rattle.basil_types.specs.Decision.{is_abort}
-use Rattle.basil_types.specs.Limits.{signature_limit}
+use Rattle.basil_types.specs.Limits.{signature_limit, id_size, longest_key, most_clients, IsU64}
 use Rattle.frame_views.specs.declared.bounds.Bounds.{Bounds}
 use Rattle.frame_views.specs.Values.{VoteValue, TallyValue, LogValue, ReplyValue, WordValue, LoggedValue, CommitBody}
 use Rattle.frame_views.specs.Values.{FastCommit, Logged, CommitValue, ConflictValue, BodyValue, Commits, FastAbort}
@@ -35,14 +35,11 @@ pub record IsSignature (signature : List ℕ) : Type 0 where
   pub short : length signature ≤ signature_limit
 
 abbrev pub IsId : List ℕ → Type 0
-IsId id = length id ≡ 32
-
-abbrev pub IsNumber : ℕ → Type 0
-IsNumber n = n < 2 ^ 64
+IsId id = length id ≡ id_size
 
 pub record IsClient (client : ℕ) : Type 0 where
   pub someone : 1 ≤ client
-  pub few : client ≤ 16
+  pub few : client ≤ most_clients
 
 -- a list behind a number of items of one byte
 pub record AreCounted {A : Type 0} (Fit : ℕ → A → Type 0) (next : A → ℕ) (items : List A) : Type 0 where
@@ -92,15 +89,15 @@ pub record FitsLog (b : Bounds) (decided floor : ℕ) (l : LogValue) : Type 0 wh
   pub above : floor ≤ l.replica
   pub below : l.replica < b.replicas
   pub later : decided ≤ l.current
-  pub current : IsNumber l.current
+  pub current : IsU64 l.current
   pub signature : IsSignature l.signature
 
 pub record FitsReply (b : Bounds) (floor : ℕ) (r : ReplyValue) : Type 0 where
   pub above : floor ≤ r.replica
   pub below : r.replica < b.replicas
-  pub decided : IsNumber r.decided
+  pub decided : IsU64 r.decided
   pub later : r.decided ≤ r.current
-  pub current : IsNumber r.current
+  pub current : IsU64 r.current
   pub signature : IsSignature r.signature
 
 pub record FitsWord (b : Bounds) (floor : ℕ) (w : WordValue) : Type 0 where
@@ -112,7 +109,7 @@ pub record FitsWord (b : Bounds) (floor : ℕ) (w : WordValue) : Type 0 where
 
 pub record FitsLogged (b : Bounds) (l : LoggedValue) : Type 0 where
   pub shard : l.shard < b.shards
-  pub decided : IsNumber l.decided
+  pub decided : IsU64 l.decided
   pub logs : AreCounted (FitsLog b l.decided) after_log l.logs
 
 abbrev pub FitsCommitBody : Bounds → CommitBody → Type 0
@@ -154,14 +151,14 @@ pub record FitsCommitted (b : Bounds) (c : CommittedValue) : Type 0 where
 
 pub record FitsRead (m : ReadValue) : Type 0 where
   pub key : IsKey m.key
-  pub time : IsNumber m.time
+  pub time : IsU64 m.time
   pub client : IsClient m.client
 
 pub record FitsReadReply (b : Bounds) (m : ReadReplyValue) : Type 0 where
   pub shard : m.shard < b.shards
   pub replica : m.replica < b.replicas
   pub key : IsKey m.key
-  pub time : IsNumber m.time
+  pub time : IsU64 m.time
   pub client : IsClient m.client
   pub committed : FitsPart true (FitsCommitted b) m.committed
   pub prepared : FitsPart true IsTransaction m.prepared
@@ -188,9 +185,9 @@ pub record FitsLogReply (b : Bounds) (m : LogReplyValue) : Type 0 where
   pub shard : m.shard < b.shards
   pub replica : m.replica < b.replicas
   pub id : IsId m.id
-  pub decided : IsNumber m.decided
+  pub decided : IsU64 m.decided
   pub later : m.decided ≤ m.current
-  pub current : IsNumber m.current
+  pub current : IsU64 m.current
   pub signature : IsSignature m.signature
 
 pub record FitsWriteback (b : Bounds) (m : WritebackValue) : Type 0 where
@@ -207,7 +204,7 @@ pub record FitsElect (b : Bounds) (m : ElectValue) : Type 0 where
   pub shard : m.shard < b.shards
   pub replica : m.replica < b.replicas
   pub some : 1 ≤ m.view
-  pub view : IsNumber m.view
+  pub view : IsU64 m.view
   pub signature : IsSignature m.signature
 
 pub record FitsDecide (b : Bounds) (m : DecideValue) : Type 0 where
@@ -215,7 +212,7 @@ pub record FitsDecide (b : Bounds) (m : DecideValue) : Type 0 where
   pub shard : m.shard < b.shards
   pub replica : m.replica < b.replicas
   pub some : 1 ≤ m.view
-  pub view : IsNumber m.view
+  pub view : IsU64 m.view
   pub words : AreCounted (FitsWord b) after_word m.words
   pub signature : IsSignature m.signature
 
@@ -236,7 +233,7 @@ FitsMessage b (Decide m) = FitsDecide b m
 
 pub record IsKeyLength (length-of : ℕ) : Type 0 where
   pub some : 1 ≤ length-of
-  pub short : length-of ≤ 64
+  pub short : length-of ≤ longest_key
 
 -- a read reply's key has 1 to 64 bytes, as that of each read reply that fits
 abbrev pub IsSpoken : MessageValue → Type 0

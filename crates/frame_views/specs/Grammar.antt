@@ -7,7 +7,7 @@ use Rattle.basil_types.specs.declared.reading.Fault.TheVariants.{Range, Order}
 use Rattle.basil_types.specs.declared.party.Decision.{Decision}
 use Rattle.basil_types.specs.declared.party.Decision.TheVariants.{Commit, Abort}
 use Rattle.basil_types.specs.Decision.{is_abort}
-use Rattle.basil_types.specs.Limits.{signature_limit}
+use Rattle.basil_types.specs.Limits.{signature_limit, id_size}
 use Rattle.basil_types.specs.Steps.{◌>>=◌}
 use Rattle.basil_types.specs.Lists.{items_at}
 use Rattle.basil_types.specs.Reading.{byte_at, between, number_at, run_at, key_at}
@@ -126,7 +126,7 @@ commit_body_at b kind bytes =
 -- a certificate of kind 1 or 2
 unfoldable pub commit_at : Bounds → List ℕ → Result (CommitValue × List ℕ) Fault
 commit_at b bytes =
-    made (λ x. record { id = x.1.0; body = x.1.1 }) (between 1 3 ▹ λ kind. run_at 32 ‖ commit_body_at b kind) bytes
+    made (λ x. record { id = x.1.0; body = x.1.1 }) (between 1 3 ▹ λ kind. run_at id_size ‖ commit_body_at b kind) bytes
 
 -- the votes of one shard
 unfoldable pub fast_abort_at : Bounds → List ℕ → Result (TallyValue × List ℕ) Fault
@@ -145,7 +145,7 @@ body_at b kind bytes =
 -- a certificate of kind 1 to 4
 unfoldable pub certificate_at : Bounds → List ℕ → Result (CertificateValue × List ℕ) Fault
 certificate_at b bytes =
-    made (λ x. record { id = x.1.0; body = x.1.1 }) (between 1 5 ▹ λ kind. run_at 32 ‖ body_at b kind) bytes
+    made (λ x. record { id = x.1.0; body = x.1.1 }) (between 1 5 ▹ λ kind. run_at id_size ‖ body_at b kind) bytes
 
 -- ---- messages behind their kinds
 
@@ -191,7 +191,7 @@ voted_at b bytes =
       proof = x.1.1.1.1.0;
       signature = x.1.1.1.1.1;
     })
-    (between 0 b.shards ‖ between 0 b.replicas ‖ run_at 32
+    (between 0 b.shards ‖ between 0 b.replicas ‖ run_at id_size
     ‖ (decision_at ▹ λ decision. maybe_committed_at b (is_abort decision) ‖ signature_at)) bytes
 
 unfoldable pub st2_at : Bounds → List ℕ → Result (St2Value × List ℕ) Fault
@@ -210,7 +210,7 @@ log_reply_at b bytes =
       current = x.1.1.1.1.1.0;
       signature = x.1.1.1.1.1.1;
     })
-    (between 0 b.shards ‖ between 0 b.replicas ‖ run_at 32 ‖ decision_at
+    (between 0 b.shards ‖ between 0 b.replicas ‖ run_at id_size ‖ decision_at
     ‖ (number_at w64 ▹ λ decided. number_from_at decided ‖ signature_at)) bytes
 
 unfoldable pub writeback_at : Bounds → List ℕ → Result (WritebackValue × List ℕ) Fault
@@ -220,7 +220,7 @@ writeback_at b bytes =
 unfoldable pub invoke_at : Bounds → List ℕ → Result (InvokeValue × List ℕ) Fault
 invoke_at b bytes =
     made (λ x. record { id = x.0; shard = x.1.0; replies = x.1.1 })
-    (run_at 32 ‖ between 0 b.shards ‖ replies_at b) bytes
+    (run_at id_size ‖ between 0 b.shards ‖ replies_at b) bytes
 
 unfoldable pub elect_at : Bounds → List ℕ → Result (ElectValue × List ℕ) Fault
 elect_at b bytes =

@@ -6,5 +6,5 @@ pub(crate) mod runs;
 pub(crate) mod walk;
 
 pub use all::signatures;
-pub use item::SignedItem;
+pub use item::{SignedItem, committed_version, prepared_version};
 pub use walk::Signatures;

@@ -40,6 +40,10 @@ MayLeave [] left = ⊤
 MayLeave (Kept contents ∷ past) left = left ≡ contents
 MayLeave (Wrote at count ∷ past) left = IsTorn (Wrote at count ∷ past) left
 
+-- what its reads give is among what a stop may leave
+abbrev pub MayStay : DiskState → Type 0
+MayStay s = MayLeave s.past s.contents
+
 -- a stop at some moment from then to now may have left this
 pub record MightLeave (then_past now_past : List Change) (left : List ℕ) : Type 0 where
   pub later : List Change

@@ -3,7 +3,7 @@
 ghost use Rattle.std.specs.Prelude.{◌≡◌, ◌⊎◌, ℕ, Option, OnOk, OnErr, IfOk, is_err, length, option_map, true};
 ghost use Rattle.std.specs.Io.{ReadsAtMost};
 ghost use Rattle.basil_types.specs.Causes.{HasCause};
-ghost use Rattle.journal_disk.specs.Disk.{DiskState, BothTold, OnTold, Reads, Writes, Tears, keeps};
+ghost use Rattle.journal_disk.specs.Disk.{DiskState, BothTold, MayStay, OnTold, Reads, Writes, Tears, keeps};
 ghost use Rattle.journal_disk.specs.Foreseen.{MayHappen, Passes, StopState};
 
 use basil_types::bytes::Bytes;
@@ -33,6 +33,7 @@ pub trait Disk {
     fn read_at(&mut self, at: u64, buf: &mut [u8]) -> Result<usize, Failed>
         ensures bound { ReadsAtMost result buf.new }
         ensures bytes { IfOk result (λ count. OnTold (Reads at count buf.new) (told self.old)) }
+        ensures may_stay { OnTold MayStay (told self.old) }
         ensures as_before { told self.new ≡ told self.old }
         ensures stops { stops self.new ≡ stops self.old }
         ensures after_stop { (stops self.old).is_stopped ≡ true → is_err result ≡ true }

@@ -7,7 +7,7 @@ ghost use Rattle.std.specs.Prelude.{◌≡◌, ◌<◌, ◌⊎◌, [], true, fal
 ghost use Rattle.std.specs.Prelude.{IfOk, OnOk, OnErr, is_err, is_some};
 ghost use Rattle.std.specs.Io.{ReadsAtMost};
 ghost use Rattle.basil_types.specs.Causes.{HasCause};
-ghost use Rattle.journal_disk.specs.Disk.{BothTold, MayLeave, OnTold, Reads, Tears, Writes, keeps};
+ghost use Rattle.journal_disk.specs.Disk.{BothTold, MayLeave, MayStay, OnTold, Reads, Tears, Writes, keeps};
 ghost use Rattle.journal_disk.specs.Foreseen.{MayHappen, Passes, is_next};
 ghost use Rattle.journal_disk.specs.Memory as disks;
 ghost use Rattle.journal_disk.specs.Memory.{MayStop, Stops, called, fresh, puts, revived, stops_in, synced};
@@ -197,6 +197,7 @@ impl Disk for MemDisk {
     fn read_at(&mut self, at: u64, buf: &mut [u8]) -> Result<usize, Failed>
         ensures bound { ReadsAtMost result buf.new }
         ensures bytes { IfOk result (λ count. OnTold (Reads at count buf.new) (Some self.old.disk)) }
+        ensures may_stay { OnTold MayStay (Some self.old.disk) }
         ensures as_before { Some self.new.disk ≡ Some self.old.disk }
         ensures stops { self.new.stops ≡ self.old.stops }
         ensures after_stop { self.old.stops.is_stopped ≡ true → is_err result ≡ true }
@@ -204,6 +205,7 @@ impl Disk for MemDisk {
         ensures listed { is_err result ≡ disks.is_refused self.old }
         ensures called { self.new ≡ called (is_err result) self.old }
     {
+        reads_may_be_left(self);
         let fails = self.is_refused();
         self.calls.count(fails);
         if fails {
@@ -254,7 +256,7 @@ impl Disk for MemDisk {
 
 /// A stop now may leave what reads of the disk give.
 pub fn reads_may_be_left(disk: &MemDisk)
-    ensures { MayLeave disk.now.disk.past disk.now.disk.contents }
+    ensures { MayStay disk.now.disk }
 {
     let _bytes = disk.bytes();
 }

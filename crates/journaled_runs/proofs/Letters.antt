@@ -11,10 +11,10 @@ use Rattle.replica_core.specs.Answers.{answer}
 use Rattle.replica_core.specs.Replicas.{BookValue, Done}
 use Rattle.run_journals.specs.Journals.{JournalValue, journal_at}
 use Rattle.cluster_run.specs.Events.{EventValue}
-use Rattle.cluster_run.specs.Parts.{are_bytes, replica_self}
+use Rattle.cluster_run.specs.Parts.{are_bytes, replica_self, Mail}
 use Rattle.cluster_run.specs.States.{Posted, Setup, Standing, State, is_at, is_faulty, standing}
 use Rattle.cluster_run.specs.Telling.{moment_at}
-use Rattle.delivery_laws.specs.Deliveries.{Hand, Taking, book_in, handed_by, taken_at, taken_by, taken_of, takes}
+use Rattle.delivery_laws.specs.Deliveries.{Taking, book_in, handed_by, taken_at, taken_by, taken_of, takes}
 use Rattle.journaled_runs.specs.declared.letter.Letter.{Letter}
 use Rattle.journaled_runs.specs.Handing.{Hands, WritesNothing, hand, handed_by_letter, journal_of, taken_if}
 use Rattle.journaled_runs.specs.Journaling.{JournaledState}
@@ -50,12 +50,12 @@ diverted (Some p) from was to frame h =
     ap (λ (a : Party). Some (hand a to frame)) (ap (λ w. w.0) same)
 
 -- one that isn't there
-pub no_hand : (f : Posted → Hand) (o : Option Posted) → option_map ends o ≡ None → option_map f o ≡ None
+pub no_hand : (f : Posted → Mail) (o : Option Posted) → option_map ends o ≡ None → option_map f o ≡ None
 no_hand f None h = refl
 no_hand f (Some p) h = absurd cc
 
 -- what is handed decides
-takes_of : (s : Setup) (st : State) (e : EventValue) (h : Hand) → handed_by st e ≡ Some h → takes s st e ≡ taken_of s st h
+takes_of : (s : Setup) (st : State) (e : EventValue) (h : Mail) → handed_by st e ≡ Some h → takes s st e ≡ taken_of s st h
 takes_of s st e h at = ap (option_and_then (taken_of s st)) at
 
 -- nobody takes
@@ -78,7 +78,7 @@ module _ (s : Setup) (x : JournaledState) (e : EventValue) (from : Party) (frame
   to_client number at = by_hand (Client number) at refl
 
   module _ (shard index : ℕ) (at : handed_by x.state e ≡ Some (hand from (Replica shard index) frame)) where
-    abbrev h : Hand
+    abbrev h : Mail
     h = hand from (Replica shard index) frame
 
     -- a replica without a journal

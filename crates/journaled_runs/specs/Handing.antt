@@ -12,17 +12,17 @@ use Rattle.run_journals.specs.Journals.{JournalValue, journal_at}
 use Rattle.cluster_run.specs.declared.fault.WorldFault.{WorldFault}
 use Rattle.cluster_run.specs.declared.fault.WorldFault.TheVariants.{Broken, PoolFull, Call, Exhausted}
 use Rattle.cluster_run.specs.Events.{EventValue}
-use Rattle.cluster_run.specs.Parts.{replica_self}
+use Rattle.cluster_run.specs.Parts.{replica_self, Mail}
 use Rattle.cluster_run.specs.States.{KitValue, Setup}
 use Rattle.cluster_world.specs.declared.fault.StepFault.{StepFault}
 use Rattle.cluster_world.specs.declared.fault.StepFault.TheVariants as fault
-use Rattle.delivery_laws.specs.Deliveries.{Hand, Taking, takes}
+use Rattle.delivery_laws.specs.Deliveries.{Taking, takes}
 use Rattle.journaled_runs.specs.declared.letter.Letter.{Letter}
 use Rattle.journaled_runs.specs.Journaling.{JournaledState}
 use Rattle.journaled_runs.specs.Shown.{KeepsAll, pen_of}
 
 -- a frame that is handed to a party, and who sent it
-abbrev pub hand : (from to : Party) → (frame : List ℕ) → Hand
+abbrev pub hand : (from to : Party) → (frame : List ℕ) → Mail
 hand from to frame = record { from = from; to = to; frame = frame }
 
 abbrev pub handed_by_letter : Letter → Handed

@@ -2,6 +2,7 @@
 use Rattle.std.specs.Prelude.{◌≡◌, ℕ, ◌+◌, ◌*◌, nat_lt, nat_le, Bool, ◌&&◌, ◌||◌, List}
 use Rattle.std.specs.Prelude.{◌++◌, map, Option, Some, None, option_map, if◌then◌else◌}
 use Rattle.std.specs.List.{find, flat_map, list_any, range_with_len}
+use Rattle.basil_types.specs.Limits.{most_clients}
 use Rattle.basil_types.specs.Setting.{Setting}
 use Rattle.basil_types.specs.declared.party.Party.{Party}
 use Rattle.basil_types.specs.declared.party.Party.TheVariants.{Replica, Client}
@@ -23,7 +24,7 @@ abbrev pub replicas_of : ℕ → ℕ → List Party
 replicas_of n shard = map (λ index. Replica shard index) (range_with_len 0 n)
 
 abbrev pub clients : List Party
-clients = map (λ number. Client number) (range_with_len 1 16)
+clients = map (λ number. Client number) (range_with_len 1 most_clients)
 
 abbrev pub parties_of : Setting → List Party
 parties_of cluster =
@@ -32,7 +33,7 @@ parties_of cluster =
 -- whether a party is one of a cluster's
 abbrev pub is_party_of : Setting → Party → Bool
 is_party_of cluster (Replica shard index) = nat_lt shard cluster.shards && nat_lt index (5 * cluster.f + 1)
-is_party_of cluster (Client number) = nat_le 1 number && nat_le number 16
+is_party_of cluster (Client number) = nat_le 1 number && nat_le number most_clients
 
 -- the public key of a party in a replay, if it is one of the cluster's
 abbrev pub public_in_replay : Setting → LmsSet → Party → Option (List ℕ)

@@ -16,5 +16,6 @@ pub use laws::{
     accepted_is_valid, one_key_agrees_with_its_pen, pens_agree_with_keys,
     replay_pens_agree_with_keys, replay_pens_are_accepted,
 };
+pub use listed::has_party;
 pub use pen::LmsPen;
 pub use replay_keys::ReplayKeys;

@@ -4,17 +4,18 @@ ghost use Rattle.keyring_lms.specs.Replay as replay;
 ghost use Rattle.keyring_lms.specs.Replay.{AreListedOf, HasOneMore, is_party_of};
 
 use basil_types::cluster::Cluster;
+use basil_types::limits::MOST_CLIENTS;
 use basil_types::memory::NoMemory;
 use basil_types::party::Party;
 use std::alloc::Global;
 
-/// Whether a party is one of a cluster's: a replica of one of its shards, or one of the clients 1 to 16.
-fn has_party(cluster: &Cluster, party: Party) -> bool
+/// Whether a party is one of a cluster's: a replica of one of its shards, or one of the clients.
+pub fn has_party(cluster: &Cluster, party: Party) -> bool
     ensures { result ≡ is_party_of cluster.now party }
 {
     match party {
         Party::Replica { shard, index } => shard < cluster.shards && index < cluster.n(),
-        Party::Client { number } => 1 <= number && number <= 16,
+        Party::Client { number } => 1 <= number && number <= MOST_CLIENTS,
     }
 }
 

@@ -24,4 +24,4 @@ pub use laws::{
 pub use public::ident_of_seed;
 pub use sets::LmsSet;
 pub use tree::LmsTree;
-pub use verifying::{LmsRefusal, verify};
+pub use verifying::{LmsRefusal, ident_of, verify};

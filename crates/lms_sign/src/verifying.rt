@@ -88,15 +88,15 @@ fn check_signature(
     if read_number(signature, 0) >= set.leaves() {
         return Err(LmsRefusal::LeafRange);
     }
-    let root = root_of(set, &read_ident(public), message, signature);
+    let root = root_of(set, &ident_of(public), message, signature);
     if root != read_node(public, 24) {
         return Err(LmsRefusal::Root);
     }
     Ok(())
 }
 
-/// The identifier in a public key.
-fn read_ident(public: &[u8]) -> [u8; 16]
+/// The identifier I in a public key (RFC 8554, section 5.3).
+pub fn ident_of(public: &[u8]) -> [u8; 16]
     requires { 24 ≤ length public.now }
     ensures { result ≡ ident_in public.now }
 {

@@ -15,7 +15,7 @@ use txn_meta::conflicts::writes_key;
 use txn_meta::form::version_of;
 use txn_meta::shards::shard_of;
 use txn_table::entry::Entry;
-use txn_table::released::Home;
+use txn_table::released::{Home, is_dependency};
 use txn_table::table::Table;
 
 /// Whether some dependency on a key of the shard isn't known, is aborted, or is a transaction that doesn't write the
@@ -57,20 +57,14 @@ fn is_broken_dependency(table: &Table, home: &Home, item: ReadItem<'_>) -> bool
     ensures { result ≡ (released.is_dependency home.now (read_of item.entry)
         && book.is_broken table.now.entries (read_of item.entry)) }
 {
-    is_dependency(home, item) && is_broken(table, item)
+    is_dependency(&item, home) && is_broken(table, item)
 }
 
 fn is_open_dependency(table: &Table, home: &Home, item: ReadItem<'_>) -> bool
     ensures { result ≡ (released.is_dependency home.now (read_of item.entry)
         && book.is_open table.now.entries (read_of item.entry)) }
 {
-    is_dependency(home, item) && is_open(table, item)
-}
-
-fn is_dependency(home: &Home, item: ReadItem<'_>) -> bool
-    ensures { result ≡ released.is_dependency home.now (read_of item.entry) }
-{
-    item.dependency && shard_of(item.key, &home.cluster) == home.shard
+    is_dependency(&item, home) && is_open(table, item)
 }
 
 /// The entry of the transaction whose version was read, if it is known.

@@ -3,10 +3,11 @@ use Rattle.std.proofs.Common.{◌≡◌, ℕ, ◌+◌, ◌^◌, ◌<◌, List, [
 use Rattle.std.specs.Int.{w64, to_be_bytes}
 use Rattle.std.proofs.Common.{length-append, slice_index_or}
 use Rattle.std.proofs.lemmas.Nat.{from_be_bytes-to_be_bytes_8}
+use Rattle.basil_types.specs.Parties.{party_bytes}
 use Rattle.basil_types.specs.declared.party.Party.{Party}
 use Rattle.basil_types.specs.declared.party.Party.TheVariants.{Replica, Client}
 use Rattle.replica_laws.specs.Steps.{Handed}
-use Rattle.node_journal.specs.Entries.{entry_of, front_of, handed_in, party_bytes}
+use Rattle.node_journal.specs.Entries.{entry_of, front_of, handed_in}
 use Rattle.node_journal.specs.Laws.{EntriesAreRead}
 
 pub length-front_of : (now : ℕ) (from : Party) → length (front_of now from) ≡ 11

@@ -7,10 +7,11 @@ use Rattle.std.specs.Int.{w64, from_be_bytes, to_be_bytes}
 use Rattle.std.proofs.lemmas.Bool.{cases_lt, eqb-true}
 use Rattle.std.proofs.lemmas.List.{get_or-take, get_or_past}
 use Rattle.std.proofs.lemmas.Nat.{be_bytes_8}
+use Rattle.basil_types.specs.Parties.{party_bytes}
 use Rattle.basil_types.specs.declared.party.Party.{Party}
 use Rattle.basil_types.specs.declared.party.Party.TheVariants.{Replica, Client}
 use Rattle.replica_laws.specs.Steps.{Handed}
-use Rattle.node_journal.specs.Entries.{entry_of, front_of, handed_by, handed_in, party_bytes, party_named}
+use Rattle.node_journal.specs.Entries.{entry_of, front_of, handed_by, handed_in, party_named}
 
 both-true : (a b : Bool) → (a && b) ≡ true → (a ≡ true) × (b ≡ true)
 both-true true b e = (refl, e)

@@ -4,6 +4,7 @@ use Rattle.std.proofs.Common.{inr, sym, ap, subst, ◌∙◌, length-append, ari
 use Rattle.std.specs.Prelude.{IfErr, IsOk, map}
 use Rattle.std.proofs.lemmas.List.{append-nil, map-append}
 use Rattle.basil_types.specs.Words.{SignedWords, words_of}
+use Rattle.basil_types.specs.declared.outbox.Envelope.{Envelope}
 use Rattle.basil_types.specs.declared.outbox.Outbox.{Outbox}
 use Rattle.journal_disk.specs.declared.disk.Disk as disks
 use Rattle.journal_disk.specs.Disk.{BothTold, DiskState}
@@ -34,7 +35,7 @@ use Rattle.node_journal.specs.declared.journaled.Journaled.{Journaled}
 use Rattle.node_journal.specs.Entries.{entry_of}
 use Rattle.node_journal.specs.Journals.{AcceptsAll, IsTooLong, Keeps, LosesNone, entries_of}
 use Rattle.node_journal.specs.Replicas.{HasTaken, Reflects}
-use Rattle.node_journal.specs.Steps.{IsFaulted, IsTaken, IsWithin, MayHaveWritten, answer_after, words_signed}
+use Rattle.node_journal.specs.Steps.{GainsWords, IsFaulted, IsTaken, IsWithin, MayHaveWritten, answer_after, words_signed}
 use Rattle.node_journal.proofs.KeepingLaws.{entries-push, stopped-keeps, unwritten-loses, written-loses}
 use Rattle.node_journal.proofs.TakenLaws.{Answered, accepts-push, answered-by, book_after-push, is-ok, shown-same, words-kept}
 
@@ -156,22 +157,45 @@ more-accepted j begun hs h r small ok =
 
 -- ---- what is said of it
 
-pub is_taken-ok : (hs : List Handed) (h : Handed) (out : Outbox) (a : Result Done Refusal) (last : Parts) (pen : PenValue) →
-    Answered a last pen out → ¬ IsTooLong (hs ++ h ∷ []) → IsTaken hs h (Ok out) a
-is_taken-ok hs h out a last pen w short =
-    subst (λ (b : Result Done Refusal). IsTaken hs h (Ok out) b) (sym w.is) (w.gives, short)
+-- an outbox gained what another holds
+pub record Adds (old new more : Outbox) : Type 0 where
+  pub messages : new.messages.items ≡ old.messages.items ++ more.messages.items
+  pub signed : new.signed.items ≡ old.signed.items ++ more.signed.items
 
-pub signed-more : (me : ReplicaSelf) (begun : PenValue) (hs : List Handed) (h : Handed) (out : Outbox) (last : Parts) (pen : PenValue) →
-    Answered (answer_after me begun hs h) last pen out →
-    words_signed me begun (hs ++ h ∷ []) ≡ words_signed me begun hs ++ out.signed.items
-signed-more me begun hs h out last pen w =
+pub adds-behind : (old mid new more : Outbox) → mid.messages.items ≡ old.messages.items → mid.signed.items ≡ old.signed.items →
+    Adds mid new more → Adds old new more
+adds-behind old mid new more m s a =
+    record {
+      messages = a.messages ∙ ap (λ (es : List Envelope). es ++ more.messages.items) m;
+      signed = a.signed ∙ ap (λ (ws : List (List ℕ)). ws ++ more.signed.items) s;
+    }
+
+pub is_taken-ok : (hs : List Handed) (h : Handed) (old new more : Outbox) (a : Result Done Refusal) (last : Parts) (pen : PenValue) →
+    Answered a last pen more → Adds old new more → ¬ IsTooLong (hs ++ h ∷ []) → IsTaken hs h old new (Ok tt) a
+is_taken-ok hs h old new more a last pen w adds short =
+    subst (λ (b : Result Done Refusal). IsTaken hs h old new (Ok tt) b) (sym w.is) (
+      record {
+        messages = adds.messages ∙ ap (λ (es : List Envelope). old.messages.items ++ es) w.messages;
+        signed = adds.signed ∙ ap (λ (ws : List (List ℕ)). old.signed.items ++ ws) w.signed;
+      },
+      short,
+    )
+
+pub signed-more : (me : ReplicaSelf) (begun : PenValue) (hs : List Handed) (h : Handed) (old new more : Outbox) (last : Parts)
+    (pen : PenValue) → Answered (answer_after me begun hs h) last pen more → Adds old new more → GainsWords me begun hs h old new
+signed-more me begun hs h old new more last pen w adds =
     let before : BookValue = book_after me (empty_book begun) hs in
     let one : signed_in me before (h ∷ []) ≡ w.done.signed =
     append-nil _ ∙ ap (λ (a : Result Done Refusal). (left_by before a).signed) w.is in
-    ap (map words_of) (words-kept me (empty_book begun) hs (h ∷ []))
-    ∙ map-append words_of (signed_in me (empty_book begun) hs) (signed_in me before (h ∷ []))
-    ∙ ap (λ (ws : List SignedWords). words_signed me begun hs ++ map words_of ws) one
-    ∙ ap (λ (ws : List (List ℕ)). words_signed me begun hs ++ ws) (sym w.gives.signed)
+    record {
+      added = more.signed.items;
+      gained = adds.signed;
+      signed =
+          ap (map words_of) (words-kept me (empty_book begun) hs (h ∷ []))
+          ∙ map-append words_of (signed_in me (empty_book begun) hs) (signed_in me before (h ∷ []))
+          ∙ ap (λ (ws : List SignedWords). words_signed me begun hs ++ map words_of ws) one
+          ∙ ap (λ (ws : List (List ℕ)). words_signed me begun hs ++ ws) (sym w.signed);
+    }
 
 pub faulted-by : (hs : List Handed) (h : Handed) (fault : StepFault) (a : Result Done Refusal) → IsOk a →
     IsWithin (last_gate (entries_of hs ++ entry_of h ∷ []) + 1) (Err fault) → IsFaulted hs h fault a

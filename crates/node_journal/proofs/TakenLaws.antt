@@ -1,8 +1,9 @@
 -- A replica that took some frames takes one more.
 use Rattle.std.proofs.Common.{◌≡◌, List, [], ◌∷◌, ◌++◌, Result, Ok, Err, refl, sym, ap, subst, ◌∙◌, append_assoc}
-use Rattle.std.specs.Prelude.{IsOk}
+use Rattle.std.specs.Prelude.{IsOk, map}
 use Rattle.basil_types.specs.declared.outbox.Outbox.{Outbox}
-use Rattle.basil_types.specs.Words.{SignedWords}
+use Rattle.basil_types.specs.Words.{SignedWords, words_of}
+use Rattle.node_steps.specs.Framed.{framed}
 use Rattle.node_steps.specs.Pens.{PenValue}
 use Rattle.replica_core.specs.declared.parts.Parts.{Parts}
 use Rattle.replica_core.specs.declared.refusal.Refusal.{Refusal}
@@ -12,7 +13,6 @@ use Rattle.replica_core.specs.Telling.{Told, told, told_of}
 use Rattle.replica_laws.specs.Steps.{Handed, book_after, signed_in, step}
 use Rattle.node_journal.specs.Journals.{Accepts, AcceptsAll}
 use Rattle.node_journal.specs.Laws.{WordsAreKept}
-use Rattle.node_journal.specs.Steps.{Gives}
 
 -- what showed a book still shows it
 pub shown-same : (old new : Parts) (pen : PenValue) (book : BookValue) → ShowsSame old new → Shows old pen book → Shows new pen book
@@ -66,7 +66,8 @@ pub record Answered (a : Result Done Refusal) (parts : Parts) (pen : PenValue) (
   pub done : Done
   pub is : a ≡ Ok done
   pub shows : Shows parts pen done.book
-  pub gives : Gives out done
+  pub messages : out.messages.items ≡ map framed done.sent
+  pub signed : out.signed.items ≡ map words_of done.signed
 
 pub planned-ok : (a : Result Done Refusal) (t : Told) → told_of a ≡ Ok t → (done : Done) × (a ≡ Ok done) × (told done ≡ t)
 planned-ok (Ok done) t e = (done, refl, cc)
@@ -77,4 +78,4 @@ pub answered-by : (a : Result Done Refusal) (t : Told) (parts : Parts) (pen : Pe
 answered-by a t parts pen out e p =
     let q = planned-ok a t e in
     let r = subst (Performs parts pen out) (sym q.2) p in
-    record { done = q.0; is = q.1; shows = r.book; gives = record { messages = r.messages; signed = r.signed } }
+    record { done = q.0; is = q.1; shows = r.book; messages = r.messages; signed = r.signed }

@@ -1,14 +1,10 @@
 -- The entry of a record: the moment at which a frame was handed, eight bytes; by whom, three; and the frame.
 use Rattle.std.specs.Prelude.{ℕ, List, [], ◌∷◌, ◌++◌, Option, Some, None, option_map, ◌==◌, ◌&&◌, if◌then◌else◌}
 use Rattle.std.specs.Int.{w64, from_be_bytes, to_be_bytes}
+use Rattle.basil_types.specs.Parties.{party_bytes}
 use Rattle.basil_types.specs.declared.party.Party.{Party}
 use Rattle.basil_types.specs.declared.party.Party.TheVariants.{Replica, Client}
 use Rattle.replica_laws.specs.Steps.{Handed}
-
--- 0, the shard and the index of a replica, or 1, 0 and the number of a client
-abbrev pub party_bytes : Party → List ℕ
-party_bytes (Replica shard index) = 0 ∷ shard ∷ index ∷ []
-party_bytes (Client number) = 1 ∷ 0 ∷ number ∷ []
 
 unfoldable pub front_of : ℕ → Party → List ℕ
 front_of now from = to_be_bytes w64 now ++ party_bytes from

@@ -1,5 +1,6 @@
 -- Bytes that hold what a replica was handed.
-use Rattle.std.specs.Prelude.{ℕ, ◌+◌, ◌^◌, ◌<◌, ◌⊎◌, ◌++◌, List, [], ◌∷◌, map, IsOk, ⊤}
+use Rattle.std.specs.Prelude.{ℕ, ◌+◌, ◌<◌, ◌⊎◌, ◌++◌, List, [], ◌∷◌, map, IsOk, ⊤}
+use Rattle.basil_types.specs.Limits.{IsU64}
 use Rattle.journal_disk.specs.Disk.{Change, DiskState, MightLeave}
 use Rattle.journal_records.specs.declared.limits.TheConstants.{JOURNAL_LIMIT}
 use Rattle.journal_records.specs.Journal.{Follows, Holds, last_gate}
@@ -17,7 +18,7 @@ entries_of hs = map entry_of hs
 
 -- the moment is one of a clock, and the replica accepts the frame
 pub record Accepts (me : ReplicaSelf) (book : BookValue) (h : Handed) : Type 0 where
-  pub moment : h.now < 2 ^ 64
+  pub moment : IsU64 h.now
   pub answered : IsOk (answer me h.now h.from book h.frame)
 
 -- each where it comes

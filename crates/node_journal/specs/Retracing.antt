@@ -1,6 +1,7 @@
 -- A replica that takes again what it took before a stop.
-use Rattle.std.specs.Prelude.{◌≡◌, ℕ, ◌^◌, ◌<◌, ◌++◌, List, [], ◌∷◌, length, Bool, true, false, Result, Ok, MatchResult}
+use Rattle.std.specs.Prelude.{◌≡◌, ℕ, ◌++◌, List, [], ◌∷◌, length, Bool, true, false, Result, Ok, MatchResult}
 use Rattle.std.specs.List.{All, flat_map}
+use Rattle.basil_types.specs.Limits.{IsU64}
 use Rattle.journal_disk.specs.declared.disk.Disk as disks
 use Rattle.journal_records.specs.Journal.{Holds, IsEntry, last_gate, opened}
 use Rattle.keyring.specs.declared.verifier.Verifier as verifiers
@@ -45,7 +46,7 @@ pub record Hears {V S : Type 0} {v : verifiers.Ghosts V} {g : signers.Ghosts S} 
   pub handed : Handed
   pub done : Done
   pub written : entry ≡ entry_of handed
-  pub moment : handed.now < 2 ^ 64
+  pub moment : IsU64 handed.now
   pub answered : answer me handed.now handed.from book handed.frame ≡ Ok done
   pub shows : ShowsBook replica done.book
 

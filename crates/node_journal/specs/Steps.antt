@@ -25,10 +25,17 @@ answer_after me begun hs h = answer me h.now h.from (book_after me (empty_book b
 abbrev pub words_signed : ReplicaSelf → PenValue → List Handed → List (List ℕ)
 words_signed me begun hs = map words_of (signed_in me (empty_book begun) hs)
 
--- the messages that are sent, and the words that were signed, each in order
-pub record Gives (out : Outbox) (done : Done) : Type 0 where
-  pub messages : out.messages.items ≡ map framed done.sent
-  pub signed : out.signed.items ≡ map words_of done.signed
+-- an outbox gained the messages that are sent and the words that were signed, each in order
+pub record Gains (old new : Outbox) (done : Done) : Type 0 where
+  pub messages : new.messages.items ≡ old.messages.items ++ map framed done.sent
+  pub signed : new.signed.items ≡ old.signed.items ++ map words_of done.signed
+
+-- and these are all words that it signed at those frames and this one, behind those that it signed at those
+pub record GainsWords (me : ReplicaSelf) (begun : PenValue) (hs : List Handed) (h : Handed) (old new : Outbox) :
+    Type 0 where
+  pub added : List (List ℕ)
+  pub gained : new.signed.items ≡ old.signed.items ++ added
+  pub signed : words_signed me begun (hs ++ h ∷ []) ≡ words_signed me begun hs ++ added
 
 -- why the frame isn't taken
 abbrev pub IsFaulted : (hs : List Handed) → Handed → StepFault → Result Done Refusal → Type 0
@@ -38,11 +45,12 @@ IsFaulted hs h Full answered = IsOk answered × IsTooLong (hs ++ h ∷ [])
 IsFaulted hs h DiskFault answered = IsOk answered × ¬ IsTooLong (hs ++ h ∷ [])
 IsFaulted hs h NoMemory answered = ⊤
 
--- what the answer says is handed out, or the first fault comes
-abbrev pub IsTaken : (hs : List Handed) → Handed → Result Outbox StepFault → Result Done Refusal → Type 0
-IsTaken hs h (Ok out) (Ok done) = Gives out done × ¬ IsTooLong (hs ++ h ∷ [])
-IsTaken hs h (Ok out) (Err refusal) = ⊥
-IsTaken hs h (Err fault) answered = IsFaulted hs h fault answered
+-- the outbox gains what the answer says, or the first fault comes
+abbrev pub IsTaken : (hs : List Handed) → Handed → (old new : Outbox) → Result (Unit {0}) StepFault →
+    Result Done Refusal → Type 0
+IsTaken hs h old new (Ok _) (Ok done) = Gains old new done × ¬ IsTooLong (hs ++ h ∷ [])
+IsTaken hs h old new (Ok _) (Err refusal) = ⊥
+IsTaken hs h old new (Err fault) answered = IsFaulted hs h fault answered
 
 -- a journal of so many bytes isn't too long where its record was written, or was about to be
 abbrev pub IsWithin : ℕ → Result (Unit {0}) StepFault → Type 0

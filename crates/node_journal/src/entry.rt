@@ -2,10 +2,10 @@
 
 ghost use Rattle.std.specs.Prelude.{◌≡◌, ◌++◌, ◌∷◌, [], option_map};
 ghost use Rattle.std.specs.Int.{to_be_bytes, w64};
-ghost use Rattle.node_journal.specs.Entries.{front_of, handed_in, party_bytes, party_named};
+ghost use Rattle.node_journal.specs.Entries.{front_of, handed_in, party_named};
 
 use crate::limits::BEFORE_FRAME;
-use basil_types::party::Party;
+use basil_types::party::{Party, party_bytes};
 
 /// A frame that is lent, by whom it was sent and at which moment.
 #[derive(Clone, Copy)]
@@ -13,16 +13,6 @@ pub(crate) struct Lent<'a> {
     pub(crate) now: u64,
     pub(crate) from: Party,
     pub(crate) frame: &'a [u8],
-}
-
-/// Three bytes that name a party: 0, the shard and the index of a replica, or 1, 0 and the number of a client.
-fn party_spelled(party: Party) -> [u8; 3]
-    ensures { result ≡ party_bytes party }
-{
-    match party {
-        Party::Replica { shard, index } => [0, shard, index],
-        Party::Client { number } => [1, 0, number],
-    }
 }
 
 /// Who is named by three bytes.
@@ -46,7 +36,7 @@ pub(crate) fn front(now: u64, from: Party) -> [u8; BEFORE_FRAME]
     ensures { result ≡ front_of now from }
 {
     let [a, b, c, d, e, f, g, h] = now.to_be_bytes();
-    let [kind, second, number] = party_spelled(from);
+    let [kind, second, number] = party_bytes(from);
     [a, b, c, d, e, f, g, h, kind, second, number]
 }
 

@@ -12,7 +12,8 @@ use journal_disk::disk::Disk;
 use journal_records::{SpelledRecord, append, gate_behind};
 use keyring::signer::Signer;
 use keyring::verifier::Verifier;
-use replica_core::Replica;
+use node_steps::appending;
+use replica_core::{Plan, Replica};
 use std::alloc::Global;
 
 /// A replica that writes each frame that it takes down before it answers. Its disk holds the records of what it took,
@@ -31,7 +32,7 @@ pub struct Journaled<V: Verifier, S: Signer, D: Disk> {
 
 impl<V: Verifier, S: Signer, D: Disk> Journaled<V, S, D> {
     ghost use Rattle.std.specs.Prelude.{◌≡◌, ◌≢◌, ◌+◌, ◌↔◌, ◌⊎◌, ◌++◌, ◌∷◌, [], List, ℕ, false, true, IsTrue, length};
-    ghost use Rattle.std.specs.Prelude.{IfOk, IfErr, OnOk, OnErr, MatchResult, Some, None};
+    ghost use Rattle.std.specs.Prelude.{IfErr, OnOk, OnErr, MatchResult, Some, None};
     ghost use Rattle.std.specs.Result.{IsErrOf};
     ghost use Rattle.basil_types.specs.Causes.{Rose};
     ghost use Rattle.basil_types.specs.Limits.{frame_limit};
@@ -44,24 +45,30 @@ impl<V: Verifier, S: Signer, D: Disk> Journaled<V, S, D> {
     ghost use Rattle.replica_core.specs.Nodes.{CanCommit};
     ghost use Rattle.replica_core.specs.Replicas.{BookValue};
     ghost use Rattle.replica_core.specs.Shown.{ShowsBook, own};
+    ghost use Rattle.replica_core.specs.Works.{word_count};
     ghost use Rattle.replica_laws.specs.Steps.{Handed};
     ghost use Rattle.node_journal.specs.Entries.{entry_of};
     ghost use Rattle.node_journal.specs.Journals.{IsTooLong, Keeps, LosesNone, entries_of, journal_bytes};
     ghost use Rattle.node_journal.specs.Replicas.{Reflects};
-    ghost use Rattle.node_journal.specs.Steps.{IsTaken, IsWithin, MayHaveWritten, answer_after, handed, words_signed};
+    ghost use Rattle.node_journal.specs.Steps.{GainsWords, IsTaken, IsWithin, MayHaveWritten, answer_after, handed};
 
-    /// Answers a frame that this sender sent, at this moment: what is sent and signed, once the record of the frame is
-    /// kept. What it hands out then is known again after every stop, and a stop that is foreseen within it tells
-    /// whether the record is.
-    pub fn step(&mut self, now: u64, from: Party, frame: &[u8]) -> Result<Outbox, StepFault>
+    /// Answers a frame that this sender sent, at this moment: once the record of the frame is kept, what is sent and
+    /// signed comes behind what the outbox held; a fault leaves the outbox as it was. What it hands out is known again
+    /// after every stop, and a stop that is foreseen within it tells whether the record is.
+    pub fn step(
+        &mut self,
+        now: u64,
+        from: Party,
+        frame: &[u8],
+        out: &mut Outbox,
+    ) -> Result<(), StepFault>
         ensures taken { (begun : PenValue) (hs : List Handed) → Reflects self.old begun hs →
             let h = handed now from frame.now in
-            IsTaken hs h result (answer_after (own self.old.replica) begun hs h) }
+            IsTaken hs h out.old out.new result (answer_after (own self.old.replica) begun hs h) }
         ensures reflects { (begun : PenValue) (hs : List Handed) → Reflects self.old begun hs →
             OnOk result (Reflects self.new begun (hs ++ handed now from frame.now ∷ [])) }
         ensures signed { (begun : PenValue) (hs : List Handed) → Reflects self.old begun hs →
-            IfOk result (λ out. words_signed (own self.old.replica) begun (hs ++ handed now from frame.now ∷ [])
-            ≡ words_signed (own self.old.replica) begun hs ++ out.signed.items) }
+            OnOk result (GainsWords (own self.old.replica) begun hs (handed now from frame.now) out.old out.new) }
         ensures as_before { (begun : PenValue) (hs : List Handed) → Reflects self.old begun hs →
             IfErr result (λ fault. fault ≢ StepFault.DiskFault → Reflects self.new begun hs) }
         ensures loses_none { (begun : PenValue) (hs : List Handed) → Reflects self.old begun hs →
@@ -73,6 +80,8 @@ impl<V: Verifier, S: Signer, D: Disk> Journaled<V, S, D> {
             stop.stop (D.stops self.old.disk) (D.stops self.new.disk) (D.told self.new.disk)) }
         ensures same_book { (book : BookValue) → ShowsBook self.old.replica book →
             OnErr result (ShowsBook self.new.replica book) }
+        ensures same_messages { OnErr result (out.new.messages.items ≡ out.old.messages.items) }
+        ensures same_words { OnErr result (out.new.signed.items ≡ out.old.signed.items) }
         ensures unwritten { IfErr result
             (λ fault. fault ≢ StepFault.DiskFault → D.told self.new.disk ≡ D.told self.old.disk) }
         ensures untouched { IfErr result
@@ -89,8 +98,11 @@ impl<V: Verifier, S: Signer, D: Disk> Journaled<V, S, D> {
             return Err(StepFault::Closed);
         }
         match self.replica.plan(now, from, frame) {
-            Ok(plan) => match self.write_down(now, from, frame) {
-                Ok(()) => Ok(self.replica.commit(plan)),
+            Ok(plan) => match self.write_down(now, from, frame, &plan, out) {
+                Ok(()) => {
+                    appending::append(out, self.replica.commit(plan));
+                    Ok(())
+                }
                 Err(fault) => {
                     self.replica.give_up(plan);
                     Err(fault)
@@ -100,8 +112,16 @@ impl<V: Verifier, S: Signer, D: Disk> Journaled<V, S, D> {
         }
     }
 
-    /// Has the disk keep the record of a frame behind the others, unless the journal would be too long.
-    fn write_down(&mut self, now: u64, from: Party, frame: &[u8]) -> Result<(), StepFault>
+    /// Has the disk keep the record of a frame behind the others, unless the journal would be too long. Before that it
+    /// makes room in the outbox for what is planned; the outbox holds what it held.
+    fn write_down(
+        &mut self,
+        now: u64,
+        from: Party,
+        frame: &[u8],
+        plan: &Plan,
+        out: &mut Outbox,
+    ) -> Result<(), StepFault>
         requires some { 1 ≤ length frame.now }
         requires short { length frame.now ≤ frame_limit }
         ensures written { (entries : List (List ℕ)) → EndsAt entries self.old.end (D.told self.old.disk) →
@@ -133,12 +153,17 @@ impl<V: Verifier, S: Signer, D: Disk> Journaled<V, S, D> {
         ensures cause { IsErrOf result StepFault.DiskFault → Rose (D.faults self.old.disk) (D.faults self.new.disk) }
         ensures faults { D.faults self.old.disk ≤ D.faults self.new.disk }
         ensures replica { self.new.replica ≡ self.old.replica }
+        ensures same_messages { out.new.messages.items ≡ out.old.messages.items }
+        ensures same_words { out.new.signed.items ≡ out.old.signed.items }
+        ensures message_room { OnOk result (plan.now.messages ≤ out.new.messages.room) }
+        ensures word_room { OnOk result (word_count plan.now.work ≤ out.new.signed.room) }
     {
         let end = gate_behind(self.end, BEFORE_FRAME + frame.len());
         let too_long = end >= JOURNAL_BYTES;
         if too_long {
             return Err(StepFault::Full);
         }
+        plan.room_in(out)?;
         let entry = SpelledRecord::new(self.alloc, &front(now, from), frame)?;
         match append(&mut self.disk, self.end, &entry) {
             Ok(_gate) => {

@@ -5,11 +5,12 @@ use Rattle.std.specs.Int.{w32, to_be_bytes}
 use Rattle.std.specs.List.{flat_map}
 use Rattle.std.specs.declared.alloc.Global.{Global}
 use Rattle.std.proofs.lemmas.List.{append-nil, drop_all, drop_more, length-append}
+use Rattle.basil_types.specs.Parties.{party_bytes}
 use Rattle.basil_types.specs.declared.outbox.Envelope.{Envelope}
 use Rattle.basil_types.specs.declared.party.Party.{Party}
 use Rattle.basil_types.specs.declared.party.Party.TheVariants.{Replica, Client}
 use Rattle.node_steps.specs.Pendings.{bytes_sent}
-use Rattle.node_link.specs.Answering.{party_bytes, envelope_bytes, answer_bytes}
+use Rattle.node_link.specs.Answering.{envelope_bytes, answer_bytes}
 
 -- ---- sizes
 

@@ -7,7 +7,7 @@ use Rattle.quorum_laws.specs.Numbers.{replicas}
 use Rattle.basil_types.specs.declared.outbox.Envelope.{Envelope}
 use Rattle.basil_types.specs.declared.party.Party.{Party}
 use Rattle.basil_types.specs.declared.party.Party.TheVariants.{Replica, Client}
-use Rattle.basil_types.specs.Limits.{frame_limit}
+use Rattle.basil_types.specs.Limits.{frame_limit, most_clients}
 use Rattle.basil_types.specs.Setting.{Setting}
 use Rattle.basil_types.specs.Steps.{◌>>=◌}
 use Rattle.node_link.specs.declared.cause.EndCause.{EndCause}
@@ -21,7 +21,7 @@ abbrev pub is_replica : Setting → (kind shard index : ℕ) → Bool
 is_replica cluster kind shard index = kind == 0 && nat_lt shard cluster.shards && nat_lt index (replicas cluster.f)
 
 abbrev pub is_client : (kind second number : ℕ) → Bool
-is_client kind second number = kind == 1 && second == 0 && nat_le 1 number && nat_le number 16
+is_client kind second number = kind == 1 && second == 0 && nat_le 1 number && nat_le number most_clients
 
 -- who of the cluster is named by three bytes: 0, the shard and the index of a replica, or 1, 0 and the number of a
 -- client

@@ -9,7 +9,7 @@ ghost use Rattle.node_link.specs.Answering.{answer_bytes, envelope_bytes};
 
 use basil_types::memory::NoMemory;
 use basil_types::outbox::Envelope;
-use basil_types::party::Party;
+use basil_types::party::party_bytes;
 use std::alloc::Global;
 
 /// How many bytes an answer of so many messages has, whose frames have so many bytes together; none where that number
@@ -32,16 +32,6 @@ pub(crate) fn answer_room(alloc: Global, messages: u64, bytes: u64) -> Result<Ve
     let mut out = Vec::new(alloc);
     out.reserve(size as usize)?;
     Ok(out)
-}
-
-/// The three bytes of a party.
-pub(crate) fn party_bytes(party: Party) -> [u8; 3]
-    ensures { result ≡ answers.party_bytes party }
-{
-    match party {
-        Party::Replica { shard, index } => [0, shard, index],
-        Party::Client { number } => [1, 0, number],
-    }
 }
 
 /// Appends bytes for which there is room.

@@ -7,13 +7,13 @@ ghost use Rattle.node_link.specs.Answering.{envelope_bytes};
 ghost use Rattle.node_link.specs.Asking.{IsAsked, IsCut, IsLeft, IsOpen, IsTalked, ReadsAnswer, ReadsByte, ReadsCount};
 ghost use Rattle.node_link.specs.Asking.{envelopes_in};
 
-use crate::answer::{answer_room, party_bytes, put, put_count};
+use crate::answer::{answer_room, put, put_count};
 use crate::reader::{CONNECTION_LIMIT, FrameReader};
 use basil_types::cluster::Cluster;
 use basil_types::links::{LinkFail, Links};
 use basil_types::memory::NoMemory;
 use basil_types::outbox::Envelope;
-use basil_types::party::Party;
+use basil_types::party::{Party, party_bytes};
 use std::alloc::Global;
 use std::collections::VecDeque;
 

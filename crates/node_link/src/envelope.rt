@@ -7,7 +7,7 @@ ghost use Rattle.node_link.specs.Envelopes.{envelope_at, frame_at, length_at, pa
 
 use crate::cause::EndCause;
 use basil_types::cluster::Cluster;
-use basil_types::limits::FRAME_LIMIT;
+use basil_types::limits::{FRAME_LIMIT, MOST_CLIENTS};
 use basil_types::party::Party;
 
 /// An envelope whose frame is lent.
@@ -27,7 +27,7 @@ fn name_of(cluster: &Cluster, kind: u8, shard: u8, number: u8) -> Option<Party>
             index: number,
         });
     }
-    if kind == 1 && shard == 0 && 1 <= number && number <= 16 {
+    if kind == 1 && shard == 0 && 1 <= number && number <= MOST_CLIENTS {
         return Some(Party::Client { number });
     }
     None

@@ -3,4 +3,5 @@
 //! Definitions which the rules of both cite, and the frames of both that wait for a signature.
 #![tactic(auto)]
 
+pub mod appending;
 pub mod pending;

@@ -2,9 +2,9 @@
 use Rattle.std.specs.Prelude.{◌≡◌, ◌-◌, [], Result, Ok, Err}
 use Rattle.basil_types.specs.declared.party.Party.{Party}
 use Rattle.basil_types.specs.declared.party.Party.TheVariants as parties
+use Rattle.client_core.specs.Shown.{own, ShowsClient}
 use Rattle.client_core.specs.Clients.{ClientSelf, ClientValue, empty_client}
 use Rattle.client_core.specs.declared.client.Client.{Client}
-use Rattle.client_link.specs.Having.{ShowsClient, own}
 use Rattle.cluster_file.specs.Listing.{Listing}
 use Rattle.keyring.specs.declared.verifier.Verifier as verifiers
 use Rattle.keyring.specs.declared.signer.Signer as signers

@@ -1,6 +1,7 @@
 //! A client in its seat.
 
 ghost use Rattle.std.specs.Prelude.{◌≡◌, ◌≤◌, IfOk, IfErr};
+ghost use Rattle.basil_types.specs.Limits.{most_clients};
 ghost use Rattle.party_seat.specs.Clients.{ClientSitsAt, client_in};
 ghost use Rattle.party_seat.specs.Keys.{Tells};
 
@@ -29,7 +30,7 @@ pub fn client_of(
     file: &ClusterFile,
     seat: &ClientSeat,
 ) -> Result<Client<LmsKeys, LmsPen>, SeatFault>
-    requires { (1 ≤ seat.now.number) × (seat.now.number ≤ 16) }
+    requires { (1 ≤ seat.now.number) × (seat.now.number ≤ most_clients) }
     ensures sits { IfOk result (λ client. ClientSitsAt client (client_in file.now seat.now)) }
     ensures cluster { IfOk result (λ client. client.seat.cluster ≡ file.now.cluster) }
     ensures number { IfOk result (λ client. client.seat.number ≡ seat.now.number) }

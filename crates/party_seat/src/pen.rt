@@ -4,7 +4,6 @@ ghost use Rattle.std.specs.Prelude.{◌≡◌, ◌-◌, Ok, IfOk, IfErr};
 ghost use Rattle.keyring_lms.specs.Keys.{public_in};
 ghost use Rattle.keyring_lms.specs.Pens.{lms_signing};
 ghost use Rattle.lms_sign.specs.Sets.{leaves_of};
-ghost use Rattle.lms_sign.specs.Verifying.{ident_in};
 ghost use Rattle.party_seat.specs.Keys.{Tells, key_in, key_with};
 
 use crate::fault::SeatFault;
@@ -12,7 +11,7 @@ use basil_types::party::Party;
 use cluster_file::ClusterFile;
 use keyring::signer::Signer;
 use keyring_lms::LmsPen;
-use lms_sign::{LmsKey, LmsSet};
+use lms_sign::{LmsKey, LmsSet, ident_of};
 use std::alloc::Global;
 
 /// The public key of a party's entry.
@@ -25,15 +24,6 @@ fn public_of(publics: &[(Party, [u8; 56])], party: Party) -> Option<[u8; 56]>
         }
     }
     None
-}
-
-/// The identifier I in a public key (RFC 8554, section 5.3).
-fn ident_of(public: &[u8; 56]) -> [u8; 16]
-    ensures { result ≡ ident_in public.now }
-{
-    let mut ident = [0u8; 16];
-    ident.copy_from_slice(&public[8..24]);
-    ident
 }
 
 /// The key that the seed gives with the identifier of this public key, with its first leaf to sign; if that public key
@@ -49,7 +39,13 @@ fn key_of(
     ensures refused { IfErr result (λ fault. Tells fault (key_with set public.now seed.now leaf)) }
 {
     let leaves = set.leaves();
-    let key = LmsKey::make(alloc, seed, &ident_of(public), set, leaf.min(leaves))?;
+    let key = LmsKey::make(
+        alloc,
+        seed,
+        &ident_of(public.as_slice()),
+        set,
+        leaf.min(leaves),
+    )?;
     if key.public() != *public {
         return Err(SeatFault::WrongKey);
     }

@@ -3,6 +3,7 @@
 ghost use Rattle.std.specs.Prelude.{◌≡◌, ◌≤◌, true, false, Ok, IfOk, IfErr, OnOk};
 ghost use Rattle.basil_types.specs.Causes.{Rose};
 ghost use Rattle.node_link.specs.Connections.{Node};
+ghost use Rattle.party_seat.specs.Limits.{most_connections};
 ghost use Rattle.party_seat.specs.Serving.{Begins, HasFinished, HasStopped, IsOutside, Refuses, is_seatless};
 ghost use Rattle.party_seat.specs.Serving.{serves_at, stop_of};
 ghost use Rattle.party_seat.specs.Stations.{StandsAt, Station, station_in};
@@ -30,7 +31,7 @@ fn serve_at<V: Verifier, S: Signer, L: Links, C: Clock>(
     clock: &mut C,
     connections: u64,
 ) -> Result<u64, NodeFault>
-    requires { connections ≤ 1000000 }
+    requires { connections ≤ most_connections }
     ensures all { (s : Station) (n : Node) → StandsAt replica.old cluster address.now s →
         Begins s (C.moments clock.old) (L.told links.old) n → (Rose (L.faults links.old) (L.faults links.new) → ⊥) →
         IfOk result (λ count. IsOutside (C.moments clock.new) (L.told links.new) count (serves_at s connections n)) }
@@ -67,7 +68,7 @@ pub fn serve_seat<L: Links, C: Clock>(
     clock: &mut C,
     connections: u64,
 ) -> Result<u64, NodeFault>
-    requires { connections ≤ 1000000 }
+    requires { connections ≤ most_connections }
     ensures all { (s : Station) (n : Node) → station_in file.now seat.now ≡ Ok s →
         Begins s (C.moments clock.old) (L.told links.old) n → (Rose (L.faults links.old) (L.faults links.new) → ⊥) →
         IfOk result (λ count. IsOutside (C.moments clock.new) (L.told links.new) count (serves_at s connections n)) }

@@ -3,7 +3,7 @@ use Rattle.std.proofs.Common.{◌≡◌, ℕ, List, [], ◌∷◌, ◌++◌, Opt
 use Rattle.std.proofs.lemmas.List.{map-append}
 use Rattle.basil_types.specs.declared.party.Decision.TheVariants.{Abort}
 use Rattle.basil_types.specs.Transaction.{TransactionValue}
-use Rattle.std.specs.Prelude.{option_map}
+use Rattle.std.specs.Prelude.{true, false, option_map, is_some, MatchOption}
 use Rattle.basil_types.specs.Shown.{transaction_of}
 use Rattle.basil_types.specs.declared.transaction.view.TransactionView.{TransactionView}
 use Rattle.frame_views.specs.Signed.{SignedBy, body_signed, certificate_signed, committed_signed, commit_signed, tally_signed, vote_signed}
@@ -35,6 +35,28 @@ around_one : (part : CommittedValue) (g : SignedBy) →
     Text part.transaction ∷ around (rival_of part.certificate.body) (certificate_signed part.certificate ++ g ∷ [])
     ≡ part_marks part ++ Signature g ∷ []
 around_one part g = ap (λ l. Text part.transaction ∷ l) (around_body part.certificate.id part.certificate.body (g ∷ []))
+
+-- a text, the signature before a rival, the rival and the other signatures
+abbrev pub shown_parts : MarkValue → Option SignedItem → Option TransactionView → List SignedBy → List MarkValue
+shown_parts text own rival left =
+    text ∷ (maybe_signature own ++ (maybe_text (option_map transaction_of rival) ++ (as_marks left ++ [])))
+
+pub with_rival : (text : MarkValue) (own : Option SignedItem) (rival : Option TransactionView) (named : Option TransactionValue)
+    (all left : List SignedBy) → option_map transaction_of rival ≡ named → is_some rival ≡ true →
+    MatchOption own ((all ≡ []) × (left ≡ [])) (λ item. all ≡ signed_of item ∷ left) →
+    shown_parts text own rival left ≡ text ∷ around named all
+with_rival text own None named all left e s h = absurd cc
+with_rival text None (Some t) named all left e s h =
+    ap (λ l. text ∷ Text (transaction_of t) ∷ (as_marks l ++ [])) h.1
+    ∙ ap (λ l. text ∷ around (Some (transaction_of t)) l) (sym h.0) ∙ ap (λ r. text ∷ around r all) e
+with_rival text (Some item) (Some t) named all left e s h =
+    ap (λ l. text ∷ Signature (signed_of item) ∷ Text (transaction_of t) ∷ l) (append-nil (as_marks left))
+    ∙ ap (λ l. text ∷ around (Some (transaction_of t)) l) (sym h) ∙ ap (λ r. text ∷ around r all) e
+
+pub without_rival : (text : MarkValue) (rival : Option TransactionView) (named : Option TransactionValue) (all : List SignedBy) →
+    option_map transaction_of rival ≡ named → is_some rival ≡ false → shown_parts text None rival all ≡ text ∷ around named all
+without_rival text None named all e s = ap (λ l. text ∷ l) (append-nil (as_marks all)) ∙ ap (λ r. text ∷ around r all) e
+without_rival text (Some t) named all e s = absurd cc
 
 pub of_vote : (proof : Option CommittedValue) (g : SignedBy) (part : CommittedValue) → proof ≡ Some part →
     Text part.transaction ∷ around (rival_of part.certificate.body) (committed_signed proof ++ g ∷ [])

@@ -1,14 +1,20 @@
 -- Who signed which words, with one more.
 use Rattle.std.proofs.Common.{◌≡◌, ℕ, Bool, true, false, cond, List, [], ◌∷◌, ◌++◌, Option}
-use Rattle.std.proofs.Common.{None, Some, Vec, Global, refl, sym, ap, ◌∙◌, append-nil}
-use Rattle.std.specs.Prelude.{◌&&◌, ◌||◌, Result, Ok, Err, OnErr}
+use Rattle.std.proofs.Common.{None, Some, Vec, Global, refl, sym, ap, subst, ◌∙◌, append-nil}
+use Rattle.std.specs.Prelude.{◌&&◌, ◌||◌, Result, Ok, Err, OnErr, IsSome}
 use Rattle.std.specs.List.{list_any}
-use Rattle.std.specs.Map.{lookup, set_value}
+use Rattle.std.specs.BTreeMap.{UpdatesBy, Updates, WritesThrough}
+use Rattle.std.specs.Cmp.{eq_by_cmp_equiv}
+use Rattle.std.specs.Cmp.Lexicographic.{slice_cmp, nat_list_cmp_total}
+use Rattle.std.specs.Map.{lookup, KeepsOthers}
+use Rattle.std.specs.Ordering.{is_eq, nat_cmp, eq_by_cmp}
+use Rattle.std.specs.declared.cmp.Ordering.{Ordering}
 use Rattle.std.specs.Option.{option_map_or}
 use Rattle.std.specs.Str.{bytes_eq}
 use Rattle.std.proofs.lemmas.List.Folds.{list_any-append}
 use Rattle.std.proofs.lemmas.Slice.Eq.{bytes_eq-Decides}
-use Rattle.basil_types.proofs.KeyLaws.{lookup-set_value, lookup-push}
+use Rattle.std.proofs.lemmas.Map.Text.{is_eq-slice_cmp}
+use Rattle.basil_types.proofs.KeyLaws.{bytes_tell, bytes_same}
 use Rattle.basil_types.specs.declared.party.Party.{Party}
 use Rattle.basil_types.specs.Words.{SignedWords, words_of}
 use Rattle.txn_table.specs.Entries.{same_party}
@@ -21,16 +27,43 @@ use Rattle.premise_watch.specs.Signers.{listed_at, signers_of, AreSigners, SameS
 abbrev pub Puts : Noted → Noted → List ℕ → Vec Party Global → Type 0
 Puts old new words w = (k : List ℕ) → listed_at new k ≡ cond (bytes_eq words k) (Some w) (listed_at old k)
 
-pub written : (old new : Noted) (words : List ℕ) (u w : Vec Party Global) → listed_at old words ≡ Some u →
-    new.signers.entries ≡ set_value (λ k. bytes_eq words k.items) old.signers.entries w → Puts old new words w
-written old new words u w found e k =
-    ap (lookup (λ x. bytes_eq k x.items)) e ∙ lookup-set_value (λ x. x.items) words k old.signers.entries u w found
+-- ---- a change of the map at one key
 
-pub pushed : (old new : Noted) (words : List ℕ) (key : Vec ℕ Global) (w : Vec Party Global) →
-    key.items ≡ words → listed_at old words ≡ None →
-    new.signers.entries ≡ old.signers.entries ++ (key, w) ∷ [] → Puts old new words w
-pushed old new words key w is none e k =
-    ap (lookup (λ x. bytes_eq k x.items)) e ∙ lookup-push (λ x. x.items) words k old.signers.entries key w is none
+abbrev pub keys_cmp : Vec ℕ Global → Vec ℕ Global → Ordering
+keys_cmp a b = slice_cmp nat_cmp a.items b.items
+
+abbrev is_key : List ℕ → Vec ℕ Global → Bool
+is_key words k = is_eq (slice_cmp nat_cmp words k.items)
+
+found_elsewhere : (words k : List ℕ) (old new : List (Vec ℕ Global × Vec Party Global)) → KeepsOthers (eq_by_cmp keys_cmp) (is_key words) old new →
+    bytes_eq words k ≡ false → lookup (is_key k) new ≡ lookup (is_key k) old
+unfolding KeepsOthers
+found_elsewhere words k old new keeps n =
+    keeps (is_key k) (λ x y. (eq_by_cmp_equiv nat_list_cmp_total).congr k x.items y.items) (λ x e. apart x (is_key k x) refl e)
+  where
+    apart : (x : Vec ℕ Global) (b : Bool) → is_key k x ≡ b → is_key words x ≡ true → b ≡ false
+    apart x false q e = refl
+    apart x true q e =
+        let first : words ≡ x.items = bytes_tell words x.items (sym (is_eq-slice_cmp words x.items) ∙ e) in
+        let second : k ≡ x.items = bytes_tell k x.items (sym (is_eq-slice_cmp k x.items) ∙ q) in
+        absurd (let h : true ≡ false = sym (bytes_same words) ∙ ap (bytes_eq words) (first ∙ sym second) ∙ n in cc)
+
+puts : (old new : Noted) (words : List ℕ) (w : Vec Party Global) →
+    UpdatesBy keys_cmp (λ k. slice_cmp nat_cmp words k.items) old.signers new.signers (Some w) → Puts old new words w
+puts old new words w updates k = by (bytes_eq words k) refl
+  where
+    by : (b : Bool) → bytes_eq words k ≡ b → listed_at new k ≡ cond b (Some w) (listed_at old k)
+    by true e = ap (listed_at new) (sym (bytes_tell words k e)) ∙ updates.1
+    by false e = found_elsewhere words k old.signers.entries new.signers.entries updates.3 e
+
+pub written : (old new : Noted) (words : List ℕ) (u w : Vec Party Global) → listed_at old words ≡ Some u →
+    WritesThrough keys_cmp (λ k. slice_cmp nat_cmp words k.items) old.signers w new.signers → Puts old new words w
+written old new words u w found writes = puts old new words w (writes.3 (subst IsSome (sym found) refl))
+
+pub inserted : (old new : Noted) (words : List ℕ) (key : Vec ℕ Global) (w : Vec Party Global) → key.items ≡ words →
+    Updates keys_cmp old.signers new.signers key (Some w) → Puts old new words w
+inserted old new words key w is updates =
+    puts old new words w (subst (λ b. UpdatesBy keys_cmp (λ k. slice_cmp nat_cmp b k.items) old.signers new.signers (Some w)) is updates)
 
 listed : Option (Vec Party Global) → List Party
 listed o = option_map_or (λ parties. parties.items) o []

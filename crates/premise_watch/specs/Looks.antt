@@ -3,7 +3,6 @@ use Rattle.std.specs.Prelude.{◌≡◌, List, None, length, take}
 use Rattle.basil_types.specs.declared.party.Party.{Party}
 use Rattle.certificates.specs.Accepted.{Accepted}
 use Rattle.premise_watch.specs.declared.broken.WatchFault.{WatchFault}
-use Rattle.premise_watch.specs.declared.broken.WatchFault.TheVariants as fault
 use Rattle.premise_watch.specs.declared.watch.Watch.{Watch}
 use Rattle.premise_watch.specs.Breaches.{WatchValue, first_breach, after_marks}
 use Rattle.premise_watch.specs.Marks.{MarkValue}

@@ -6,14 +6,14 @@ use crate::parties::is_among;
 use basil_types::memory::NoMemory;
 use basil_types::party::Party;
 use basil_types::words::Words;
-use id_maps::map::{IdMap, empty_map};
 use std::alloc::Global;
+use std::collections::BTreeMap;
 
 /// The parties that signed words, by the words.
 #[derive(Drop)]
 pub(crate) struct Noted {
     alloc: Global,
-    signers: IdMap<Vec<u8>, Vec<Party>>,
+    signers: BTreeMap<Vec<u8>, Vec<Party>>,
 }
 
 impl Noted {
@@ -27,7 +27,7 @@ impl Noted {
     {
         Noted {
             alloc,
-            signers: empty_map(alloc),
+            signers: BTreeMap::new(alloc),
         }
     }
 

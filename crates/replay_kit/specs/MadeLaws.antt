@@ -1,9 +1,9 @@
 -- The laws of kits, of what a kit has made.
 use Rattle.std.proofs.Common.{◌≡◌, true, refl}
+use Rattle.node_steps.specs.Pens.{GivesItsSize}
 use Rattle.basil_types.specs.declared.party.Party.{Party}
 use Rattle.keyring.specs.Signing.{AcceptsSigner}
 use Rattle.cluster_run.specs.Safety.{AreSigned}
-use Rattle.cluster_nodes.specs.Sizes.{GivesItsSize}
 use Rattle.replay_kit.specs.Made.{made_knows, made_value}
 use Rattle.replay_kit.specs.declared.made.Made.{Made}
 use Rattle.replay_kit.specs.declared.made.Made.TheVariants.{Plain, Lms, Batch}

@@ -10,9 +10,9 @@ use Rattle.lms_sign.specs.declared.sets.LmsSet.{LmsSet}
 use Rattle.lms_sign.specs.Laws.{HasItsSize}
 use Rattle.lms_sign.proofs.PartLaws.{length-made, length-public, length-ident}
 use Rattle.sha2.proofs.Facts256.{length-sha256}
+use Rattle.node_steps.specs.Pens.{GivesItsSize}
 use Rattle.cluster_run.specs.Safety.{AreSigned, IsSigned}
 use Rattle.cluster_run.proofs.KitLaws as kits
-use Rattle.cluster_nodes.specs.Sizes.{GivesItsSize}
 use Rattle.replay_kit.specs.Values.{plain_place, lms_place, batch_value, plain_value, lms_value}
 
 pub plain-accepted : (party : Party) → AcceptsSigner plain_value.accepts (plain_value.signing party)

@@ -12,6 +12,5 @@ mod ring;
 pub use kind::KitKind;
 pub use kit::ReplayKit;
 pub use laws::batch_kits_sign;
-pub use lms::has_party;
 pub use pen::ReplayPen;
 pub use ring::ReplayRing;

@@ -2,7 +2,7 @@
 
 ghost use Rattle.std.specs.Prelude.{◌≡◌, IfOk};
 ghost use Rattle.keyring_lms.specs.Pens.{lms_signing};
-ghost use Rattle.keyring_lms.specs.Replay.{is_party_of, replay_accepts, tree_in_replay};
+ghost use Rattle.keyring_lms.specs.Replay.{replay_accepts, tree_in_replay};
 ghost use Rattle.node_steps.specs.Pens.{pen_value};
 ghost use Rattle.replay_kit.specs.Values.{lms_place};
 
@@ -11,7 +11,7 @@ use basil_types::memory::NoMemory;
 use basil_types::party::Party;
 use keyring::signer::Signer;
 use keyring::verifier::Verifier;
-use keyring_lms::{LmsKeys, LmsPen, ReplayKeys};
+use keyring_lms::{LmsKeys, LmsPen, ReplayKeys, has_party};
 use lms_sign::LmsSet;
 use std::alloc::Global;
 
@@ -22,16 +22,6 @@ pub(crate) struct LmsKit {
     set: LmsSet,
     keys: ReplayKeys,
     ghost made: { keys ≡ record { cluster = cluster; set = set } },
-}
-
-/// Whether a party is one of a cluster's: a replica of one of its shards, or one of the clients 1 to 16.
-pub fn has_party(cluster: &Cluster, party: Party) -> bool
-    ensures { result ≡ is_party_of cluster.now party }
-{
-    match party {
-        Party::Replica { shard, index } => shard < cluster.shards && index < cluster.n(),
-        Party::Client { number } => 1 <= number && number <= 16,
-    }
 }
 
 impl LmsKit {

@@ -22,3 +22,4 @@ mod Behind
 mod Stepping
 mod KindPlans
 mod Recovering
+mod Words

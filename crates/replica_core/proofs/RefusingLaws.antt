@@ -6,7 +6,7 @@ use Rattle.frame_views.specs.Values.{MessageValue}
 use Rattle.replica_core.specs.declared.refusal.Refusal.{Refusal}
 use Rattle.replica_core.specs.declared.refusal.Refusal.TheVariants.{NotMine}
 use Rattle.replica_core.specs.Refusals.{refused, bad_transaction, is_mine, not_mine, bad_signature, bad_proof}
-use Rattle.replica_core.specs.Refused.{Refuses}
+use Rattle.basil_types.specs.Refusals.{Refuses}
 use Rattle.replica_core.specs.Replicas.{ReplicaSelf}
 
 module _ (me : ReplicaSelf) (m : MessageValue) (form : bad_transaction m ≡ None) (mine : is_mine me m ≡ true) where

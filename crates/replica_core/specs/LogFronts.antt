@@ -41,6 +41,3 @@ said_words_of seat id cell =
       decided = cell.decided;
       current = cell.current;
     })
-
-abbrev pub reply_front : Seat → List ℕ → LogCell → Party → Front
-reply_front seat id cell to = record { to = to; bytes = unsigned_log_reply (said_reply seat id cell) }

@@ -1,6 +1,6 @@
 //! Planned work of every kind.
 
-ghost use Rattle.std.specs.Prelude.{◌≡◌, [], IfOk, IfSome, OnOk};
+ghost use Rattle.std.specs.Prelude.{◌≡◌, ◌≤◌, [], IfOk, IfSome, OnOk};
 ghost use Rattle.mvtso_check.specs.Standing.{StandsFor};
 ghost use Rattle.node_steps.specs.Pendings.{Sends};
 ghost use Rattle.node_steps.specs.Pens.{pen_value};
@@ -73,11 +73,29 @@ impl Plan {
         self.messages
     }
 
+    /// How many words it signs.
+    pub fn words(&self) -> usize
+        ensures { result ≡ word_count self.now.work }
+    {
+        self.work.words()
+    }
+
     /// How many bytes the frames of its messages have together.
     pub fn bytes(&self) -> u64
         ensures { result ≡ self.now.bytes }
     {
         self.bytes
+    }
+
+    /// Makes room in a lent outbox for its messages and words, or finds memory wanting. Either way the outbox holds what
+    /// it held.
+    pub fn room_in(&self, out: &mut Outbox) -> Result<(), NoMemory>
+        ensures messages { out.new.messages.items ≡ out.old.messages.items }
+        ensures signed { out.new.signed.items ≡ out.old.signed.items }
+        ensures message_room { OnOk result (self.now.messages ≤ out.new.messages.room) }
+        ensures word_room { OnOk result (word_count self.now.work ≤ out.new.signed.room) }
+    {
+        make_room(out, self.messages as usize, self.words())
     }
 }
 

@@ -37,6 +37,7 @@ use basil_types::transaction::TransactionView;
 use basil_types::version::Version;
 use basil_types::words::Words;
 use frame_views::frames::{CommittedView, ReadReplyView, ReadView};
+use frame_views::signed::{committed_version, prepared_version};
 use frame_writing::{put_unsigned_read_reply, signatures_end_frames};
 use keyring::signer::Signer;
 use mv_store::laws::order_decides_nothing;
@@ -147,26 +148,6 @@ fn latest_prepared<'a>(known: &'a Known, m: &ReadView<'_>) -> Option<Transaction
     match known.store.latest_prepared(m.key, &limit_of(m)) {
         Some((_, place)) => text_at(known, place),
         None => None,
-    }
-}
-
-/// The version of a prepared transaction, genesis where there is none.
-fn prepared_version(prepared: Option<TransactionView<'_>>) -> Version
-    ensures { result ≡ version_told (option_map transaction_of prepared.entry) }
-{
-    match prepared {
-        Some(t) => version_of(t),
-        None => Version::genesis(),
-    }
-}
-
-/// The version of a committed transaction, genesis where there is none.
-fn committed_version(committed: Option<CommittedView<'_>>) -> Version
-    ensures { result ≡ committed_told (option_map committed_of committed.entry) }
-{
-    match committed {
-        Some(part) => version_of(part.transaction),
-        None => Version::genesis(),
     }
 }
 

@@ -1,6 +1,7 @@
 //! What is refused of a frame before what it asks for is looked at.
 
 ghost use Rattle.std.specs.Prelude.{◌≡◌, ◌<◌, ◌^◌, ◌==◌, ◌&&◌, [], ◌∷◌, None, OnOk, length, option_map};
+ghost use Rattle.basil_types.specs.Refusals.{Refuses};
 ghost use Rattle.basil_types.specs.Shown.{transaction_of};
 ghost use Rattle.certificates.specs.Accepted.{Accepted, first_refused};
 ghost use Rattle.certificates.specs.Refusals as certs;
@@ -11,7 +12,7 @@ ghost use Rattle.frame_views.specs.Walks.{signed_left};
 ghost use Rattle.keyring.specs.Signing.{Signing};
 ghost use Rattle.txn_meta.specs.Form.{form_fault};
 ghost use Rattle.replica_core.specs.declared.refusal.Refusal.TheVariants as refusal;
-ghost use Rattle.replica_core.specs.Refused.{Refuses, IsWellFormed};
+ghost use Rattle.replica_core.specs.Refused.{IsWellFormed};
 ghost use Rattle.replica_core.specs.Refusals as rules;
 ghost use Rattle.replica_core.specs.SecondStage as stages;
 ghost use Rattle.replica_core.specs.Seats.{self_at};
@@ -167,7 +168,7 @@ fn refuse_certificate<V: Verifier>(
 ) -> Result<(), CertRefusal>
     requires form { form_fault (transaction_of t) ≡ None }
     requires fits { FitsCertificate (bounds_of seat.now.home.cluster) (certificate_of certificate.now) }
-    ensures { certs.Refuses result (certs.refusal (V.accepted keys.now) seat.now.home.cluster (transaction_of t.entry)
+    ensures { Refuses result (certs.refusal (V.accepted keys.now) seat.now.home.cluster (transaction_of t.entry)
         (certs.decision_of (certificate_of certificate.now).body) (certificate_of certificate.now)) }
 {
     match decision_of(&certificate.body()) {

@@ -41,7 +41,9 @@ impl<V: Verifier, S: Signer> Replica<V, S> {
     ghost use Rattle.replica_core.specs.Nodes.{Shows, ShowsSame, Performs, Steps, CanCommit, perform_plan};
     ghost use Rattle.replica_core.specs.Replicas.{BookValue, empty_book};
     ghost use Rattle.replica_core.specs.Seats.{self_at};
+    ghost use Rattle.replica_core.specs.Shown.{ShowsBook};
     ghost use Rattle.replica_core.specs.Telling.{IsPlanned, begun};
+    ghost use Rattle.replica_core.specs.Works.{word_count};
 
     /// A replica of this index of a shard of the cluster, before its first frame. Takes no memory.
     pub fn new(
@@ -77,8 +79,7 @@ impl<V: Verifier, S: Signer> Replica<V, S> {
     /// Tests a frame that this sender sent, at this moment, and takes all memory of its answer; or its first refusal.
     /// What the replica shows stays as it was, and nothing is signed.
     pub fn plan(&mut self, now: u64, from: Party, frame: &[u8]) -> Result<Plan, Refusal>
-        ensures answer { (book : BookValue) →
-            Shows self.old.parts (pen_value (S.spent self.old.pen) (S.left_of self.old.pen)) book →
+        ensures answer { (book : BookValue) → ShowsBook self.old book →
             IsPlanned (perform_plan (S.fixed self.old.pen) (kept_next self.new.parts.leading)) book result
             (answer (self_at self.old.seat (V.accepted self.old.keys) (S.fixed self.old.pen)) now from book frame.now) }
         ensures ready { IfOk result
@@ -108,12 +109,12 @@ impl<V: Verifier, S: Signer> Replica<V, S> {
     /// Does what was planned, and gives its messages and words in order. Takes no memory.
     pub fn commit(&mut self, plan: Plan) -> Outbox
         requires { CanCommit (S.fixed self.old.pen).size (S.left_of self.old.pen) self.old.parts plan }
-        ensures done { (book : BookValue) →
-            Shows self.old.parts (pen_value (S.spent self.old.pen) (S.left_of self.old.pen)) book →
+        ensures done { (book : BookValue) → ShowsBook self.old book →
             Performs self.new.parts (pen_value (S.spent self.new.pen) (S.left_of self.new.pen)) result
             (perform_plan (S.fixed self.old.pen) (kept_next self.old.parts.leading) (begun book) plan) }
         ensures messages { length result.messages.items ≡ plan.messages }
         ensures bytes { bytes_sent result.messages.items ≡ plan.bytes }
+        ensures words { length result.signed.items ≡ word_count plan.work }
         ensures keys { self.new.keys ≡ self.old.keys }
         ensures seat { self.new.seat ≡ self.old.seat }
         ensures fixed { S.fixed self.new.pen ≡ S.fixed self.old.pen }
@@ -146,8 +147,7 @@ impl<V: Verifier, S: Signer> Replica<V, S> {
         frame: &[u8],
         out: &mut Outbox,
     ) -> Result<(), Refusal>
-        ensures answer { (book : BookValue) →
-            Shows self.old.parts (pen_value (S.spent self.old.pen) (S.left_of self.old.pen)) book →
+        ensures answer { (book : BookValue) → ShowsBook self.old book →
             Steps self.new.parts (pen_value (S.spent self.new.pen) (S.left_of self.new.pen)) out.old out.new result
             (answer (self_at self.old.seat (V.accepted self.old.keys) (S.fixed self.old.pen)) now from book frame.now) }
         ensures as_before { OnErr result (ShowsSame self.old.parts self.new.parts) }
@@ -178,8 +178,7 @@ impl<V: Verifier, S: Signer> Replica<V, S> {
 
     /// The known transactions, in order of arrival.
     pub fn table(&self) -> &Table
-        ensures { (book : BookValue) →
-            Shows self.now.parts (pen_value (S.spent self.now.pen) (S.left_of self.now.pen)) book →
+        ensures { (book : BookValue) → ShowsBook self.now book →
             result.now.entries ≡ book.entries }
     {
         &self.parts.known.table
@@ -187,8 +186,7 @@ impl<V: Verifier, S: Signer> Replica<V, S> {
 
     /// What is logged of the transaction with this id, None where nothing is.
     pub fn cell(&self, id: &[u8; 32]) -> Option<LogCell>
-        ensures { (book : BookValue) →
-            Shows self.now.parts (pen_value (S.spent self.now.pen) (S.left_of self.now.pen)) book →
+        ensures { (book : BookValue) → ShowsBook self.now book →
             result ≡ option_map (λ l. l.cell) (logged_with book.logged id.now) }
     {
         match self.parts.logged.find(id) {

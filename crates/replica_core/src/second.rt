@@ -19,7 +19,7 @@ ghost use Rattle.replica_core.specs.SecondStage.{reply_of, reply_anew, reply_aga
 ghost use Rattle.replica_core.specs.Signing.{exhausted};
 ghost use Rattle.replica_core.specs.Holding.{KeepsNoted, arrived_in};
 ghost use Rattle.replica_core.specs.Logs.{logged_as};
-ghost use Rattle.replica_core.specs.LogFronts.{said_reply, said_words_of, reply_front, pen_at, logged_at};
+ghost use Rattle.replica_core.specs.LogFronts.{said_reply, said_words_of, pen_at, logged_at};
 ghost use Rattle.replica_core.specs.LogWorks.{CanSay, CanLog, log_book_of, perform_log};
 ghost use Rattle.replica_core.specs.Seats.{self_at};
 ghost use Rattle.replica_core.specs.Telling.{IsPlanned};

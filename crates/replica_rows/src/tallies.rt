@@ -80,3 +80,20 @@ fn the_first_vote_of_a_replica_counts(rt: HostRuntime) -> Result<(), Fail> {
     assert!(rt; tally.votes()[0].vote == Decision::Commit);
     Ok(())
 }
+
+#[test]
+fn a_number_that_is_no_replica_is_not_counted(rt: HostRuntime) -> Result<(), Fail> {
+    let cluster = Cluster::new(1, 1, 2, 100)?;
+    let mut tally = Tally::new(&cluster);
+    for number in [6, 7, 30, 31, 255] {
+        assert!(rt;
+            !tally.add(number, Decision::Abort, true),
+            "number {number}"
+        );
+    }
+    assert!(rt; tally.votes().is_empty());
+    assert!(rt; tally.class() == Class::Open);
+    assert!(rt; tally.add(5, Decision::Commit, false));
+    assert!(rt; tally.votes().len() == 1);
+    Ok(())
+}

@@ -51,14 +51,14 @@ fn goes_so(
     if !await_stop(alloc, kept, write, byte) {
         return false;
     }
-    let was = hand(kept, 50, CLIENT_1, first);
+    let was = hand(alloc, kept, 50, CLIENT_1, first);
     if seat.start_again(kept).is_err() {
         return false;
     }
     let found = kept.records() == records
         && kept.replica().table().entry_with(&ID_A).is_some() == knows
         && kept.disk().stops().len() == stops;
-    let goes_on = hand(kept, 52, CLIENT_2, read);
+    let goes_on = hand(alloc, kept, 52, CLIENT_2, read);
     was == answer && found && goes_on.is_ok()
 }
 

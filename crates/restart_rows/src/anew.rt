@@ -6,10 +6,10 @@ use crate::frames::{
     REPLICA_4, REPLY_COMMITTED, REPLY_PREPARED, VOTE_A, VOTE_E, WRITEBACK_A, joined,
 };
 use crate::seats::{Kept, Plain, Seat, taken};
-use basil_types::list::List;
 use basil_types::outbox::Outbox;
 use basil_types::party::Party;
 use journal_disk::memory::MemDisk;
+use node_steps::pending::outbox;
 use std::alloc::{AllocError, Global};
 use std::test::Fail;
 
@@ -87,7 +87,7 @@ fn spelled(party: Party) -> [u8; 3] {
 }
 
 /// Puts down each receiver and frame.
-fn put_sent(sent: &mut Vec<u8>, out: &Outbox) -> Result<(), AllocError> {
+pub(crate) fn put_sent(sent: &mut Vec<u8>, out: &Outbox) -> Result<(), AllocError> {
     for envelope in out.messages.as_slice() {
         sent.extend_from_slice(&spelled(envelope.to))?;
         sent.extend_from_slice(envelope.frame.as_slice())?;
@@ -117,11 +117,7 @@ fn step_all(
     sent: &mut Vec<u8>,
 ) -> Result<(), Fail> {
     for frame in frames {
-        let out = Outbox {
-            messages: List::new(alloc),
-            signed: List::new(alloc),
-        };
-        step_alone(replica, out, frame, sent)?;
+        step_alone(replica, outbox(alloc), frame, sent)?;
     }
     Ok(())
 }
@@ -138,11 +134,10 @@ fn send_alone(
 }
 
 /// The same of one that writes down, and whether the frame is taken.
-fn step_kept(kept: &mut Kept, frame: &Frame, sent: &mut Vec<u8>) -> bool {
-    match kept.step(frame.moment, frame.from, &frame.bytes) {
-        Ok(out) => put_sent(sent, &out).is_ok(),
-        Err(_) => false,
-    }
+fn step_kept(alloc: Global, kept: &mut Kept, frame: &Frame, sent: &mut Vec<u8>) -> bool {
+    let mut out = outbox(alloc);
+    let taken = kept.step(frame.moment, frame.from, &frame.bytes, &mut out);
+    taken.is_ok() && put_sent(sent, &out).is_ok()
 }
 
 /// The disk behind a frame, for which the replica starts again with so many records.
@@ -155,7 +150,7 @@ fn step_anew(
     sent: &mut Vec<u8>,
 ) -> Option<MemDisk> {
     let mut kept = taken(seat.open(alloc, disk.revive()))?;
-    let goes_on = kept.records() == records && step_kept(&mut kept, frame, sent);
+    let goes_on = kept.records() == records && step_kept(alloc, &mut kept, frame, sent);
     let disk = kept.into_disk();
     if goes_on { Some(disk) } else { None }
 }

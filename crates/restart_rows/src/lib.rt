@@ -8,6 +8,8 @@ mod anew;
 #[cfg(test)]
 mod frames;
 #[cfg(test)]
+mod lent;
+#[cfg(test)]
 mod refused;
 #[cfg(test)]
 mod seats;

@@ -24,8 +24,14 @@ const REFUSED: &[(&str, Refusal)] = &[
 ];
 
 /// Whether a frame is refused for this, and the journal stays as it is.
-fn is_refused(kept: &mut Kept, frame: &[u8], refusal: Refusal, journal: &[u8]) -> bool {
-    hand(kept, 50, CLIENT_1, frame) == Err(StepFault::Refused(refusal))
+fn is_refused(
+    alloc: Global,
+    kept: &mut Kept,
+    frame: &[u8],
+    refusal: Refusal,
+    journal: &[u8],
+) -> bool {
+    hand(alloc, kept, 50, CLIENT_1, frame) == Err(StepFault::Refused(refusal))
         && kept.records() == 1
         && kept.disk().bytes() == journal
 }
@@ -38,10 +44,10 @@ fn refuse_all(
     first: &[u8],
     journal: &[u8],
 ) -> Result<(), Fail> {
-    hand(kept, 50, CLIENT_1, first)?;
+    hand(alloc, kept, 50, CLIENT_1, first)?;
     for &(text, refusal) in REFUSED {
         let frame = joined(alloc, &[text])?;
-        assert!(rt; is_refused(kept, &frame, refusal, journal), "{text}");
+        assert!(rt; is_refused(alloc, kept, &frame, refusal, journal), "{text}");
     }
     Ok(())
 }

@@ -10,6 +10,7 @@ use journal_disk::disk::Disk;
 use journal_disk::memory::MemDisk;
 use keyring::plain::{PlainKeys, PlainPen};
 use node_journal::{JournalFault, Journaled, Refused, StepFault};
+use node_steps::pending::outbox;
 use replica_core::Replica;
 use std::alloc::Global;
 use std::test::Fail;
@@ -91,18 +92,14 @@ pub(crate) fn taken(answer: Result<Kept, Refused<MemDisk>>) -> Option<Kept> {
 
 /// Whether the frame is taken, or why it isn't; what is sent is let go.
 pub(crate) fn hand(
+    alloc: Global,
     kept: &mut Kept,
     moment: u64,
     from: Party,
     frame: &[u8],
 ) -> Result<(), StepFault> {
-    match kept.step(moment, from, frame) {
-        Ok(out) => {
-            drop(out);
-            Ok(())
-        }
-        Err(fault) => Err(fault),
-    }
+    let mut out = outbox(alloc);
+    kept.step(moment, from, frame, &mut out)
 }
 
 /// A disk that has these bytes, if there is memory for them.

@@ -5,6 +5,7 @@ use crate::seats::{Kept, Seat, taken};
 use basil_types::outbox::Outbox;
 use basil_types::party::Party;
 use journal_disk::memory::MemDisk;
+use node_steps::pending::outbox;
 use std::alloc::Global;
 use std::test::Fail;
 
@@ -27,17 +28,15 @@ fn is_sent(out: &Outbox, to: Party, frame: &[u8]) -> bool {
 }
 
 /// Whether the frame, which client 1 sends at the moment 50, is answered by this vote.
-fn votes(kept: &mut Kept, frame: &[u8], vote: &[u8]) -> bool {
-    match kept.step(50, CLIENT_1, frame) {
-        Ok(out) => is_sent(&out, CLIENT_1, vote),
-        Err(_) => false,
-    }
+fn votes(alloc: Global, kept: &mut Kept, frame: &[u8], vote: &[u8]) -> bool {
+    let mut out = outbox(alloc);
+    kept.step(50, CLIENT_1, frame, &mut out).is_ok() && is_sent(&out, CLIENT_1, vote)
 }
 
 /// Whether a replica answers its first frame by this vote, and has this journal then.
 fn writes(alloc: Global, seat: &Seat, frame: &[u8], vote: &[u8], journal: &[u8]) -> Option<bool> {
     let mut kept = taken(seat.create(alloc, MemDisk::new(alloc)))?;
-    let voted = votes(&mut kept, frame, vote);
+    let voted = votes(alloc, &mut kept, frame, vote);
     Some(voted && kept.records() == 1 && kept.disk().bytes() == journal)
 }
 

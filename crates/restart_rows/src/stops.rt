@@ -90,9 +90,9 @@ fn await_stop(alloc: Global, disk: &mut MemDisk, happens: Happens) -> bool {
 }
 
 /// Takes so many reads, and says whether all are taken.
-fn takes_reads(kept: &mut Kept, count: u64, read: &[u8]) -> bool {
+fn takes_reads(alloc: Global, kept: &mut Kept, count: u64, read: &[u8]) -> bool {
     for _ in 0..count {
-        if hand(kept, 50, CLIENT_2, read).is_err() {
+        if hand(alloc, kept, 50, CLIENT_2, read).is_err() {
             return false;
         }
     }
@@ -108,7 +108,7 @@ fn begun(
     read: &[u8],
 ) -> Option<MemDisk> {
     let mut kept = taken(seat.create(alloc, disk_for(alloc, happens)?))?;
-    let begins = takes_reads(&mut kept, before, read);
+    let begins = takes_reads(alloc, &mut kept, before, read);
     let mut disk = kept.into_disk();
     if begins && await_stop(alloc, &mut disk, happens) {
         Some(disk)
@@ -125,8 +125,8 @@ fn stepped(
     frames: Frames<'_>,
 ) -> Option<(Answer, Answer, MemDisk)> {
     let mut kept = taken(seat.open(alloc, disk))?;
-    let first = hand(&mut kept, 50, CLIENT_1, frames.first);
-    let next = hand(&mut kept, 51, CLIENT_2, frames.read);
+    let first = hand(alloc, &mut kept, 50, CLIENT_1, frames.first);
+    let next = hand(alloc, &mut kept, 51, CLIENT_2, frames.read);
     Some((first, next, kept.into_disk()))
 }
 

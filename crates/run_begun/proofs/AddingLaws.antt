@@ -2,9 +2,10 @@
 use Rattle.std.proofs.Common.{◌≡◌, ℕ, Bool, true, false, cond, Option, Some, None, refl, ap, ◌∙◌}
 use Rattle.std.specs.Prelude.{◌&&◌, ◌==◌, is_some, length, nat_lt, option_map, Ok, Err}
 use Rattle.std.specs.Option.{option_map_or}
+use Rattle.basil_types.specs.Limits.{most_keys}
 use Rattle.basil_types.specs.Built.{key_fits, or_else, write_fits}
 use Rattle.client_core.specs.declared.fault.CallFault.TheVariants.{NotOpen, TooMany, SizeOut, Empty}
-use Rattle.client_core.specs.Calls.{call_write, most_keys}
+use Rattle.client_core.specs.Calls.{call_write}
 use Rattle.client_core.specs.Slots.{put_write}
 use Rattle.cluster_run.specs.declared.fault.WorldFault.{WorldFault}
 use Rattle.cluster_run.specs.declared.fault.WorldFault.TheVariants as fault

@@ -1,6 +1,7 @@
 -- What a faulty client adds to a transaction that it began, and whether it can form it.
 use Rattle.std.specs.Prelude.{◌≡◌, ℕ, List, Bool, false, ◌&&◌, ◌==◌, nat_lt, length, Option}
 use Rattle.std.specs.Prelude.{Some, None, option_map, is_some, Result, Ok, Err, if◌then◌else◌}
+use Rattle.basil_types.specs.Limits.{most_keys}
 use Rattle.basil_types.specs.Built.{key_fits, or_else, write_fits}
 use Rattle.basil_types.specs.declared.party.Party.TheVariants.{Client}
 use Rattle.basil_types.specs.declared.transaction.parts.ReadPart.{ReadPart}
@@ -8,7 +9,6 @@ use Rattle.basil_types.specs.declared.transaction.parts.WritePart.{WritePart}
 use Rattle.basil_types.specs.declared.version.Version.{Version}
 use Rattle.client_core.specs.declared.fault.CallFault.{CallFault}
 use Rattle.client_core.specs.declared.fault.CallFault.TheVariants.{NotOpen, TooMany, SizeOut, Empty}
-use Rattle.client_core.specs.Calls.{most_keys}
 use Rattle.client_core.specs.Slots.{put_write}
 use Rattle.cluster_run.specs.declared.fault.WorldFault.{WorldFault}
 use Rattle.cluster_run.specs.declared.fault.WorldFault.TheVariants as fault

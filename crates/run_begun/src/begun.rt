@@ -2,9 +2,9 @@
 
 ghost use Rattle.std.specs.Prelude.{◌≡◌, ◌≢◌, ◌≤◌, length, None, Some, Ok, Err, true, false, is_some};
 ghost use Rattle.std.specs.Prelude.{option_map, IfErr, IfNone, IfOk, OnErr, OnOk, ◌==◌, ◌&&◌};
+ghost use Rattle.basil_types.specs.Limits.{most_keys};
 ghost use Rattle.basil_types.specs.Built as built_of;
 ghost use Rattle.basil_types.specs.Built.{built, key_fault, size_fault};
-ghost use Rattle.client_core.specs.Calls.{most_keys};
 ghost use Rattle.client_core.specs.Slots.{put_write};
 ghost use Rattle.cluster_run.specs.Events.{begun_by, put_claim};
 ghost use Rattle.cluster_run.specs.States.{BegunValue};

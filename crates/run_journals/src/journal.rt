@@ -12,6 +12,7 @@ use journal_disk::memory::MemDisk;
 use keyring::signer::Signer;
 use keyring::verifier::Verifier;
 use node_journal::{JOURNAL_BYTES, Journaled, StepFault};
+use node_steps::pending::outbox;
 use std::alloc::Global;
 
 /// Bytes of a record beside its frame: its length, the moment and the sender, and the gate behind it.
@@ -24,6 +25,7 @@ pub struct RunJournal<V: Verifier, S: Signer> {
     pub(crate) cluster: Cluster,
     pub(crate) shard: u8,
     pub(crate) index: u8,
+    pub(crate) alloc: Global,
     pub(crate) journaled: Journaled<V, S, MemDisk>,
     ghost shards: { shard < cluster.shards },
     ghost replicas: { index < replicas cluster.f },
@@ -58,8 +60,11 @@ impl<V: Verifier, S: Signer> RunJournal<V, S> {
         ensures shard { self.new.shard ≡ self.old.shard }
         ensures index { self.new.index ≡ self.old.index }
     {
-        match self.journaled.step(now, from, frame) {
-            Ok(_out) => Ok(Took::Taken),
+        let mut sent = outbox(self.alloc);
+        let stepped = self.journaled.step(now, from, frame, &mut sent);
+        drop(sent);
+        match stepped {
+            Ok(()) => Ok(Took::Taken),
             // A disk of which no call is listed, and that awaits no stop, fails for want of memory alone.
             Err(fault) => self.untaken(fault),
         }
@@ -170,6 +175,7 @@ impl<V: Verifier + Drop, S: Signer + Drop> RunJournal<V, S> {
                 cluster,
                 shard,
                 index,
+                alloc,
                 journaled,
             }),
             // On a disk without a byte, of which no call is listed, memory alone may be wanting.

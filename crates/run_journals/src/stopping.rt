@@ -22,6 +22,7 @@ use journal_disk::disk::Stop;
 use keyring::signer::Signer;
 use keyring::verifier::Verifier;
 use node_journal::StepFault;
+use node_steps::pending::outbox;
 
 impl<V: Verifier + Drop, S: Signer + Drop> RunJournal<V, S> {
     /// The disk stops within the step of a frame, if it is taken; the replica then starts again from what the stop
@@ -71,9 +72,12 @@ impl<V: Verifier + Drop, S: Signer + Drop> RunJournal<V, S> {
         ensures shard { self.new.shard ≡ self.old.shard }
         ensures index { self.new.index ≡ self.old.index }
     {
-        match self.journaled.step(now, from, frame) {
+        let mut sent = outbox(self.alloc);
+        let stepped = self.journaled.step(now, from, frame, &mut sent);
+        drop(sent);
+        match stepped {
             // It never is where a stop is near.
-            Ok(_out) => Ok(Took::Taken),
+            Ok(()) => Ok(Took::Taken),
             Err(fault) => self.cut_short(fault),
         }
     }

@@ -2,11 +2,10 @@
 
 ghost use Rattle.std.specs.Prelude.{◌≡◌, Bool, true, IfOk};
 ghost use Rattle.basil_types.specs.declared.party.Party.{Party};
-ghost use Rattle.cluster_nodes.specs.Sizes.{GivesItsSize};
 ghost use Rattle.cluster_run.specs.Safety.{AreSigned};
 ghost use Rattle.cluster_run.specs.States.{KitValue};
 ghost use Rattle.keyring.specs.Signing.{AcceptsSigner};
-ghost use Rattle.node_steps.specs.Pens.{pen_value};
+ghost use Rattle.node_steps.specs.Pens.{pen_value, GivesItsSize};
 
 use basil_types::memory::NoMemory;
 use basil_types::party::Party;

@@ -8,6 +8,7 @@ use Rattle.std.specs.Str.{bytes_eq}
 use Rattle.std.proofs.lemmas.List.{append-nil, map-append}
 use Rattle.std.proofs.lemmas.List.Elements.{filter-append}
 use Rattle.std.proofs.lemmas.List.Folds.{find-append}
+use Rattle.sight_laws.specs.Seen.{committed_in}
 use Rattle.basil_types.proofs.KeyLaws.{bytes_same, bytes_tell}
 use Rattle.basil_types.specs.Decision.{is_abort, same_decision}
 use Rattle.basil_types.specs.declared.party.Decision.{Decision}
@@ -20,7 +21,7 @@ use Rattle.frame_views.specs.Values.{PairValue}
 use Rattle.node_steps.specs.Lists.{firsts}
 use Rattle.cluster_run.specs.Headline.{proves}
 use Rattle.cluster_run.specs.Telling.{is_pair_of, same_transaction}
-use Rattle.run_sight.specs.Keeping.{AreKept, Commits, Decisions, by_id, committed_in, decision_in, has, with_first}
+use Rattle.run_sight.specs.Keeping.{AreKept, Commits, Decisions, by_id, decision_in, has, with_first}
 
 -- ---- look-ups
 

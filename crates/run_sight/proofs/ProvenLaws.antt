@@ -2,11 +2,12 @@
 use Rattle.std.proofs.Common.{◌≡◌, Bool, true, false, Option, Some, None, Ok, Err, sym, ap, ◌∙◌}
 use Rattle.std.specs.Prelude.{Result, OnOk, IfErr, ◌&&◌, is_none}
 use Rattle.std.specs.Result.{is_ok, is_err}
+use Rattle.basil_types.specs.Refusals.{Refuses}
 use Rattle.basil_types.specs.declared.party.Decision.{Decision}
 use Rattle.basil_types.specs.Setting.{Setting}
 use Rattle.certificates.specs.declared.refusal.CertRefusal.{CertRefusal}
 use Rattle.certificates.specs.Accepted.{Accepted}
-use Rattle.certificates.specs.Refusals.{Refuses, decision_of, refusal}
+use Rattle.certificates.specs.Refusals.{decision_of, refusal}
 use Rattle.frame_views.specs.Values.{PairValue}
 use Rattle.txn_meta.specs.declared.form.FormFault.{FormFault}
 use Rattle.txn_meta.specs.Form.{form_fault}

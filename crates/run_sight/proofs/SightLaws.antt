@@ -6,6 +6,7 @@ use Rattle.std.specs.Map.{lookup}
 use Rattle.std.specs.Str.{bytes_eq}
 use Rattle.std.proofs.Math.Seq.{take-length}
 use Rattle.std.proofs.lemmas.Bool.{lt-ltb}
+use Rattle.sight_laws.specs.Seen.{committed_in}
 use Rattle.basil_types.specs.Replayed.{by_version}
 use Rattle.basil_types.specs.Texts.{IsBytes}
 use Rattle.basil_types.specs.Transaction.{TransactionValue}
@@ -33,7 +34,7 @@ use Rattle.run_sight.specs.declared.certified.Certified.{Certified}
 use Rattle.run_sight.specs.declared.certified.Lengths.{Lengths}
 use Rattle.run_sight.specs.declared.sight.Sight.{Sight}
 use Rattle.run_sight.specs.Keeping.{AddsProven, AreKept, AreOf, Commits, Decisions, Keeps, KeepsFirst}
-use Rattle.run_sight.specs.Keeping.{SameKept, by_id, commits_of, committed_in, decisions_of}
+use Rattle.run_sight.specs.Keeping.{SameKept, by_id, commits_of, decisions_of}
 use Rattle.run_sight.specs.Sights.{BreaksBy, BreaksByFrame, BreaksByMessage, Ends, Follows, GoesBack, GoesTo}
 use Rattle.run_sight.specs.Sights.{KeepsSight, Sees, SeesFrame, SeesMessage, SeesNothing, SightValue, sight_of}
 

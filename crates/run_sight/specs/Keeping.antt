@@ -4,19 +4,18 @@ use Rattle.std.specs.Prelude.{option_map, is_some, filter, find, length, map, ta
 use Rattle.std.specs.Prelude.{if◌then◌else◌}
 use Rattle.std.specs.Map.{lookup}
 use Rattle.std.specs.Str.{bytes_eq}
+use Rattle.sight_laws.specs.Seen.{committed_in}
 use Rattle.basil_types.specs.declared.party.Decision.{Decision}
 use Rattle.basil_types.specs.declared.party.Decision.TheVariants.{Commit}
 use Rattle.basil_types.specs.Setting.{Setting}
 use Rattle.basil_types.specs.Transaction.{TransactionValue, id}
 use Rattle.certificates.specs.Accepted.{Accepted}
 use Rattle.certificates.specs.Refusals.{decision_of}
-use Rattle.frame_views.specs.Carried.{paired}
 use Rattle.frame_views.specs.Values.{PairValue}
-use Rattle.node_steps.specs.Lists.{firsts}
 use Rattle.cluster_run.specs.Headline.{proves}
 use Rattle.cluster_run.specs.Parts.{is_proven}
 use Rattle.cluster_run.specs.States.{Setup}
-use Rattle.cluster_run.specs.Telling.{is_pair_of, same_transaction}
+use Rattle.cluster_run.specs.Telling.{is_pair_of}
 use Rattle.run_sight.specs.declared.certified.Certified.{Certified}
 use Rattle.run_sight.specs.declared.certified.Lengths.{Lengths}
 
@@ -32,10 +31,6 @@ Commits = List (List ℕ × TransactionValue)
 -- the decision of the first pair of a transaction
 abbrev pub decision_in : List PairValue → (named : List ℕ) → Option Decision
 decision_in pairs named = option_map (λ (p : PairValue). decision_of p.certificate.body) (find (is_pair_of named) pairs)
-
--- the committed transactions, of each id the first
-abbrev pub committed_in : List PairValue → List TransactionValue
-committed_in pairs = firsts same_transaction (map paired (filter (proves Commit) pairs))
 
 abbrev pub by_id : TransactionValue → List ℕ × TransactionValue
 by_id t = (id t, t)

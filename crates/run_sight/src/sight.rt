@@ -117,8 +117,8 @@ impl<V: Verifier> Sight<V> {
         }
     }
 
-    /// Sees a frame as `see` does. Of one that was seen before, as each message of a pool was when it entered, nothing is
-    /// read, since it shows nothing new.
+    /// Sees a frame as `see` does. Of one that was seen before, as each message of a pool was when it entered, nothing
+    /// is read, since it shows nothing new.
     pub fn look(&mut self, frame: &[u8], was_seen: bool) -> Result<(), WatchFault>
         ensures seen { OnOk result (Looks V.Verifier self.old self.new frame.now was_seen) }
         ensures breach { IfErr result (BreaksByFrame V.Verifier self.old frame.now) }

@@ -14,7 +14,7 @@ use crate::course::Course;
 use basil_types::bytes::Bytes;
 use basil_types::cluster::Cluster;
 use basil_types::party::Party;
-use replay_kit::has_party;
+use keyring_lms::has_party;
 use schedule_text::line::Line;
 use schedule_text::reason::Reason;
 

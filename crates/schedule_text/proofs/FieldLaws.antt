@@ -9,6 +9,7 @@ use Rattle.std.specs.List.{list_all}
 use Rattle.std.specs.Fmt.{decimal}
 use Rattle.std.specs.Str.Parse.{digits_value}
 use Rattle.hex.specs.Hex.{lower_digits}
+use Rattle.basil_types.specs.Limits.{IsU64}
 use Rattle.basil_types.specs.declared.party.Decision.{Decision}
 use Rattle.basil_types.specs.declared.party.Decision.TheVariants.{Commit, Abort}
 use Rattle.schedule_text.specs.declared.line.KeysKind.{KeysKind}
@@ -18,7 +19,7 @@ use Rattle.schedule_text.specs.Fields.{number, number_in, is_digit, is_canonical
 use Rattle.schedule_text.specs.Fields.{is_name_byte, name, writer, decision, is_lower_hex, hex_digit, keys_kind}
 use Rattle.schedule_text.specs.Parties.{place}
 use Rattle.schedule_text.specs.Spelling.{keys_token, decision_token, writer_token}
-use Rattle.schedule_text.specs.Fitting.{IsName, IsWriter, IsPlace, IsClient, IsU64}
+use Rattle.schedule_text.specs.Fitting.{IsName, IsWriter, IsPlace, IsClient}
 use Rattle.schedule_text.proofs.Digits.{own}
 use Rattle.schedule_text.proofs.TokenLaws.{and-left, and-right, all-weaker, clean, is_other}
 

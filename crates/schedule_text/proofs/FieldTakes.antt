@@ -11,6 +11,7 @@ use Rattle.std.proofs.lemmas.Slice.Eq.{bytes_eq-Decides}
 use Rattle.std.specs.List.{list_all}
 use Rattle.std.specs.Fmt.{decimal}
 use Rattle.std.specs.Str.Parse.{digits_value}
+use Rattle.basil_types.specs.Limits.{IsU64}
 use Rattle.basil_types.specs.declared.party.Party.{Party}
 use Rattle.basil_types.specs.declared.party.Party.TheVariants.{Replica, Client}
 use Rattle.basil_types.specs.declared.party.Decision.{Decision}
@@ -25,7 +26,7 @@ use Rattle.schedule_text.specs.Fields.{number, number_in, in_range, is_digit, is
 use Rattle.schedule_text.specs.Fields.{name, writer, decision, literal, keys_kind, behind, labelled, where_named}
 use Rattle.schedule_text.specs.Parties.{party, replica_party, client_party, only_party, place, whole, if_ended}
 use Rattle.schedule_text.specs.Spelling.{keys_token, decision_token, writer_token, party_tokens}
-use Rattle.schedule_text.specs.Fitting.{IsName, IsWriter, IsPlace, IsClient, IsParty, IsU64}
+use Rattle.schedule_text.specs.Fitting.{IsName, IsWriter, IsPlace, IsClient, IsParty}
 use Rattle.schedule_text.proofs.Digits.{own, AreDigits}
 use Rattle.schedule_text.proofs.TokenLaws.{and-left, and-right}
 use Rattle.schedule_text.proofs.ResultTakes.{ok-is, some-is, if-ok, made-takes, both-takes}

@@ -1,6 +1,7 @@
 -- What the spelling of a header is read as.
 use Rattle.std.proofs.Common.{◌≡◌, ℕ, ◌+◌, ◌*◌, List, ◌∷◌, ◌++◌, Bool, true, false, refl, arith, Ok, codes}
 use Rattle.std.specs.Fmt.{decimal}
+use Rattle.basil_types.specs.Limits.{IsU64}
 use Rattle.basil_types.specs.Setting.{Setting, IsSetting}
 use Rattle.schedule_text.specs.declared.line.KeysKind.{KeysKind}
 use Rattle.schedule_text.specs.declared.line.KeysKind.TheVariants.{Plain, W4H5, W4H10, W8H5, W8H10, Batch}
@@ -13,7 +14,7 @@ use Rattle.schedule_text.specs.Kinds.{kind_of}
 use Rattle.schedule_text.specs.Lines.{line_of}
 use Rattle.schedule_text.specs.Reading.{said}
 use Rattle.schedule_text.specs.Spelling.{keys_token, journal_tokens}
-use Rattle.schedule_text.specs.Fitting.{Fits, IsU64}
+use Rattle.schedule_text.specs.Fitting.{Fits}
 use Rattle.schedule_text.proofs.TokenLaws.{all_clean, clean, clean-decimal}
 use Rattle.schedule_text.proofs.FieldLaws.{number-again, keys-again, le-yes}
 

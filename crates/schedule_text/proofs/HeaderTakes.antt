@@ -3,6 +3,7 @@ use Rattle.std.proofs.Common.{◌≡◌, ℕ, ◌+◌, ◌*◌, List, [], ◌∷
 use Rattle.std.proofs.Common.{sym, ap, ◌∙◌, Result, Ok, Err, Option, Some, None, codes, subst}
 use Rattle.std.specs.Prelude.{nat_le, if◌then◌else◌}
 use Rattle.std.specs.Fmt.{decimal}
+use Rattle.basil_types.specs.Limits.{IsU64}
 use Rattle.basil_types.specs.Setting.{Setting, IsSetting}
 use Rattle.basil_types.specs.declared.cluster.ClusterFault.{ClusterFault}
 use Rattle.basil_types.specs.declared.cluster.ClusterFault.TheVariants.{FOutOfRange, ShardsOutOfRange, ReadsOutOfRange}
@@ -18,7 +19,6 @@ use Rattle.schedule_text.specs.Fields.{literal, number, keys_kind, labelled}
 use Rattle.schedule_text.specs.Headers.{header, header_fields, journal_fields, cluster_numbers}
 use Rattle.schedule_text.specs.Headers.{cluster_of, accepted, with_cluster, seven_fields, eight_fields}
 use Rattle.schedule_text.specs.Spelling.{line_tokens, keys_token, journal_tokens}
-use Rattle.schedule_text.specs.Fitting.{IsU64}
 use Rattle.schedule_text.proofs.TokenLaws.{and-left, and-right}
 use Rattle.schedule_text.proofs.ResultTakes.{ok-is, made-takes, both-takes, all4-takes, seven-take, eight-take}
 use Rattle.schedule_text.proofs.FieldTakes.{number-takes, literal-takes, labelled-takes, keys-takes, le-of}

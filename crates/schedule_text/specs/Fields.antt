@@ -8,7 +8,7 @@ use Rattle.hex.specs.Hex.{decode_of}
 use Rattle.hex.specs.declared.error.FromHexError.{FromHexError}
 use Rattle.basil_types.specs.declared.party.Decision.{Decision}
 use Rattle.basil_types.specs.declared.party.Decision.TheVariants.{Commit, Abort}
-use Rattle.basil_types.specs.Limits.{frame_limit}
+use Rattle.basil_types.specs.Limits.{frame_limit, most_clients}
 use Rattle.schedule_text.specs.declared.line.KeysKind.{KeysKind}
 use Rattle.schedule_text.specs.declared.line.KeysKind.TheVariants.{Plain, W4H5, W4H10, W8H5, W8H10, Batch}
 use Rattle.schedule_text.specs.declared.complaint.Complaint.{Complaint}
@@ -51,7 +51,7 @@ abbrev pub replica : Token → Result ℕ Complaint
 replica token = number_in 0 30 token
 
 abbrev pub client : Token → Result ℕ Complaint
-client token = number_in 1 16 token
+client token = number_in 1 most_clients token
 
 -- a view to which an election leads
 abbrev pub view : Token → Result ℕ Complaint

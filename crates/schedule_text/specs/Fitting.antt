@@ -1,7 +1,7 @@
 -- The values that lines have.
-use Rattle.std.specs.Prelude.{List, None, Ok, Option, Some, length, true, ℕ, ⊤, ◌<◌, ◌^◌, ◌↔◌, ◌≡◌, ◌≢◌, ◌≤◌, ◌⊎◌}
+use Rattle.std.specs.Prelude.{List, None, Ok, Option, Some, length, true, ℕ, ⊤, ◌↔◌, ◌≡◌, ◌≢◌, ◌≤◌, ◌⊎◌}
 use Rattle.hex.specs.Hex.{IsBytes}
-use Rattle.basil_types.specs.Limits.{frame_limit}
+use Rattle.basil_types.specs.Limits.{frame_limit, most_clients, IsU64}
 use Rattle.basil_types.specs.Setting.{IsSetting}
 use Rattle.basil_types.specs.declared.party.Party.{Party}
 use Rattle.basil_types.specs.declared.party.Party.TheVariants.{Replica, Client}
@@ -30,14 +30,11 @@ abbrev pub IsPlace : ℕ → ℕ → Type 0
 IsPlace shard replica = (shard ≤ 7) × (replica ≤ 30)
 
 abbrev pub IsClient : ℕ → Type 0
-IsClient client = (1 ≤ client) × (client ≤ 16)
+IsClient client = (1 ≤ client) × (client ≤ most_clients)
 
 abbrev pub IsParty : Party → Type 0
 IsParty (Replica shard index) = IsPlace shard index
 IsParty (Client number) = IsClient number
-
-abbrev pub IsU64 : ℕ → Type 0
-IsU64 n = n < 2 ^ 64
 
 -- the ranges of a line's fields
 abbrev pub Fits : Line → Type 0

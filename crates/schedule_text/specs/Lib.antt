@@ -11,3 +11,4 @@ pub mod Spelling
 pub mod Fitting
 pub mod Pieces
 pub mod TextLines
+pub mod Refusals

@@ -34,7 +34,7 @@ unfoldable pub line_value : List ℕ → Result Line Complaint
 line_value line = if is_skipped line then Ok Skipped else said (tokens line)
 
 -- no line stands behind the millionth
-abbrev pub numbered : ℕ → Result Line Complaint → Result Line Complaint
+abbrev pub numbered : {A : Type 0} → ℕ → Result A Complaint → Result A Complaint
 numbered number (Ok line) = if nat_le number most_lines then Ok line else Err OutOfSize
 numbered number (Err c) = Err c
 

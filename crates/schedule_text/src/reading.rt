@@ -103,7 +103,7 @@ fn read_value(alloc: Global, line: &[u8]) -> Result<Result<Line, Complaint>, NoM
 }
 
 /// The value of a line with this number, unless it stands behind the millionth.
-fn read_numbered(value: Result<Line, Complaint>, number: u64) -> Result<Line, Complaint>
+pub fn read_numbered<T: Drop>(value: Result<T, Complaint>, number: u64) -> Result<T, Complaint>
     ensures { result ≡ numbered number value }
 {
     let line = value?;

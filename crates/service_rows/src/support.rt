@@ -79,8 +79,8 @@ fn connections_of(alloc: Global, connections: &[Hex]) -> Result<Vec<Vec<u8>>, Fa
     Ok(all)
 }
 
-/// Runs arguments over what is owned here, which is let go in one place. The clock stands at 10, then at 11, and then at
-/// 0.
+/// Runs arguments over what is owned here, which is let go in one place. The clock stands at 10, then at 11, and then
+/// at 0.
 fn run_owned(
     alloc: Global,
     arguments: &[String],

@@ -25,7 +25,7 @@ use Rattle.premise_watch.specs.Texts.{AreApart, AreTexts, has_id}
 use Rattle.cluster_run.specs.Headline.{proves}
 use Rattle.cluster_run.specs.Parts.{is_proven}
 use Rattle.cluster_run.specs.Telling.{is_pair_of, same_transaction}
-use Rattle.sight_laws.specs.Seen.{SeenShowsNothing, committed_of}
+use Rattle.sight_laws.specs.Seen.{SeenShowsNothing, committed_in}
 
 -- ---- searches
 
@@ -148,7 +148,7 @@ firsts_again ts t i =
 abbrev those : List PairValue → List TransactionValue
 those pairs = map paired (filter (proves Commit) pairs)
 
-committed_again : (pairs : List PairValue) (p : PairValue) → Contains pairs p → committed_of (pairs ++ p ∷ []) ≡ committed_of pairs
+committed_again : (pairs : List PairValue) (p : PairValue) → Contains pairs p → committed_in (pairs ++ p ∷ []) ≡ committed_in pairs
 committed_again pairs p i =
     ap (firsts same_transaction)
     (ap (map paired) (filter-append (proves Commit) pairs (p ∷ []))
@@ -172,10 +172,10 @@ decided_more named pairs (p ∷ more) h =
     ∙ find_again (is_pair_of named) pairs p (h p (in_head p more))
 
 committed_more : (pairs more : List PairValue) → ((p : PairValue) → Contains more p → Contains pairs p) →
-    committed_of (pairs ++ more) ≡ committed_of pairs
-committed_more pairs [] h = ap committed_of (append-nil pairs)
+    committed_in (pairs ++ more) ≡ committed_in pairs
+committed_more pairs [] h = ap committed_in (append-nil pairs)
 committed_more pairs (p ∷ more) h =
-    ap committed_of (sym (append_assoc pairs (p ∷ []) more))
+    ap committed_in (sym (append_assoc pairs (p ∷ []) more))
     ∙ committed_more (pairs ++ p ∷ []) more (λ q i. Contains-append_left pairs (p ∷ []) q (h q (in_tail p more q i)))
     ∙ committed_again pairs p (h p (in_head p more))
 

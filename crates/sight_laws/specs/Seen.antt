@@ -42,8 +42,8 @@ SeenStays =
 -- ---- a message that is seen again
 
 -- the committed transactions of some pairs, each once
-abbrev pub committed_of : List PairValue → List TransactionValue
-committed_of pairs = firsts same_transaction (map paired (filter (proves Commit) pairs))
+abbrev pub committed_in : List PairValue → List TransactionValue
+committed_in pairs = firsts same_transaction (map paired (filter (proves Commit) pairs))
 
 -- it breaks nothing; what keeps the texts before keeps them after; its proven pairs tell no new decision, and no new
 -- committed transaction
@@ -53,7 +53,7 @@ pub record ShowsNothing (s : Setup) (watch : WatchValue) (certified : List PairV
       AreTexts entries (after_marks watch (marks m)).texts
   pub decided : (named : List ℕ) → find (is_pair_of named) (certified ++ filter (is_proven s) (pairs_in m))
       ≡ find (is_pair_of named) certified
-  pub committed : committed_of (certified ++ filter (is_proven s) (pairs_in m)) ≡ committed_of certified
+  pub committed : committed_in (certified ++ filter (is_proven s) (pairs_in m)) ≡ committed_in certified
 
 -- one that was seen shows nothing new, where no two texts are a collision
 abbrev pub SeenShowsNothing : Type 0

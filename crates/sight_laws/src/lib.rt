@@ -5,8 +5,8 @@
 
 ghost use Rattle.sight_laws.specs.Seen.{PostedAreSeen, SeenShowsNothing, SeenStays};
 
-/// After every list of events without a breach, each message of the pool was seen: its transactions are among those that
-/// were seen, none of its signatures is forged, and its pairs that prove their decisions are among the certified ones.
+/// After every list of events without a breach, each message of the pool was seen: its transactions are among those
+/// that were seen, none of its signatures is forged, and its pairs that prove their decisions are among the certified ones.
 pub fn posted_are_seen()
     ensures { PostedAreSeen }
 {}

@@ -230,7 +230,7 @@ impl Table {
 }
 
 /// Whether a read is a dependency on a key of the shard.
-fn is_dependency(item: &ReadItem<'_>, home: &Home) -> bool
+pub fn is_dependency(item: &ReadItem<'_>, home: &Home) -> bool
     ensures { result ≡ votes.is_dependency home.now (read_of item.now) }
 {
     item.dependency && shard_of(item.key, &home.cluster) == home.shard

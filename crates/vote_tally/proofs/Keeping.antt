@@ -1,12 +1,12 @@
 -- The marks of voters, and the votes, after one more.
 use Rattle.std.proofs.Common.{◌≡◌, ◌≢◌, ℕ, zero, suc, ◌+◌, ◌*◌, ◌<◌, ◌⊎◌, inl, inr, Bool, true, false}
 use Rattle.std.proofs.Common.{cond, List, [], ◌∷◌, ◌++◌, length, get_or, set, refl, sym, ap, ◌∙◌, arith}
-use Rattle.std.specs.Prelude.{count_by, not, ◌||◌, ◌==◌}
+use Rattle.std.specs.Prelude.{count_by, not, ◌&&◌, ◌||◌, ◌==◌}
 use Rattle.std.specs.List.{list_any, list_all, IsDistinct}
 use Rattle.std.specs.Cmp.{on_equiv, nat_eq_equiv}
 use Rattle.std.proofs.Math.ListN.{length-set}
 use Rattle.std.proofs.lemmas.Bool.{cases_eq}
-use Rattle.std.proofs.lemmas.Bool.Decides.{Decides-eqb}
+use Rattle.std.proofs.lemmas.Bool.Decides.{Decides-eqb, Decides-ltb}
 use Rattle.std.proofs.lemmas.List.{get_or-set_same, get_or-set_other}
 use Rattle.std.proofs.lemmas.List.Sums.{sum_by-set, count_by-le-length}
 use Rattle.std.proofs.lemmas.List.Folds.{list_any-append}
@@ -16,7 +16,7 @@ use Rattle.std.proofs.lemmas.Grind.{common_steps}
 use Rattle.basil_types.specs.Setting.{Setting}
 use Rattle.vote_tally.specs.declared.votes.FirstVote.{FirstVote}
 use Rattle.vote_tally.specs.Votes.{has_voted, AreFirst}
-use Rattle.vote_tally.specs.Tallies.{TallyValue, added}
+use Rattle.vote_tally.specs.Tallies.{TallyValue, is_first, added}
 
 -- ---- no mark
 
@@ -71,12 +71,12 @@ marks_more voted votes v i h e = by (cases_eq i v.replica)
 
 -- ---- one more vote
 
-pub added_is : (c : Setting) (old new : List FirstVote) (v : FirstVote) → has_voted old v.replica ≡ false → new ≡ old ++ v ∷ [] →
-    (let t : TallyValue = record { cluster = c; votes = new } in t) ≡ added (record { cluster = c; votes = old }) v
-added_is c old new v h e =
-    ap (λ (votes : List FirstVote). let t : TallyValue = record { cluster = c; votes = votes } in t) e
-    ∙ sym (ap (λ b. cond b (let t : TallyValue = record { cluster = c; votes = old } in t)
-    (record { cluster = c; votes = old ++ v ∷ [] })) h)
+pub first_one : (t : TallyValue) (replica : ℕ) → replica < 5 * t.cluster.f + 1 → has_voted t.votes replica ≡ false → is_first t replica ≡ true
+first_one t replica below e =
+    ap (λ b. b && not (has_voted t.votes replica)) ((Decides-ltb replica (5 * t.cluster.f + 1)).1 below) ∙ ap not e
+
+pub added_is : (t : TallyValue) (v : FirstVote) → is_first t v.replica ≡ true → added t v ≡ record t { votes = t.votes ++ v ∷ [] }
+added_is t v e = ap (λ b. cond b (let u : TallyValue = record t { votes = t.votes ++ v ∷ [] } in u) t) e
 
 turned : (votes : List FirstVote) (v : FirstVote) → list_any (λ w. v.replica == w.replica) votes ≡ has_voted votes v.replica
 turned [] v = refl

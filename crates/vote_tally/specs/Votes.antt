@@ -1,11 +1,15 @@
 -- Votes, and what is counted over a list of them.
-use Rattle.std.specs.Prelude.{ℕ, ◌<◌, Bool, List, ◌&&◌, ◌==◌, count_by, All}
+use Rattle.std.specs.Prelude.{ℕ, ◌<◌, Bool, List, ◌&&◌, ◌==◌, nat_lt, count_by, All}
 use Rattle.std.specs.List.{list_any, IsDistinct}
 use Rattle.basil_types.specs.Setting.{Setting}
 use Rattle.basil_types.specs.Decision.{is_commit, is_abort}
 use Rattle.quorum_laws.specs.Numbers.{replicas}
 use Rattle.vote_tally.specs.declared.votes.FirstVote.{FirstVote}
 use Rattle.vote_tally.specs.declared.votes.Counts.{Counts}
+
+-- whether a shard of the cluster has a replica of this number
+abbrev pub is_replica : Setting → ℕ → Bool
+is_replica c replica = nat_lt replica (replicas c.f)
 
 -- whether a vote is of this replica
 abbrev pub has_voted : List FirstVote → ℕ → Bool

@@ -1,10 +1,9 @@
 //! Tallies of the votes of one shard.
 
-ghost use Rattle.std.specs.Prelude.{◌≡◌, ◌<◌, not};
-ghost use Rattle.quorum_laws.specs.Numbers.{replicas};
-ghost use Rattle.vote_tally.specs.Votes.{has_voted, AreFirst};
+ghost use Rattle.std.specs.Prelude.{◌≡◌};
+ghost use Rattle.vote_tally.specs.Votes.{AreFirst};
 ghost use Rattle.vote_tally.specs.Classes.{holds, class_of};
-ghost use Rattle.vote_tally.specs.Tallies.{added};
+ghost use Rattle.vote_tally.specs.Tallies.{added, is_first};
 
 use crate::classes::Class;
 use crate::votes::{Counts, FirstVote};
@@ -60,14 +59,17 @@ impl Tally {
         }
     }
 
-    /// Counts the vote of a replica of the shard, unless that replica has voted before. True exactly for its first
-    /// vote. A proof is what shows that the transaction conflicts with a committed one; only that of an abort counts.
+    /// Counts the first vote of a replica of the shard. True exactly for such a vote; a later one, and one of a number
+    /// that is no replica of the cluster, changes nothing. A proof is what shows that the transaction conflicts with a
+    /// committed one; only that of an abort counts.
     pub fn add(&mut self, replica: u8, vote: Decision, proof: bool) -> bool
-        requires { replica < replicas self.old.cluster.f }
-        ensures first { result ≡ not (has_voted self.old.votes replica) }
+        ensures first { result ≡ is_first self.old replica }
         ensures counted { self.new ≡ added self.old (record { replica = replica; vote = vote; proof = proof }) }
         ensures same_cluster { self.new.cluster ≡ self.old.cluster }
     {
+        if replica >= self.cluster.n() {
+            return false;
+        }
         let place = usize::from(replica);
         if self.voted[place] {
             return false;

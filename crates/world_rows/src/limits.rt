@@ -65,8 +65,8 @@ fn votes_in_vain(alloc: Global, world: &mut World<ReplayKit>) -> Result<bool, Fa
     Ok(full(done) == Some((2, 124)) && holds(world, 2, Some(2)) && world.committed()?.is_empty())
 }
 
-/// The same, twice, where the pool holds the first stage, of 53 bytes, and the vote, of 71: nothing happens, the vote still
-/// waits, and nothing was seen.
+/// The same, twice, where the pool holds the first stage, of 53 bytes, and the vote, of 71: nothing happens, the vote
+/// still waits, and nothing was seen.
 pub(crate) fn is_left_as_before(alloc: Global, world: &mut World<ReplayKit>) -> Result<bool, Fail> {
     vote(alloc, world)?;
     Ok(votes_in_vain(alloc, world)? && votes_in_vain(alloc, world)?)

@@ -6,6 +6,7 @@ ghost use Rattle.std.specs.List.{flat_map, list_any};
 ghost use Rattle.basil_types.specs.Built as built_of;
 ghost use Rattle.basil_types.specs.Built.{built, build_fault, read_fits, write_fits};
 ghost use Rattle.basil_types.specs.Built.{order_fault, ReadInRange, WriteInRange};
+ghost use Rattle.basil_types.specs.Limits.{most_keys};
 ghost use Rattle.basil_types.specs.Texts.{IsBytes, IsVersion};
 ghost use Rattle.basil_types.specs.Transaction.{canonical, short_text, long_text, version_bytes, read_bytes};
 ghost use Rattle.basil_types.specs.Transaction.{written_bytes, write_bytes, key_of_read, key_of_write};
@@ -13,6 +14,7 @@ ghost use Rattle.basil_types.specs.Transaction.{written_bytes, write_bytes, key_
 use super::fault::BuildFault;
 use super::parts::{ReadPart, WritePart};
 use crate::bytes::Bytes;
+use crate::limits::{LONGEST_KEY, LONGEST_VALUE, MOST_CLIENTS, MOST_KEYS};
 use crate::memory::NoMemory;
 use crate::reading::in_range;
 use crate::version::Version;
@@ -22,14 +24,14 @@ use std::cmp::Ordering;
 /// The first fault of parts.
 pub(crate) fn fault_in(client: u8, reads: &[ReadPart], writes: &[WritePart]) -> Option<BuildFault>
     ensures first { result ≡ build_fault client reads.now writes.now }
-    ensures few { IfNone result ((length reads.now ≤ 32) × (length writes.now ≤ 32)) }
+    ensures few { IfNone result ((length reads.now ≤ most_keys) × (length writes.now ≤ most_keys)) }
     ensures reads { IfNone result (All (λ r. length r.key < 256) reads.now) }
     ensures writes { IfNone result (All (λ w. (length w.key < 256) × (length w.value < 2 ^ 16)) writes.now) }
 {
-    if client < 1 || client > 16 {
+    if client < 1 || client > MOST_CLIENTS {
         return Some(BuildFault::ClientOut);
     }
-    if reads.len() > 32 || writes.len() > 32 {
+    if reads.len() > MOST_KEYS || writes.len() > MOST_KEYS {
         return Some(BuildFault::TooMany);
     }
     if let Some(place) = size_in_reads(reads) {
@@ -51,7 +53,7 @@ fn key_fits(key: &Bytes) -> bool
     ensures { result ≡ built_of.key_fits key.now }
 {
     let len = key.as_slice().len();
-    1 <= len && len <= 64
+    1 <= len && len <= LONGEST_KEY
 }
 
 /// A deletion has no value.
@@ -59,7 +61,11 @@ fn value_fits(write: &WritePart) -> bool
     ensures { result ≡ built_of.value_fits write.now }
 {
     let len = write.value.as_slice().len();
-    if write.deletes { len == 0 } else { len <= 256 }
+    if write.deletes {
+        len == 0
+    } else {
+        len <= LONGEST_VALUE
+    }
 }
 
 fn size_in_reads(reads: &[ReadPart]) -> Option<usize>
@@ -124,7 +130,7 @@ pub(crate) fn spell(
     reads: &[ReadPart],
     writes: &[WritePart],
 ) -> Result<Vec<u8>, NoMemory>
-    requires few { (length reads.now ≤ 32) × (length writes.now ≤ 32) }
+    requires few { (length reads.now ≤ most_keys) × (length writes.now ≤ most_keys) }
     requires reads { All (λ r. length r.key < 256) reads.now }
     requires writes { All (λ w. (length w.key < 256) × (length w.value < 2 ^ 16)) writes.now }
     ensures spelled { IfOk result (λ bytes. bytes.items ≡ canonical (built time client reads.now writes.now)) }
@@ -234,7 +240,7 @@ fn put_written(format: u8, write: &WritePart, out: &mut Vec<u8>) -> Result<(), N
 }
 
 fn put_reads(reads: &[ReadPart], out: &mut Vec<u8>) -> Result<(), NoMemory>
-    requires few { length reads.now ≤ 32 }
+    requires few { length reads.now ≤ most_keys }
     requires sizes { All (λ r. length r.key < 256) reads.now }
     ensures spelled { OnOk result (out.new.items ≡ out.old.items ++ length reads.now ∷ flat_map read_bytes reads.now) }
     ensures in_range { OnOk result (All ReadInRange reads.now) }
@@ -247,7 +253,7 @@ fn put_reads(reads: &[ReadPart], out: &mut Vec<u8>) -> Result<(), NoMemory>
 }
 
 fn put_writes(format: u8, writes: &[WritePart], out: &mut Vec<u8>) -> Result<(), NoMemory>
-    requires few { length writes.now ≤ 32 }
+    requires few { length writes.now ≤ most_keys }
     requires sizes { All (λ w. (length w.key < 256) × (length w.value < 2 ^ 16)) writes.now }
     ensures spelled { OnOk result
         (out.new.items ≡ out.old.items ++ length writes.now ∷ flat_map (write_bytes format) writes.now) }

@@ -129,7 +129,8 @@ pub(super) fn proposal<'a>(
     }
 }
 
-fn prepared_version(prepared: Option<TransactionView<'_>>) -> Version
+/// The version of a prepared transaction, genesis where there is none.
+pub fn prepared_version(prepared: Option<TransactionView<'_>>) -> Version
     ensures { result ≡ version_told (option_map transaction_of prepared.entry) }
 {
     match prepared {
@@ -138,7 +139,8 @@ fn prepared_version(prepared: Option<TransactionView<'_>>) -> Version
     }
 }
 
-fn committed_version(committed: Option<CommittedView<'_>>) -> Version
+/// The version of a committed transaction, genesis where there is none.
+pub fn committed_version(committed: Option<CommittedView<'_>>) -> Version
     ensures { result ≡ committed_told (option_map committed_of committed.entry) }
 {
     match committed {

@@ -1,7 +1,8 @@
 use Rattle.std.proofs.Common.{◌<◌, ◌^◌, length, subst, sym, List}
+use Rattle.basil_types.specs.Refusals.{Refuses}
 use Rattle.frame_views.specs.Shown.{certificate_of}
 use Rattle.frame_views.specs.Signed.{SignedBy}
-use Rattle.certificates.specs.Refusals.{PairValue, Refuses, refusal_of}
+use Rattle.certificates.specs.Refusals.{PairValue, refusal_of}
 use Rattle.certificates.proofs.DecideLaws.{few_signatures}
 use Rattle.certificates.proofs.check.refuse_certificate.Goals as goal
 

@@ -1,11 +1,12 @@
 use Rattle.std.proofs.Common.{◌<◌, ◌^◌, length, subst, sym, ap, List, Option}
+use Rattle.basil_types.specs.Refusals.{Refuses}
 use Rattle.basil_types.specs.Built.{or_else}
 use Rattle.basil_types.specs.Shown.{transaction_of}
 use Rattle.frame_views.specs.Shown.{committed_of}
 use Rattle.frame_views.specs.Signed.{SignedBy}
 use Rattle.frame_views.specs.Values.{PairValue}
 use Rattle.certificates.specs.declared.refusal.CertRefusal.{CertRefusal}
-use Rattle.certificates.specs.Refusals.{Refuses, rival_refusal}
+use Rattle.certificates.specs.Refusals.{rival_refusal}
 use Rattle.certificates.proofs.DecideLaws.{few_signatures}
 use Rattle.certificates.proofs.proof.refuse_proof.Goals as goal
 

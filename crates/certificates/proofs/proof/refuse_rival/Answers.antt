@@ -1,7 +1,8 @@
 use Rattle.std.proofs.Common.{subst, List}
+use Rattle.basil_types.specs.Refusals.{Refuses}
 use Rattle.basil_types.specs.Shown.{transaction_of}
 use Rattle.frame_views.specs.Signed.{SignedBy}
-use Rattle.certificates.specs.Refusals.{Refuses, no_rival_signed}
+use Rattle.certificates.specs.Refusals.{no_rival_signed}
 use Rattle.certificates.specs.Pairs.{pair_of}
 use Rattle.certificates.proofs.ConflictLaws.{passed_on}
 use Rattle.certificates.proofs.proof.refuse_rival.Goals as goal

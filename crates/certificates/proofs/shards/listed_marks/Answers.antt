@@ -1,7 +1,7 @@
 use Rattle.std.proofs.Common.{◌||◌, ◌==◌, ◌∙◌, ap, sym, arith}
 use Rattle.std.proofs.lemmas.List.{length-set}
+use Rattle.txn_meta.specs.Places.{is_marked}
 use Rattle.frame_views.specs.Items.{tallies_left}
-use Rattle.certificates.specs.Marks.{is_marked}
 use Rattle.certificates.specs.Tallies.{lists}
 use Rattle.certificates.proofs.ShardLaws.{marked_more, moved}
 use Rattle.certificates.proofs.shards.listed_marks.Goals as goal

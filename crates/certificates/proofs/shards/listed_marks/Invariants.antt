@@ -1,6 +1,6 @@
 use Rattle.std.proofs.Common.{◌≡◌, ◌<◌, ◌||◌, ℕ, length}
+use Rattle.txn_meta.specs.Places.{is_marked}
 use Rattle.frame_views.specs.Items.{tallies_of, tallies_left}
-use Rattle.certificates.specs.Marks.{is_marked}
 use Rattle.certificates.specs.Tallies.{lists}
 use Rattle.certificates.proofs.shards.listed_marks.Given as goal
 

@@ -1,7 +1,7 @@
 use Rattle.std.proofs.Common.{◌∙◌, ap, sym, cond, Bool, None, Some}
+use Rattle.txn_meta.specs.Places.{is_marked}
 use Rattle.basil_types.specs.Shown.{transaction_of}
 use Rattle.certificates.specs.declared.refusal.CertRefusal.TheVariants.{NotInvolved}
-use Rattle.certificates.specs.Marks.{is_marked}
 use Rattle.certificates.proofs.ShardLaws.{marked_as_involved}
 use Rattle.certificates.proofs.shards.one_involved.Goals as goal
 

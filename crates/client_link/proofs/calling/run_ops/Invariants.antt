@@ -1,6 +1,6 @@
 -- Of all reads and writes these are left.
 use Rattle.std.proofs.Common.{length}
-use Rattle.client_link.specs.Having.{own}
+use Rattle.client_core.specs.Shown.{own}
 use Rattle.client_link.specs.Running.{turns_of}
 use Rattle.client_link.proofs.TurnLaws.{Turning}
 use Rattle.client_link.proofs.calling.run_ops.Given as goal

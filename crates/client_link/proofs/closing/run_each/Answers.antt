@@ -14,7 +14,8 @@ loop-stage-preserved g c =
     let is : c.loop-stage.left.now ≡ c.in-Some.stage.now ∷ c.in-Some.others.now = search rules in
     let k = c.loop-stage.invariant in
     turning_more c.args.client.now c.loop-stage.client c.run_stage.new.client _ c.args.slot _ _
-    (stage_turns me c.args.slot c.in-Some.others.now) (stage_turn me c.args.slot c.in-Some.stage.now) _ _ _ _ _ _ _ _ _ k (ap (stage_turns me c.args.slot) is) c.in-Ok.ensures.own
+    (stage_turns me c.args.slot c.in-Some.others.now) (stage_turn me c.args.slot c.in-Some.stage.now)
+    _ _ _ _ _ _ _ _ _ k (ap (stage_turns me c.args.slot) is) c.in-Ok.ensures.own
     c.in-Ok.ensures.seat c.in-Ok.ensures.slots c.in-Ok.ensures.faults
     (λ t at. subst (λ (m : ClientSelf). HasTurned c.run_stage.new.client c.args.file.now c.args.slot
     (stage_turn m c.args.slot c.in-Some.stage.now ∷ []) (g.L.Links.told c.run_stage.new.links) c.run_stage.new.errands t

@@ -1,6 +1,6 @@
 -- Of all stages these are left.
 use Rattle.std.proofs.Common.{length}
-use Rattle.client_link.specs.Having.{own}
+use Rattle.client_core.specs.Shown.{own}
 use Rattle.client_link.specs.Stages.{stage_turns}
 use Rattle.client_link.proofs.TurnLaws.{Turning}
 use Rattle.client_link.proofs.closing.run_each.Given as goal

@@ -1,8 +1,8 @@
 -- The lines of the first keys.
 use Rattle.std.proofs.Common.{◌≡◌, ◌++◌, length}
 use Rattle.std.specs.List.{flat_map}
+use Rattle.client_core.specs.Shown.{own, ShowsClient}
 use Rattle.client_core.specs.Clients.{ClientValue}
-use Rattle.client_link.specs.Having.{ShowsClient, own}
 use Rattle.client_text.specs.Reports.{read_line}
 use Rattle.client_text.proofs.reporting.put_reads.Given as goal
 

@@ -7,7 +7,7 @@ use Rattle.replica_core.specs.Answers.{answer_kind}
 use Rattle.replica_core.specs.Leads.{kept_next}
 use Rattle.replica_core.specs.Nodes.{book_shown}
 use Rattle.replica_core.specs.Refusals.{refused}
-use Rattle.replica_core.specs.Refused.{Refuses}
+use Rattle.basil_types.specs.Refusals.{Refuses}
 use Rattle.replica_core.specs.Seats.{self_at}
 use Rattle.replica_core.specs.Telling.{IsPlanned}
 use Rattle.replica_core.specs.Works.{perform_work}

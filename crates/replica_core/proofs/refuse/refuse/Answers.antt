@@ -1,6 +1,6 @@
 use Rattle.std.proofs.Common.{sym, subst, ◌∙◌}
 use Rattle.frame_views.specs.Shown.{message_of}
-use Rattle.replica_core.specs.Refused.{Refuses}
+use Rattle.basil_types.specs.Refusals.{Refuses}
 use Rattle.replica_core.specs.Seats.{self_at}
 use Rattle.replica_core.proofs.RefusingLaws.{signature_refused, proof_left, ok_none, err_some}
 use Rattle.replica_core.proofs.refuse.refuse.Goals as goal

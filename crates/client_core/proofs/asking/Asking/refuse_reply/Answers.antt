@@ -1,6 +1,6 @@
 use Rattle.std.proofs.Common.{◌∙◌, List, ℕ, length, sym, ap, subst}
 use Rattle.std.specs.Prelude.{nat_le}
-use Rattle.client_reads.specs.Faults.{Refuses}
+use Rattle.basil_types.specs.Refusals.{Refuses}
 use Rattle.client_reads.specs.Replies.{reply_fault}
 use Rattle.frame_views.specs.Shown.{read_reply_of}
 use Rattle.client_core.specs.Kept.{KeptRead}

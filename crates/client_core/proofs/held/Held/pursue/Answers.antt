@@ -1,6 +1,6 @@
 use Rattle.std.proofs.Common.{◌∙◌, ℕ, List, Some, refl, ap, false}
 use Rattle.std.specs.Prelude.{slice_set}
-use Rattle.client_core.specs.Calls.{pursued}
+use Rattle.client_recover.specs.Owned.{unstarted}
 use Rattle.client_core.specs.Works.{pursues}
 use Rattle.client_core.proofs.HeldLaws.{are_set, got, held_changes, most_set, placed_ids, slot_pursues, some_of}
 use Rattle.client_core.proofs.held.Held.pursue.Goals as goal
@@ -11,7 +11,7 @@ returns-clause-shown c = λ v after h changes.
     let x = c.index_mut-slot.result.now in
     held_changes held _ c.args.slot x _ (got held.slots.items c.args.slot x c.requires.held c.index_mut-slot.ensures.value)
     refl refl (pursues c.args.formed c.args.signature)
-    (λ s shows. slot_pursues x _ s (pursued c.args.formed c.args.signature) shows refl
+    (λ s shows. slot_pursues x _ s (unstarted c.args.formed c.args.signature) shows refl
     (record { stands = c.new-pursuit.ensures.stands false; second = refl }))
     v after h changes
 

@@ -1,4 +1,4 @@
-use Rattle.cluster_world.specs.Sending.{mail_from}
+use Rattle.cluster_run.specs.Parts.{mail_from}
 use Rattle.cluster_world.proofs.SendingLaws.{enter_ends, enter_full, enter_goes}
 use Rattle.cluster_world.proofs.engine.Engine.enter.Goals as goal
 

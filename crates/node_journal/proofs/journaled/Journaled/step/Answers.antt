@@ -7,7 +7,7 @@ use Rattle.node_steps.specs.Pens.{pen_value}
 use Rattle.node_journal.specs.Journals.{entries_of}
 use Rattle.node_journal.specs.Steps.{answer_after, handed}
 use Rattle.node_journal.proofs.FrameLaws.{sized-by}
-use Rattle.node_journal.proofs.StepLaws.{Commits, Plans, commit-answers, commit-own, faulted-by, is_taken-ok, more-accepted}
+use Rattle.node_journal.proofs.StepLaws.{Commits, Plans, adds-behind, commit-answers, commit-own, faulted-by, is_taken-ok, more-accepted}
 use Rattle.node_journal.proofs.StepLaws.{reflects-more, short-by, signed-more, step-loses, step-stops, still-loses, taken-more, untouched}
 use Rattle.node_journal.proofs.TakenLaws.{is-ok, planned-ok}
 use Rattle.node_journal.proofs.journaled.Journaled.step.Goals as goal
@@ -40,7 +40,10 @@ returns-in-Ok-write_down-clause-taken g c begun hs r =
       fixed = c.commit.ensures.fixed;
     })
     (c.in-Ok.ensures.answer (book_after (own c.args.self.now.replica) (empty_book begun) hs) r.replica.book) r.replica.book in
-    is_taken-ok hs h c.commit.result _ _ _ w (short-by hs h (c.in-Ok-write_down.ensures.length (entries_of hs) r.disk.gate))
+    is_taken-ok hs h c.args.out.now c.append.new.out c.commit.result _ _ _ w
+    (adds-behind c.args.out.now c.write_down.new.out c.append.new.out c.commit.result c.in-Ok-write_down.ensures.same_messages
+    c.in-Ok-write_down.ensures.same_words (record { messages = c.append.ensures.messages; signed = c.append.ensures.words }))
+    (short-by hs h (c.in-Ok-write_down.ensures.length (entries_of hs) r.disk.gate))
 
 pub returns-in-Ok-write_down-clause-signed : goal.returns-in-Ok-write_down-clause-signed
 returns-in-Ok-write_down-clause-signed g c begun hs r =
@@ -56,7 +59,9 @@ returns-in-Ok-write_down-clause-signed g c begun hs r =
       fixed = c.commit.ensures.fixed;
     })
     (c.in-Ok.ensures.answer (book_after (own c.args.self.now.replica) (empty_book begun) hs) r.replica.book) r.replica.book in
-    signed-more (own c.args.self.now.replica) begun hs h c.commit.result _ _ w
+    signed-more (own c.args.self.now.replica) begun hs h c.args.out.now c.append.new.out c.commit.result _ _ w
+    (adds-behind c.args.out.now c.write_down.new.out c.append.new.out c.commit.result c.in-Ok-write_down.ensures.same_messages
+    c.in-Ok-write_down.ensures.same_words (record { messages = c.append.ensures.messages; signed = c.append.ensures.words }))
 
 pub returns-in-Ok-write_down-clause-reflects : goal.returns-in-Ok-write_down-clause-reflects
 returns-in-Ok-write_down-clause-reflects g c begun hs r =

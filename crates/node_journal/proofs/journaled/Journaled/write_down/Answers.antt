@@ -54,3 +54,11 @@ returns-in_err-entry-clause-foreseen g c entries stop at awaits near =
     let told = g.D.Disk.told c.args.self.now.disk in
     let waits = untouched (Holds (after_stop stop entries (entry_of h))) stop stops stops told awaits refl in
     search (rules, waits)
+
+pub returns-in_err-room_in-clause-foreseen : goal.returns-in_err-room_in-clause-foreseen
+returns-in_err-room_in-clause-foreseen g c entries stop at awaits near =
+    let h = handed c.args.now c.args.from c.args.frame.now in
+    let stops = g.D.Disk.stops c.args.self.now.disk in
+    let told = g.D.Disk.told c.args.self.now.disk in
+    let waits = untouched (Holds (after_stop stop entries (entry_of h))) stop stops stops told awaits refl in
+    search (rules, waits)

@@ -8,6 +8,9 @@ use Rattle.premise_watch.proofs.LookLaws.{told_same}
 use Rattle.premise_watch.proofs.TextLaws.{sound, seen_same, seen_other, seen_new}
 use Rattle.premise_watch.proofs.texts.Texts.take.Goals as goal
 
+pub keep-requires : goal.keep-requires
+keep-requires c = sym c.get.ensures.value ∙ ap option_copied c.in-None.is
+
 pub returns-then-eq-clause-texts : goal.returns-then-eq-clause-texts
 returns-then-eq-clause-texts c texts h =
     seen_same c.args.self.now.first.entries (transaction_of c.args.t) c.bytes-bytes.result.now

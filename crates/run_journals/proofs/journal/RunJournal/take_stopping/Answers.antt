@@ -16,7 +16,7 @@ returns-in-Ok-clause-left g c me begun stop x k near =
 pub returns-in-Err-clause-took : goal.returns-in-Err-clause-took
 returns-in-Err-clause-took g c me begun stop x k near =
     let old = c.args.self.now.journaled in
-    let new = c.step.new.self in
+    let new = c.step-stepped.new.self in
     let h = handed c.args.now c.args.from c.args.frame.now in
     let a = answer_after me begun x.taken h in
     let fault = c.in-Err.fault in
@@ -31,7 +31,7 @@ returns-in-Err-clause-took g c me begun stop x k near =
 pub returns-in-Err-clause-left : goal.returns-in-Err-clause-left
 returns-in-Err-clause-left g c me begun stop x k near =
     let old = c.args.self.now.journaled in
-    let new = c.step.new.self in
+    let new = c.step-stepped.new.self in
     let h = handed c.args.now c.args.from c.args.frame.now in
     let fault = c.in-Err.fault in
     either (λ (took : Took). IsLeft me begun new (after_stop x h stop took)) c.cut_short.result fault

@@ -1,10 +1,10 @@
-use Rattle.std.proofs.Common.{◌≡◌, ◌+◌, ◌<◌, true, false, [], ◌∷◌, ◌++◌, length, get_or, set, take, sym, ap, subst, ◌∙◌, arith}
+use Rattle.std.proofs.Common.{◌≡◌, ◌+◌, ◌*◌, ◌<◌, true, false, [], ◌∷◌, ◌++◌, length, get_or, set, take, sym, ap, subst, ◌∙◌, arith}
 use Rattle.std.proofs.Math.ListN.{length-set}
 use Rattle.std.proofs.lemmas.Grind.{take-set_at}
 use Rattle.vote_tally.specs.declared.votes.FirstVote.{FirstVote}
 use Rattle.vote_tally.specs.Votes.{has_voted, counts_of, AreFirst}
-use Rattle.vote_tally.specs.Tallies.{added}
-use Rattle.vote_tally.proofs.Keeping.{more_marks, mark_left, marks_more, first_more, added_is}
+use Rattle.vote_tally.specs.Tallies.{TallyValue, added}
+use Rattle.vote_tally.proofs.Keeping.{more_marks, mark_left, marks_more, first_more, first_one, added_is}
 use Rattle.vote_tally.proofs.tally.Tally.add.Goals as goal
 
 pub bounds-self-inside-self-inside : goal.bounds-self-inside-self-inside
@@ -49,6 +49,7 @@ invariant_of-self c =
 pub returns-clause-counted : goal.returns-clause-counted
 returns-clause-counted c =
     let t = c.self.inside in
+    let seen : TallyValue = record { cluster = t.cluster; votes = take t.len t.votes } in
     let f = ap (λ t. t.cluster.f) c.self.view_is in
     let v : FirstVote = record { replica = c.args.replica; vote = c.args.vote; proof = c.args.proof } in
     let below : c.from-place.result < length t.voted = omega (arith, c.self.invariant.faulty, c.self.told, f) in
@@ -56,7 +57,9 @@ returns-clause-counted c =
     let room : t.len < length t.votes = omega (arith, left, c.self.invariant.voters, c.self.invariant.slots_are, c.self.told) in
     let more : take (t.len + 1) (set t.votes t.len v) ≡ take t.len t.votes ++ v ∷ [] =
     take-set_at t.votes t.len (t.len + 1) v (omega arith) room in
+    let replica : c.args.replica < 5 * t.cluster.f + 1 = omega (arith, c.n.ensures.value, c.if-replica-n.false) in
     let unheard : has_voted (take t.len t.votes) c.args.replica ≡ false =
-    sym (c.self.invariant.marks c.args.replica (omega (arith, c.self.invariant.faulty, f)))
+    sym (c.self.invariant.marks c.args.replica (omega (arith, c.self.invariant.faulty, replica)))
     ∙ ap (λ k. get_or t.voted k false) (sym c.from-place.ensures) ∙ c.if-self-place.false in
-    added_is t.cluster (take t.len t.votes) _ v unheard more ∙ ap (λ t. added t v) c.self.view_is
+    ap (λ votes. let u : TallyValue = record { cluster = t.cluster; votes = votes } in u) more
+    ∙ sym (added_is seen v (first_one seen v.replica replica unheard)) ∙ ap (λ t. added t v) c.self.view_is

@@ -16,7 +16,7 @@ fn append_items<T: Drop>(list: &mut List<T>, more: List<T>)
 }
 
 /// Appends what was sent and signed, for which there is room. Takes no memory.
-pub(crate) fn append(out: &mut Outbox, more: Outbox)
+pub fn append(out: &mut Outbox, more: Outbox)
     requires messages { length more.messages.items ≤ out.old.messages.room }
     requires words { length more.signed.items ≤ out.old.signed.room }
     ensures messages { out.new.messages.items ≡ out.old.messages.items ++ more.messages.items }
