@@ -1,6 +1,6 @@
 //! Sockets of this machine as links.
 
-ghost use Rattle.std.specs.Prelude.{◌≡◌, ◌≤◌, IfOk, length};
+ghost use Rattle.std.specs.Prelude.{◌≡◌, ◌≤◌, length};
 ghost use Rattle.std.specs.Result.{IsErrOf};
 ghost use Rattle.basil_types.specs.Causes.{HasLinkCause};
 ghost use Rattle.basil_types.specs.declared.links.LinkFail.TheVariants as fails;
@@ -9,12 +9,20 @@ use basil_types::links::{LinkFail, Links};
 use std::alloc::Global;
 use std::io::{self, Read, Write};
 use std::net::{Net, OpenListener, OpenStream, Shutdown, TcpListener, TcpStream};
+use std::time::Duration;
 
 /// The most bytes of a carried frame that are under way at once.
 const PIECE: usize = 4096;
 
-/// Connections of this machine, one at a time, and a pair of ends of its own for what is carried. It counts its faults,
-/// and doesn't tell what came over it.
+/// How many seconds a read or a write waits for a peer that connected. A node serves one peer after another, so it is
+/// the shorter time.
+const FOR_AN_ASKER: u64 = 5;
+
+/// How many seconds a read or a write waits for a peer that was connected to.
+const FOR_A_NODE: u64 = 20;
+
+/// Connections of this machine, one at a time, and a pair of ends of its own for what is carried. A read or a write that
+/// waits too long for its peer fails. It counts its faults, and doesn't tell what came over it.
 #[derive(Drop)]
 pub struct SocketLinks<'a, R: Net> {
     net: &'a R,
@@ -23,6 +31,13 @@ pub struct SocketLinks<'a, R: Net> {
     stream: Option<R::Stream>,
     pair: Option<(R::Stream, R::Stream)>,
     faults: u64,
+}
+
+/// From now on a read or a write of the stream that waits longer fails. A system that can't do that waits on.
+fn wait_at_most<S: OpenStream>(stream: &S, seconds: u64) {
+    let longest = Some(Duration::from_secs(seconds));
+    let _ = stream.set_read_timeout(longest);
+    let _ = stream.set_write_timeout(longest);
 }
 
 /// Both ends of one connection of this machine.
@@ -127,6 +142,7 @@ impl<R: Net> Links for SocketLinks<'_, R> {
     fn open(&mut self, address: &str) -> Result<(), LinkFail> {
         match TcpStream::connect(self.net, address) {
             Ok(stream) => {
+                wait_at_most(&stream, FOR_A_NODE);
                 self.stream = Some(stream);
                 Ok(())
             }
@@ -151,6 +167,7 @@ impl<R: Net> Links for SocketLinks<'_, R> {
         };
         match accepted {
             Some((stream, _)) => {
+                wait_at_most(&stream, FOR_AN_ASKER);
                 self.stream = Some(stream);
                 Ok(())
             }

@@ -1,7 +1,7 @@
 -- What holds of a client's arguments, of its seat, and of what it comes to.
-use Rattle.std.proofs.Common.{◌≡◌, ◌≤◌, ℕ, ◌∷◌, [], List, length, Bool, true, false, Option, Some, None, Result, Ok, Err}
+use Rattle.std.proofs.Common.{◌≡◌, ◌⊎◌, ◌<◌, ◌≤◌, ℕ, ◌∷◌, [], List, length, Bool, true, false, Option, Some, None, Result, Ok, Err}
 use Rattle.std.proofs.Common.{refl, sym, ap, subst, ◌∙◌, inl, inr, codes, arith}
-use Rattle.std.specs.Prelude.{IfSome, IfOk, IfErr, if◌then◌else◌, nat_lt}
+use Rattle.std.specs.Prelude.{IfSome, IfOk, IfErr, if◌then◌else◌, map, nat_lt, option_map}
 use Rattle.std.specs.Str.{bytes_eq}
 use Rattle.std.proofs.lemmas.Grind.{common_steps}
 use Rattle.std.proofs.lemmas.Slice.Eq.{bytes_eq-Decides}
@@ -10,13 +10,20 @@ use Rattle.basil_types.specs.Links.{LinkState}
 use Rattle.cluster_file.specs.Listing.{Listing}
 use Rattle.cluster_file.specs.Text.{cluster_in}
 use Rattle.client_core.specs.Shown.{own, ShowsClient}
-use Rattle.client_core.specs.Clients.{ClientSelf, ClientValue}
+use Rattle.basil_types.specs.Transaction.{TransactionValue}
+use Rattle.client_core.specs.Calls.{recovered_at}
+use Rattle.client_core.specs.Clients.{ClientSelf, ClientValue, SlotValue}
 use Rattle.client_core.specs.declared.client.Client.{Client}
 use Rattle.client_link.specs.declared.fault.RunFault.{RunFault}
 use Rattle.client_link.specs.declared.fault.RunFault.TheVariants as runs
+use Rattle.client_link.specs.declared.aim.Aim.{Aim}
+use Rattle.client_link.specs.declared.aim.Aim.TheVariants as aims
 use Rattle.client_link.specs.declared.op.Op.{Op}
+use Rattle.client_link.specs.Talking.{Talk}
 use Rattle.client_link.specs.Having.{HasRun, OnEnd}
-use Rattle.client_link.specs.Running.{RunsPlan, starting}
+use Rattle.client_link.specs.Running.{RunsPlan, RunsRecovery, starting}
+use Rattle.client_text.specs.Ops.{plan_of}
+use Rattle.frame_views.specs.Values.{SignedValue}
 use Rattle.node_link.specs.Serving.{next_moment}
 use Rattle.keyring.specs.declared.verifier.Verifier as verifiers
 use Rattle.keyring.specs.declared.signer.Signer as signers
@@ -25,13 +32,15 @@ use Rattle.party_seat.specs.declared.client.ClientSeat.{ClientSeat}
 use Rattle.schedule_text.specs.Tokens.{Token}
 use Rattle.basil_cli.specs.Answers.{IsTold, status_of}
 use Rattle.basil_cli.specs.Clients.{CallRefused, ClientStation, IsClientTold, IsRunEnding, Open, RanTo, Reported, SitsInFile}
-use Rattle.basil_cli.specs.Clients.{client_call_of, client_of, client_seated, client_seated_in, client_station, end_of, outcome_of_run}
-use Rattle.basil_cli.specs.Clients.{time_at}
+use Rattle.basil_cli.specs.Clients.{RunsTask, client_call_of, client_call_with, client_of, client_seat_of, client_seated, client_seated_in}
+use Rattle.basil_cli.specs.Clients.{client_station, end_of, outcome_of_run, recovery_of, task_of, time_at}
 use Rattle.basil_cli.specs.Commands.{command_of}
 use Rattle.basil_cli.specs.Nodes.{node_of}
 use Rattle.basil_cli.specs.Outcome.{Outcome, TooLong, is_too_long, longest_input}
 use Rattle.basil_cli.specs.Parts.{IsWhole, outcome_is}
 use Rattle.basil_cli.specs.declared.client.ClientCall.{ClientCall}
+use Rattle.basil_cli.specs.declared.client.ClientTask.{ClientTask}
+use Rattle.basil_cli.specs.declared.client.ClientTask.TheVariants.{Transact, Form, Recover}
 use Rattle.basil_cli.specs.declared.ending.Ending.{Ending}
 use Rattle.basil_cli.specs.declared.input.InputFail.{InputFail}
 use Rattle.basil_cli.specs.declared.input.Whole.TheVariants as whole
@@ -42,18 +51,57 @@ use Rattle.basil_cli.proofs.NodeLaws.{some_any, some_map}
 
 -- ---- arguments
 
+-- fewer than three words behind a name call nobody
+pub too_few : {A : Type 0} (spell : A → Token) (name : Token) (words : List A) → length words < 3 →
+    None ≡ client_call_of name (map spell words)
+too_few spell name [] h = refl
+too_few spell name (one ∷ []) h = refl
+too_few spell name (one ∷ two ∷ []) h = refl
+too_few spell name (one ∷ two ∷ three ∷ words) h = absurd (omega (arith, h))
+
+-- what a client is to do is named so
+named : (name : Token) (arguments : List Token) (task : ClientTask) → task_of name arguments ≡ Some task →
+    (name ≡ codes "client") ⊎ (name ≡ codes "form") ⊎ (name ≡ codes "recover")
+named name arguments task e =
+    by (bytes_eq name (codes "client")) (bytes_eq name (codes "form")) (bytes_eq name (codes "recover")) refl refl refl e
+  where
+    by : (b c d : Bool) → bytes_eq name (codes "client") ≡ b → bytes_eq name (codes "form") ≡ c → bytes_eq name (codes "recover") ≡ d →
+        (if b then option_map Transact (plan_of arguments) else if c then option_map Form (plan_of arguments)
+        else if d then recovery_of arguments else None) ≡ Some task →
+        (name ≡ codes "client") ⊎ (name ≡ codes "form") ⊎ (name ≡ codes "recover")
+    by true c d is other third e = inl ((bytes_eq-Decides name (codes "client")).0 is)
+    by false true d is other third e = inr (inl ((bytes_eq-Decides name (codes "form")).0 other))
+    by false false true is other third e = inr (inr ((bytes_eq-Decides name (codes "recover")).0 third))
+    by false false false is other third e = absurd cc
+
+-- a call has its task
+has_task : (task : Option ClientTask) (seat : Option ClientSeat) (call : ClientCall) → client_call_with task seat ≡ Some call →
+    (t : ClientTask) × (task ≡ Some t)
+has_task (Some task) seat call e = (task, refl)
+has_task None seat call e = absurd cc
+
 -- those of a client are no command of another name, and no node
 pub client_is_none : (arguments : List Token) (call : ClientCall) → client_of arguments ≡ Some call →
     (command_of arguments ≡ None) × (node_of arguments ≡ None)
-client_is_none [] call e = absurd cc
-client_is_none (name ∷ arguments) call e = by (bytes_eq name (codes "client")) refl e
+client_is_none (name ∷ number ∷ seed ∷ leaf ∷ arguments) call e =
+    let has = has_task (task_of name arguments) (client_seat_of number seed leaf) call e in
+    by (named name arguments has.0 has.1)
   where
-    by : (b : Bool) → bytes_eq name (codes "client") ≡ b → (if b then client_call_of arguments else None) ≡ Some call →
-        (command_of (name ∷ arguments) ≡ None) × (node_of (name ∷ arguments) ≡ None)
-    by false f e = absurd cc
-    by true f e =
-        subst (λ (n : Token). (command_of (n ∷ arguments) ≡ None) × (node_of (n ∷ arguments) ≡ None))
-        (sym ((bytes_eq-Decides name (codes "client")).0 f)) (refl, refl)
+    by : (name ≡ codes "client") ⊎ (name ≡ codes "form") ⊎ (name ≡ codes "recover") →
+        (command_of (name ∷ number ∷ seed ∷ leaf ∷ arguments) ≡ None) × (node_of (name ∷ number ∷ seed ∷ leaf ∷ arguments) ≡ None)
+    by (inl is) =
+        subst (λ (n : Token). (command_of (n ∷ number ∷ seed ∷ leaf ∷ arguments) ≡ None)
+        × (node_of (n ∷ number ∷ seed ∷ leaf ∷ arguments) ≡ None)) (sym is) (refl, refl)
+    by (inr (inl is)) =
+        subst (λ (n : Token). (command_of (n ∷ number ∷ seed ∷ leaf ∷ arguments) ≡ None)
+        × (node_of (n ∷ number ∷ seed ∷ leaf ∷ arguments) ≡ None)) (sym is) (refl, refl)
+    by (inr (inr is)) =
+        subst (λ (n : Token). (command_of (n ∷ number ∷ seed ∷ leaf ∷ arguments) ≡ None)
+        × (node_of (n ∷ number ∷ seed ∷ leaf ∷ arguments) ≡ None)) (sym is) (refl, refl)
+client_is_none [] call e = absurd cc
+client_is_none (name ∷ []) call e = absurd cc
+client_is_none (name ∷ number ∷ []) call e = absurd cc
+client_is_none (name ∷ number ∷ seed ∷ []) call e = absurd cc
 
 pub same_client : (arguments : List Token) (first second : ClientCall) → client_of arguments ≡ Some first →
     client_of arguments ≡ Some second → first ≡ second
@@ -170,34 +218,33 @@ wanting_ok (Err f) fail is P = tt
 
 -- what is told by its ending
 module _ {V S : Type 0} {v : verifiers.Ghosts V} {g : signers.Ghosts S} (client : Client V S v g) (me : ClientSelf) (file : Listing)
-    (s : ClientStation) (plan lent : List Op) (moments : List ℕ) (state : LinkState) (told : Option LinkState) (before now time : ℕ)
-    (is : me ≡ s.seated.me) (self : own client ≡ me) (listing : file ≡ s.listing) (at : time ≡ time_at moments) (same : lent ≡ plan)
+    (s : ClientStation) (task : ClientTask) (moments : List ℕ) (state : LinkState) (told : Option LinkState) (before now : ℕ)
+    (is : me ≡ s.seated.me) (self : own client ≡ me) (listing : file ≡ s.listing)
   where
     ran_end : (end : Option RunFault) (result : Result Ending InputFail) →
-        HasRun client told (RunsPlan me file time lent) (starting s.seated.client state) before now end →
-        ((w : ClientValue) → ShowsClient client w → IfOk result (λ e. outcome_is e ≡ outcome_of_run (own client) plan w end)) →
-        IfOk result (λ e. RanTo s plan moments state told before now (outcome_is e))
+        HasRun client told (RunsTask me file (time_at moments) task) (starting s.seated.client state) before now end →
+        ((w : ClientValue) → ShowsClient client w → IfOk result (λ e. outcome_is e ≡ outcome_of_run (own client) task w end)) →
+        IfOk result (λ e. RanTo s task moments state told before now (outcome_is e))
     ran_end end (Ok e) h tells =
         record {
           end = end;
           new = h.new;
           failed = h.failed;
           ran =
-              subst (λ (m : ClientSelf). RunsPlan m s.listing (time_at moments) plan (starting s.seated.client state) h.failed end h.new) is
-              (subst (λ (l : Listing). RunsPlan me l (time_at moments) plan (starting s.seated.client state) h.failed end h.new) listing
-              (subst (λ (k : ℕ). RunsPlan me file k plan (starting s.seated.client state) h.failed end h.new) at
-              (subst (λ (p : List Op). RunsPlan me file time p (starting s.seated.client state) h.failed end h.new) same h.runs_so)));
+              subst (λ (m : ClientSelf). RunsTask m s.listing (time_at moments) task (starting s.seated.client state) h.failed end h.new) is
+              (subst (λ (l : Listing). RunsTask me l (time_at moments) task (starting s.seated.client state) h.failed end h.new) listing
+              h.runs_so);
           links = h.links;
           risen = h.risen;
-          is = tells h.new.client h.client_is ∙ ap (λ (m : ClientSelf). outcome_of_run m plan h.new.client end) (self ∙ is);
+          is = tells h.new.client h.client_is ∙ ap (λ (m : ClientSelf). outcome_of_run m task h.new.client end) (self ∙ is);
         }
     ran_end end (Err fail) h tells = tt
 
     pub ran_to : (ran : Result ℕ RunFault) (result : Result Ending InputFail) →
-        OnEnd ran (HasRun client told (RunsPlan me file time lent) (starting s.seated.client state) before now) →
+        OnEnd ran (HasRun client told (RunsTask me file (time_at moments) task) (starting s.seated.client state) before now) →
         (ran ≡ Err runs.NoMemory → (P : Ending → Type 0) → IfOk result P) →
-        ((w : ClientValue) → ShowsClient client w → IfOk result (λ e. outcome_is e ≡ outcome_of_run (own client) plan w (end_of ran))) →
-        IfOk result (λ e. RanTo s plan moments state told before now (outcome_is e))
+        ((w : ClientValue) → ShowsClient client w → IfOk result (λ e. outcome_is e ≡ outcome_of_run (own client) task w (end_of ran))) →
+        IfOk result (λ e. RanTo s task moments state told before now (outcome_is e))
     ran_to (Ok slot) result h wanting tells = ran_end None result h tells
     ran_to (Err (runs.Undecided replies)) result h wanting tells = ran_end (Some (runs.Undecided replies)) result h tells
     ran_to (Err (runs.Call fault)) result h wanting tells = ran_end (Some (runs.Call fault)) result h tells
@@ -219,3 +266,39 @@ client_told status outcome (Err refusal) refused ending told = subst (λ (o : Ou
 pub client_wanting : (r : Result ClientStation Outcome) → IsClientTold ends.NoMemory r
 client_wanting (Ok s) = inr (inr (inr refl))
 client_wanting (Err refusal) = inr refl
+
+-- a client that holds nothing gives the transaction that it takes up its first slot
+pub taken_up_first : (v : ClientValue) (t : TransactionValue) (slot : ℕ) → length v.slots ≡ 0 → slot ≡ recovered_at v t → slot ≡ 0
+taken_up_first v t slot none is = is ∙ by v.slots none
+  where
+    by : (slots : List SlotValue) → length slots ≡ 0 → recovered_at (record v { slots = slots }) t ≡ 0
+    by [] h = refl
+    by (s ∷ slots) h = absurd (omega (arith, h))
+
+-- a run of what is to be done, where that is this; its time and its plan have other names
+module _ {V S : Type 0} {v : verifiers.Ghosts V} {g : signers.Ghosts S} (client : Client V S v g) (me : ClientSelf) (l : Listing)
+    (told : Option LinkState) (t : Talk) (before now moment : ℕ) (task : ClientTask) (ran : Result ℕ RunFault) where
+  ran_as : (known : ClientTask) → task ≡ known → OnEnd ran (HasRun client told (RunsTask me l moment known) t before now) →
+      OnEnd ran (HasRun client told (RunsTask me l moment task) t before now)
+  ran_as known is h = subst (λ (k : ClientTask). OnEnd ran (HasRun client told (RunsTask me l moment k) t before now)) (sym is) h
+
+  ran_by : (aim : Aim) (time : ℕ) (lent plan : List Op) → time ≡ moment → lent ≡ plan →
+      OnEnd ran (HasRun client told (RunsPlan me l aim time lent) t before now) →
+      OnEnd ran (HasRun client told (RunsPlan me l aim moment plan) t before now)
+  ran_by aim time lent plan at same h =
+      subst (λ (p : List Op). OnEnd ran (HasRun client told (RunsPlan me l aim moment p) t before now)) same
+      (subst (λ (k : ℕ). OnEnd ran (HasRun client told (RunsPlan me l aim k lent) t before now)) at h)
+
+  pub transacted : (time : ℕ) (lent plan : List Op) → task ≡ Transact plan → time ≡ moment → lent ≡ plan →
+      OnEnd ran (HasRun client told (RunsPlan me l aims.Decision time lent) t before now) →
+      OnEnd ran (HasRun client told (RunsTask me l moment task) t before now)
+  transacted time lent plan is at same h = ran_as (Transact plan) is (ran_by aims.Decision time lent plan at same h)
+
+  pub formed : (time : ℕ) (lent plan : List Op) → task ≡ Form plan → time ≡ moment → lent ≡ plan →
+      OnEnd ran (HasRun client told (RunsPlan me l aims.Form time lent) t before now) →
+      OnEnd ran (HasRun client told (RunsTask me l moment task) t before now)
+  formed time lent plan is at same h = ran_as (Form plan) is (ran_by aims.Form time lent plan at same h)
+
+  pub taken_up : (x : SignedValue) → task ≡ Recover x → OnEnd ran (HasRun client told (RunsRecovery me l x) t before now) →
+      OnEnd ran (HasRun client told (RunsTask me l moment task) t before now)
+  taken_up x is h = ran_as (Recover x) is h

@@ -1,6 +1,7 @@
--- `client`: a client of a cluster's file that carries one transaction through.
+-- `client`, `form` and `recover`: a client of a cluster's file that carries one transaction through, or only forms it,
+-- or carries through one that was formed.
 use Rattle.std.specs.Prelude.{◌≡◌, ◌⊎◌, ◌≤◌, ⊤, ℕ, max, length, List, [], ◌∷◌, codes, if◌then◌else◌}
-use Rattle.std.specs.Prelude.{Option, Some, None, Result, Ok, Err, IfOk}
+use Rattle.std.specs.Prelude.{Option, Some, None, option_map, Result, Ok, Err, IfOk}
 use Rattle.std.specs.Str.{bytes_eq}
 use Rattle.basil_types.specs.Limits.{most_clients}
 use Rattle.basil_types.specs.Links.{LinkState}
@@ -9,9 +10,10 @@ use Rattle.client_core.specs.Clients.{ClientSelf, ClientValue}
 use Rattle.client_core.specs.declared.client.Client.{Client}
 use Rattle.client_link.specs.declared.fault.RunFault.{RunFault}
 use Rattle.client_link.specs.declared.fault.RunFault.TheVariants as runs
-use Rattle.client_link.specs.declared.op.Op.{Op}
-use Rattle.client_link.specs.Running.{RunsPlan, starting}
+use Rattle.client_link.specs.declared.aim.Aim.TheVariants as aims
+use Rattle.client_link.specs.Running.{Going, RunsPlan, RunsRecovery, starting}
 use Rattle.client_link.specs.Talking.{Talk}
+use Rattle.client_text.specs.Handing.{handed_over, signed_of}
 use Rattle.client_text.specs.Ops.{plan_of}
 use Rattle.client_text.specs.Reports.{report_of}
 use Rattle.cluster_file.specs.Listing.{Listing}
@@ -35,6 +37,8 @@ use Rattle.basil_cli.specs.Nodes.{file_reason, node_of, seat_reason}
 use Rattle.basil_cli.specs.Outcome.{Outcome, BadLine, TooLong, Undecided, Written, is_too_long}
 use Rattle.basil_cli.specs.Parts.{outcome_is}
 use Rattle.basil_cli.specs.declared.client.ClientCall.{ClientCall}
+use Rattle.basil_cli.specs.declared.client.ClientTask.{ClientTask}
+use Rattle.basil_cli.specs.declared.client.ClientTask.TheVariants.{Transact, Form, Recover}
 use Rattle.basil_cli.specs.declared.ending.Ending.{Ending}
 use Rattle.basil_cli.specs.declared.input.InputFail.{InputFail}
 use Rattle.basil_cli.specs.declared.input.InputFail.TheVariants as input
@@ -56,19 +60,33 @@ client_seat_of number seed leaf =
     client_seat_with (said (number_in 1 most_clients number)) (hex_of seed_size seed)
     (said (number_in 0 most_leaves leaf))
 
-abbrev pub client_call_with : Option ClientSeat → Option (List Op) → Option ClientCall
-client_call_with (Some seat) (Some plan) = Some (record { seat = seat; plan = plan })
+-- TRANSACTION SIGNATURE
+abbrev pub recovery_of : List Token → Option ClientTask
+recovery_of (transaction ∷ signature ∷ []) = option_map Recover (signed_of transaction signature)
+recovery_of _ = None
+
+-- what a client is to do, by its command and the arguments behind its seat
+abbrev pub task_of : (name : Token) → List Token → Option ClientTask
+task_of name arguments =
+    if bytes_eq name (codes "client") then option_map Transact (plan_of arguments)
+    else if bytes_eq name (codes "form") then option_map Form (plan_of arguments)
+    else if bytes_eq name (codes "recover") then recovery_of arguments
+    else None
+
+abbrev pub client_call_with : Option ClientTask → Option ClientSeat → Option ClientCall
+client_call_with (Some task) (Some seat) = Some (record { seat = seat; task = task })
 client_call_with _ _ = None
 
--- C SEED LEAF OP...
-abbrev pub client_call_of : List Token → Option ClientCall
-client_call_of (number ∷ seed ∷ leaf ∷ ops) = client_call_with (client_seat_of number seed leaf) (plan_of ops)
-client_call_of _ = None
+-- C SEED LEAF, and what is to be done
+abbrev pub client_call_of : (name : Token) → List Token → Option ClientCall
+client_call_of name (number ∷ seed ∷ leaf ∷ arguments) =
+    client_call_with (task_of name arguments) (client_seat_of number seed leaf)
+client_call_of name _ = None
 
--- `client C SEED LEAF OP...`
+-- `client C SEED LEAF OP...`, `form C SEED LEAF OP...` and `recover C SEED LEAF TRANSACTION SIGNATURE`
 abbrev pub client_of : List Token → Option ClientCall
 client_of [] = None
-client_of (name ∷ arguments) = if bytes_eq name (codes "client") then client_call_of arguments else None
+client_of (name ∷ arguments) = client_call_of name arguments
 
 -- arguments that call neither a node nor a client
 pub record CallsNone (arguments : List Token) : Type 0 where
@@ -112,12 +130,24 @@ client_station seat bytes = if is_too_long bytes then Err TooLong else client_se
 abbrev pub time_at : (moments : List ℕ) → ℕ
 time_at moments = max (next_moment moments) 1
 
--- a run that ended so; its transaction is the first that the client holds
-abbrev pub outcome_of_run : ClientSelf → List Op → ClientValue → Option RunFault → Outcome
-outcome_of_run me plan v None = Written (report_of me 0 plan v)
-outcome_of_run me plan v (Some (runs.Undecided replies)) = Undecided replies
-outcome_of_run me plan v (Some (runs.Call fault)) = BadLine 1 RefusedCall
-outcome_of_run me plan v (Some runs.NoMemory) = BadLine 1 RefusedCall
+-- how a client goes on that has this to do; what it begins has this time
+abbrev pub RunsTask : ClientSelf → Listing → (time : ℕ) → ClientTask → Going
+RunsTask me l time (Transact plan) = RunsPlan me l aims.Decision time plan
+RunsTask me l time (Form plan) = RunsPlan me l aims.Form time plan
+RunsTask me l time (Recover x) = RunsRecovery me l x
+
+-- what it tells then; its transaction is the first that it holds
+abbrev pub told_of : ClientSelf → ClientTask → ClientValue → List ℕ
+told_of me (Transact plan) v = report_of me 0 plan v
+told_of me (Form plan) v = handed_over 0 v
+told_of me (Recover x) v = report_of me 0 [] v
+
+-- a run that ended so
+abbrev pub outcome_of_run : ClientSelf → ClientTask → ClientValue → Option RunFault → Outcome
+outcome_of_run me task v None = Written (told_of me task v)
+outcome_of_run me task v (Some (runs.Undecided replies)) = Undecided replies
+outcome_of_run me task v (Some (runs.Call fault)) = BadLine 1 RefusedCall
+outcome_of_run me task v (Some runs.NoMemory) = BadLine 1 RefusedCall
 
 -- how a run of code ended
 abbrev pub end_of : Result ℕ RunFault → Option RunFault
@@ -145,21 +175,21 @@ pub record SitsInFile {V S : Type 0} {v : verifiers.Ghosts V} {g : signers.Ghost
 
 -- it made a run over links that told this, in which so many calls of the links failed as their count rose at least, and
 -- came to that outcome
-pub record RanTo (s : ClientStation) (plan : List Op) (moments : List ℕ) (state : LinkState) (told : Option LinkState)
-    (before now : ℕ) (outcome : Outcome) : Type 0 where
+pub record RanTo (s : ClientStation) (task : ClientTask) (moments : List ℕ) (state : LinkState)
+    (told : Option LinkState) (before now : ℕ) (outcome : Outcome) : Type 0 where
   pub end : Option RunFault
   pub new : Talk
   pub failed : ℕ
-  pub ran : RunsPlan s.seated.me s.listing (time_at moments) plan (starting s.seated.client state) failed end new
+  pub ran : RunsTask s.seated.me s.listing (time_at moments) task (starting s.seated.client state) failed end new
   pub links : told ≡ Some new.links
   pub risen : RoseBy failed before now
-  pub is : outcome ≡ outcome_of_run s.seated.me plan new.client end
+  pub is : outcome ≡ outcome_of_run s.seated.me task new.client end
 
 -- and told it
-pub record ToldRun (s : ClientStation) (plan : List Op) (moments : List ℕ) (state : LinkState) (told : Option LinkState)
-    (counts : Counts) (status : Status) (taken_before taken_now : Option (List ℕ)) : Type 0 where
+pub record ToldRun (s : ClientStation) (task : ClientTask) (moments : List ℕ) (state : LinkState)
+    (told : Option LinkState) (counts : Counts) (status : Status) (taken_before taken_now : Option (List ℕ)) : Type 0 where
   pub outcome : Outcome
-  pub ran : RanTo s plan moments state told counts.links_before counts.links_now outcome
+  pub ran : RanTo s task moments state told counts.links_before counts.links_now outcome
   pub answers : Answers status outcome counts taken_before taken_now
 
 -- a client in its seat is done, undecided or refused a call, another has the status of what is refused; or memory is

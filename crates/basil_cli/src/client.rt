@@ -1,4 +1,5 @@
-//! `client`: a client of a cluster's file that carries one transaction through.
+//! `client`, `form` and `recover`: a client of a cluster's file that carries one transaction through, or only forms it,
+//! or carries through one that was formed.
 
 ghost use Rattle.std.specs.Prelude.{◌≡◌, ◌⊎◌, ◌<◌, ◌≤◌, ℕ, List, length, true, Some, Ok, Err, IfOk, IfErr, IfSome};
 ghost use Rattle.std.specs.Prelude.{map, string_bytes};
@@ -12,9 +13,11 @@ ghost use Rattle.schedule_text.specs.Fields.{number_in};
 ghost use Rattle.basil_cli.specs.Answers.{Answers, counted, is_outcomes};
 ghost use Rattle.basil_cli.specs.Clients as clients;
 ghost use Rattle.basil_cli.specs.Clients.{ClientStation, IsClientTold, IsRunEnding, RanTo, SeatTold, SitsInFile};
-ghost use Rattle.basil_cli.specs.Clients.{ToldRun, client_call_of, client_seat_of, client_seated, client_seated_in};
-ghost use Rattle.basil_cli.specs.Clients.{client_station};
+ghost use Rattle.basil_cli.specs.Clients.{RunsTask, ToldRun, client_seat_of, client_seated, client_seated_in};
+ghost use Rattle.basil_cli.specs.Clients.{client_call_of, client_station, recovery_of, task_of, time_at, told_of};
 ghost use Rattle.basil_cli.specs.Clients.{end_of, outcome_of_run};
+ghost use Rattle.client_link.specs.Having.{HasRun, OnEnd};
+ghost use Rattle.client_link.specs.Running.{starting};
 ghost use Rattle.client_core.specs.Shown.{own, ShowsClient};
 ghost use Rattle.client_core.specs.Clients.{ClientValue};
 ghost use Rattle.basil_cli.specs.Commands.{said};
@@ -28,6 +31,7 @@ use crate::input::{InputFail, Whole, read_whole};
 use crate::node::{file_reason, read_first_leaf};
 use crate::status::Status;
 use crate::writing::write_ending;
+use basil_types::bytes::Bytes;
 use basil_types::clock::Clock;
 use basil_types::limits::MOST_CLIENTS;
 use basil_types::links::Links;
@@ -35,8 +39,8 @@ use basil_types::memory::NoMemory;
 use basil_types::sink::Sink;
 use basil_types::source::Source;
 use client_core::Client;
-use client_link::{RunFault, client_run};
-use client_text::{Plan, read_plan, report};
+use client_link::{Aim, RunFault, Signed, client_finish, client_run};
+use client_text::{Plan, hand_over, read_plan, read_signed, report};
 use cluster_file::{ClusterFile, FileFault, read_cluster};
 use keyring::signer::Signer;
 use keyring::verifier::Verifier;
@@ -45,11 +49,22 @@ use schedule_text::fields::numbers::read_number_in;
 use schedule_text::reason::Reason;
 use std::alloc::Global;
 
-/// What a client is asked for: its seat, and the reads and writes of its transaction.
+/// What a client is to do.
+#[derive(Drop)]
+pub(crate) enum ClientTask {
+    /// A transaction that reads and writes so is carried through.
+    Transact { plan: Plan },
+    /// Such a transaction is formed.
+    Form { plan: Plan },
+    /// A transaction that was formed is carried through.
+    Recover { signed: Signed },
+}
+
+/// What a client is asked for: its seat, and what it is to do.
 #[derive(Drop)]
 pub(crate) struct ClientCall {
     pub seat: ClientSeat,
-    pub plan: Plan,
+    pub task: ClientTask,
 }
 
 /// C: 1 to 16.
@@ -85,19 +100,58 @@ fn read_client_seat(
     }
 }
 
-/// `C SEED LEAF OP...`
-fn read_client_call(alloc: Global, arguments: &[String]) -> Result<Option<ClientCall>, NoMemory>
-    ensures value { IfOk result (λ call. call ≡ client_call_of (map string_bytes arguments.now)) }
+/// `TRANSACTION SIGNATURE`
+fn read_recovery(alloc: Global, arguments: &[String]) -> Result<Option<ClientTask>, NoMemory>
+    ensures { IfOk result (λ task. task ≡ recovery_of (map string_bytes arguments.now)) }
+{
+    let [transaction, signature] = arguments else {
+        return Ok(None);
+    };
+    match read_signed(alloc, transaction.as_bytes(), signature.as_bytes())? {
+        Some(signed) => Ok(Some(ClientTask::Recover { signed })),
+        None => Ok(None),
+    }
+}
+
+/// What a client is to do, by its command and the arguments behind its seat.
+fn read_task(
+    alloc: Global,
+    name: &str,
+    arguments: &[String],
+) -> Result<Option<ClientTask>, NoMemory>
+    ensures { IfOk result (λ task. task ≡ task_of name.now (map string_bytes arguments.now)) }
+{
+    match name {
+        "client" => match read_plan(alloc, arguments)? {
+            Some(plan) => Ok(Some(ClientTask::Transact { plan })),
+            None => Ok(None),
+        },
+        "form" => match read_plan(alloc, arguments)? {
+            Some(plan) => Ok(Some(ClientTask::Form { plan })),
+            None => Ok(None),
+        },
+        "recover" => read_recovery(alloc, arguments),
+        _ => Ok(None),
+    }
+}
+
+/// `C SEED LEAF`, and what is to be done.
+fn read_client_call(
+    alloc: Global,
+    name: &str,
+    arguments: &[String],
+) -> Result<Option<ClientCall>, NoMemory>
+    ensures value { IfOk result (λ call. call ≡ client_call_of name.now (map string_bytes arguments.now)) }
     ensures range { IfOk result (λ call. IfSome call (λ c. (1 ≤ c.seat.number) × (c.seat.number ≤ most_clients))) }
 {
-    let [number, seed, leaf, ops @ ..] = arguments else {
+    let [number, seed, leaf, arguments @ ..] = arguments else {
         return Ok(None);
     };
-    let Some(seat) = read_client_seat(alloc, number.as_str(), seed.as_str(), leaf.as_str())? else {
+    let Some(task) = read_task(alloc, name, arguments)? else {
         return Ok(None);
     };
-    match read_plan(alloc, ops)? {
-        Some(plan) => Ok(Some(ClientCall { seat, plan })),
+    match read_client_seat(alloc, number.as_str(), seed.as_str(), leaf.as_str())? {
+        Some(seat) => Ok(Some(ClientCall { seat, task })),
         None => Ok(None),
     }
 }
@@ -110,12 +164,77 @@ pub(crate) fn read_client(
     ensures value { IfOk result (λ call. call ≡ clients.client_of (map string_bytes arguments.now)) }
     ensures range { IfOk result (λ call. IfSome call (λ c. (1 ≤ c.seat.number) × (c.seat.number ≤ most_clients))) }
 {
-    let [name, arguments @ ..] = arguments else {
-        return Ok(None);
-    };
-    match name.as_str() {
-        "client" => read_client_call(alloc, arguments),
+    match arguments {
+        [name, arguments @ ..] => read_client_call(alloc, name.as_str(), arguments),
         _ => Ok(None),
+    }
+}
+
+/// Does what a client is to do, and answers the slot of its transaction. What it begins has the clock's moment, 1 at
+/// least, as its time.
+fn run_task<V: Verifier, S: Signer, L: Links, C: Clock>(
+    alloc: Global,
+    client: &mut Client<V, S>,
+    number: u8,
+    file: &ClusterFile,
+    task: &ClientTask,
+    links: &mut L,
+    clock: &mut C,
+) -> Result<u32, RunFault>
+    requires number { number ≡ client.old.seat.number }
+    requires cluster { client.old.seat.cluster ≡ file.now.cluster }
+    ensures ran { (v : ClientValue) (moments : List ℕ) (state : LinkState) → ShowsClient client.old v →
+        C.moments clock.old ≡ Some moments → L.told links.old ≡ Some state →
+        OnEnd result (HasRun client.new (L.told links.new)
+        (RunsTask (own client.old) file.now (time_at moments) task.now)
+        (starting v state) (L.faults links.old) (L.faults links.new)) }
+    ensures first { (v : ClientValue) → ShowsClient client.old v → length v.slots ≡ 0 →
+        IfOk result (λ slot. slot ≡ 0) }
+    ensures held { IfOk result (λ slot. slot < length client.new.held.slots.items) }
+    ensures own { own client.new ≡ own client.old }
+    ensures faults { L.faults links.old ≤ L.faults links.new }
+{
+    let time = clock.now().max(1);
+    match task {
+        ClientTask::Transact { plan } => client_run(
+            alloc,
+            client,
+            number,
+            file,
+            time,
+            Aim::Decision,
+            plan.ops(),
+            links,
+        ),
+        ClientTask::Form { plan } => client_run(
+            alloc,
+            client,
+            number,
+            file,
+            time,
+            Aim::Form,
+            plan.ops(),
+            links,
+        ),
+        ClientTask::Recover { signed } => client_finish(alloc, client, number, file, signed, links),
+    }
+}
+
+/// What a client tells of the transaction in a slot, where it has done what it was to do.
+fn tell<V: Verifier, S: Signer>(
+    alloc: Global,
+    client: &Client<V, S>,
+    slot: u32,
+    task: &ClientTask,
+) -> Result<Bytes, NoMemory>
+    requires { slot < length client.now.held.slots.items }
+    ensures { (v : ClientValue) → ShowsClient client.now v → slot ≡ 0 →
+        IfOk result (λ text. text ≡ told_of (own client.now) task.now v) }
+{
+    match task {
+        ClientTask::Transact { plan } => report(alloc, client, slot, plan.ops()),
+        ClientTask::Form { .. } => hand_over(alloc, client, slot),
+        ClientTask::Recover { .. } => report(alloc, client, slot, &[]),
     }
 }
 
@@ -124,17 +243,17 @@ fn ending_of<V: Verifier, S: Signer>(
     alloc: Global,
     client: &Client<V, S>,
     ran: Result<u32, RunFault>,
-    plan: &Plan,
+    task: &ClientTask,
 ) -> Result<Ending, InputFail>
     requires { IfOk ran (λ slot. slot < length client.now.held.slots.items) }
     ensures outcome { (v : ClientValue) → ShowsClient client.now v → IfOk ran (λ slot. slot ≡ 0) →
-        IfOk result (λ e. outcome_is e ≡ outcome_of_run (own client.now) plan.now v (end_of ran)) }
+        IfOk result (λ e. outcome_is e ≡ outcome_of_run (own client.now) task.now v (end_of ran)) }
     ensures ending { IfOk result (λ e. IsRunEnding (outcome_is e)) }
     ensures wanting { IfErr result (λ fail. fail ≡ InputFail.NoMemory) }
     ensures fault { ran ≡ Err RunFault.NoMemory → result ≡ Err InputFail.NoMemory }
 {
     match ran {
-        Ok(slot) => match report(alloc, client, slot, plan.ops()) {
+        Ok(slot) => match tell(alloc, client, slot, task) {
             Ok(text) => Ok(Ending::Written(text)),
             Err(_wanting) => Err(InputFail::NoMemory),
         },
@@ -147,13 +266,13 @@ fn ending_of<V: Verifier, S: Signer>(
     }
 }
 
-/// What a client comes to that carries its transaction through.
+/// What a client comes to that does what it is to do.
 fn run_at<V: Verifier, S: Signer, L: Links, C: Clock>(
     alloc: Global,
     client: &mut Client<V, S>,
     number: u8,
     file: &ClusterFile,
-    plan: &Plan,
+    task: &ClientTask,
     links: &mut L,
     clock: &mut C,
 ) -> Result<Ending, InputFail>
@@ -161,14 +280,13 @@ fn run_at<V: Verifier, S: Signer, L: Links, C: Clock>(
     requires cluster { client.old.seat.cluster ≡ file.now.cluster }
     ensures ran { (s : ClientStation) (moments : List ℕ) (state : LinkState) → SitsInFile client.old file.now s →
         C.moments clock.old ≡ Some moments → L.told links.old ≡ Some state → IfOk result (λ e.
-        RanTo s plan.now moments state (L.told links.new) (L.faults links.old) (L.faults links.new) (outcome_is e)) }
+        RanTo s task.now moments state (L.told links.new) (L.faults links.old) (L.faults links.new) (outcome_is e)) }
     ensures ending { IfOk result (λ e. IsRunEnding (outcome_is e)) }
     ensures wanting { IfErr result (λ fail. fail ≡ InputFail.NoMemory) }
     ensures faults { L.faults links.old ≤ L.faults links.new }
 {
-    let time = clock.now().max(1);
-    let ran = client_run(alloc, client, number, file, time, plan.ops(), links);
-    ending_of(alloc, client, ran, plan)
+    let ran = run_task(alloc, client, number, file, task, links, clock);
+    ending_of(alloc, client, ran, task)
 }
 
 /// The reason of a seat that isn't given; none for want of memory.
@@ -205,7 +323,7 @@ fn run_in<L: Links, C: Clock>(
     ensures ran { (s : ClientStation) (moments : List ℕ) (state : LinkState) →
         client_seated file.now (client_in file.now call.now.seat) ≡ Ok s →
         C.moments clock.old ≡ Some moments → L.told links.old ≡ Some state → IfOk result (λ e.
-        RanTo s call.now.plan moments state (L.told links.new) (L.faults links.old) (L.faults links.new)
+        RanTo s call.now.task moments state (L.told links.new) (L.faults links.old) (L.faults links.new)
         (outcome_is e)) }
     ensures ending { IfOk (client_seated file.now (client_in file.now call.now.seat)) (λ _.
         IfOk result (λ e. IsRunEnding (outcome_is e))) }
@@ -220,7 +338,7 @@ fn run_in<L: Links, C: Clock>(
                 &mut client,
                 call.seat.number,
                 file,
-                &call.plan,
+                &call.task,
                 links,
                 clock,
             )
@@ -245,7 +363,7 @@ fn run_file<L: Links, C: Clock>(
     ensures ran { (s : ClientStation) (moments : List ℕ) (state : LinkState) →
         client_seated_in (cluster_in bytes.now) call.now.seat ≡ Ok s →
         C.moments clock.old ≡ Some moments → L.told links.old ≡ Some state → IfOk result (λ e.
-        RanTo s call.now.plan moments state (L.told links.new) (L.faults links.old) (L.faults links.new)
+        RanTo s call.now.task moments state (L.told links.new) (L.faults links.old) (L.faults links.new)
         (outcome_is e)) }
     ensures ending { IfOk (client_seated_in (cluster_in bytes.now) call.now.seat) (λ _.
         IfOk result (λ e. IsRunEnding (outcome_is e))) }
@@ -280,7 +398,7 @@ fn run_source<S: Source, L: Links, C: Clock>(
     ensures ran { (s : ClientStation) (moments : List ℕ) (state : LinkState) →
         C.moments clock.old ≡ Some moments → L.told links.old ≡ Some state → IfSome (S.left source.old) (λ bytes.
         client_station call.now.seat bytes ≡ Ok s → IfOk result (λ e.
-        RanTo s call.now.plan moments state (L.told links.new) (L.faults links.old) (L.faults links.new)
+        RanTo s call.now.task moments state (L.told links.new) (L.faults links.old) (L.faults links.new)
         (outcome_is e))) }
     ensures ending { IfSome (S.left source.old) (λ bytes. IfOk (client_station call.now.seat bytes) (λ _.
         IfOk result (λ e. IsRunEnding (outcome_is e)))) }
@@ -298,8 +416,9 @@ fn run_source<S: Source, L: Links, C: Clock>(
     }
 }
 
-/// Carries a client's transaction through, whose cluster's file is the source, and writes what became of it and what it
-/// read; or why it doesn't come so far.
+/// Does what a client is to do, whose cluster's file is the source, and writes what came of it: what became of its
+/// transaction and what that read, or, where it was only formed, the transaction and its signature; or why it doesn't
+/// come so far.
 pub(crate) fn run_client<S: Source, K: Sink, L: Links, C: Clock>(
     alloc: Global,
     call: &ClientCall,
@@ -322,7 +441,7 @@ pub(crate) fn run_client<S: Source, K: Sink, L: Links, C: Clock>(
         (s : ClientStation) (moments : List ℕ) (state : LinkState) → is_outcomes result ≡ true →
         C.moments clock.old ≡ Some moments → L.told links.old ≡ Some state → IfSome (S.left source.old) (λ bytes.
         client_station call.now.seat bytes ≡ Ok s →
-        ToldRun s call.now.plan moments state (L.told links.new) counts result (K.taken sink.old) (K.taken sink.new)) }
+        ToldRun s call.now.task moments state (L.told links.new) counts result (K.taken sink.old) (K.taken sink.new)) }
     ensures complete { (Rose (S.faults source.old) (S.faults source.new) → ⊥) →
         (Rose (K.faults sink.old) (K.faults sink.new) → ⊥) →
         IfSome (S.left source.old) (λ bytes. IsClientTold result (client_station call.now.seat bytes)) }

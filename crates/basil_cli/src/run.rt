@@ -296,6 +296,10 @@ fn run_alone<S: Source, K: Sink, L: Links>(
 /// - `client C SEED LEAF OP...` reads a cluster's file and, as client C, whose key it makes of its SEED and uses from
 ///   that leaf on, carries through a transaction of the reads `r:KEY` and the writes `w:KEY:VALUE`. It writes `commit`
 ///   or `abort`, and what it read.
+/// - `form C SEED LEAF OP...` reads, forms and signs such a transaction, asks nothing more, and writes it with its
+///   signature, both in hex.
+/// - `recover C SEED LEAF TRANSACTION SIGNATURE` carries through, as client C, a transaction that it or another client
+///   formed, and writes `commit` or `abort`.
 pub fn run<S: Source, K: Sink, L: Links, C: Clock>(
     alloc: Global,
     arguments: &[String],
@@ -305,8 +309,8 @@ pub fn run<S: Source, K: Sink, L: Links, C: Clock>(
     clock: &mut C,
 ) -> Status
     // The status and what was written are those of the arguments, the bytes, and what the links gave, for every command
-    // but `node` and `client`; of a source that doesn't tell its bytes, there are some of which that holds. After a
-    // fault of the sink it is some of that text, or, where another count rose, some of the text of its fault.
+    // but those of a node or a client; of a source that doesn't tell its bytes, there are some of which that holds.
+    // After a fault of the sink it is some of that text, or, where another count rose, some of the text of its fault.
     ensures answers { let command = command_of (map string_bytes arguments.now) in let counts =
         counted (S.faults source.old) (S.faults source.new) (L.faults links.old) (L.faults links.new) in
         CallsNone (map string_bytes arguments.now) →
@@ -397,7 +401,7 @@ pub fn run<S: Source, K: Sink, L: Links, C: Clock>(
     ensures link_told { CallsNone (map string_bytes arguments.now) → L.faults links.old < L.faults links.new →
         (result ≡ Status.LinkFault) ⊎ (result ≡ Status.WriteFault) }
     ensures write_told { K.faults sink.old < K.faults sink.new → result ≡ Status.WriteFault }
-    // No command but `loopback`, `node` and `client` uses the links, and only the last two the clock.
+    // No command but `loopback` and those of a node or a client uses the links, and only the latter the clock.
     ensures links { CallsNone (map string_bytes arguments.now) →
         arguments_carried (command_of (map string_bytes arguments.now)) ≡ false → links.new ≡ links.old }
     ensures clock { CallsNone (map string_bytes arguments.now) → clock.new ≡ clock.old }
@@ -465,17 +469,18 @@ pub fn run<S: Source, K: Sink, L: Links, C: Clock>(
         IfSome (S.left source.old) (λ bytes. IfErr (client_station call.seat bytes) (λ _. links.new ≡ links.old)) }
     ensures client_still { (call : ClientCall) → client_of (map string_bytes arguments.now) ≡ Some call →
         IfSome (S.left source.old) (λ bytes. IfErr (client_station call.seat bytes) (λ _. clock.new ≡ clock.old)) }
-    // A client in its seat begins a transaction at the clock's moment, makes the calls of its reads and writes and of
-    // the stages behind them, and asks, behind each, all that it sends, at the file's addresses, with all that comes of
-    // it. An ask is silent only where its bytes show it, or where a call of the links failed: so many did as their
-    // count rose at least. What the client then holds is what it tells.
+    // A client in its seat begins a transaction at the clock's moment and makes the calls of its reads and writes, and
+    // then those of the stages, or the one call that forms it; or it takes up a transaction that was formed, and makes
+    // the calls of the later stages. Behind each call but the one that forms it asks all that it sends, at the file's
+    // addresses, with all that comes of it. An ask is silent only where its bytes show it, or where a call of the links
+    // failed: so many did as their count rose at least. What the client then holds is what it tells.
     ensures client_ran { let counts =
         counted (S.faults source.old) (S.faults source.new) (L.faults links.old) (L.faults links.new) in
         (call : ClientCall) (s : ClientStation) (moments : List ℕ) (state : LinkState) →
         client_of (map string_bytes arguments.now) ≡ Some call → is_outcomes result ≡ true →
         C.moments clock.old ≡ Some moments → L.told links.old ≡ Some state → IfSome (S.left source.old) (λ bytes.
         client_station call.seat bytes ≡ Ok s →
-        ToldRun s call.plan moments state (L.told links.new) counts result (K.taken sink.old) (K.taken sink.new)) }
+        ToldRun s call.task moments state (L.told links.new) counts result (K.taken sink.old) (K.taken sink.new)) }
     // Where no count of the source or the sink rose a client in its seat is done, undecided, or refused a call, and
     // another tells its refusal; or memory is wanting.
     ensures client_complete { (call : ClientCall) → client_of (map string_bytes arguments.now) ≡ Some call →

@@ -191,25 +191,78 @@ fn batches_that_are_not_signed(rt: HostRuntime) -> Result<(), Fail> {
     Ok(())
 }
 
-/// Three messages with w4h5: what becomes of the third one's signature when it changes.
+/// The signature of the third of three messages, signed with w4h5.
+fn third_signature(alloc: Global) -> Result<Vec<u8>, Fail> {
+    let mut pen = LmsPen::replay(alloc, CLIENT, LmsSet::W4H5)?;
+    let made = numbered(alloc, 3)?
+        .sign(&mut pen)
+        .map_err(|_| "not signed")?;
+    let third = made.signature(2).ok_or("no signature")?;
+    Ok(Vec::from_slice(alloc, third)?)
+}
+
+/// How many messages a batch has, a message, and where it stands there by that signature.
+const PLACES: &[(u16, &[u8], Option<u16>)] = &[
+    (3, b"message 2", Some(2)),
+    // Another batch, and another message.
+    (2, b"message 2", None),
+    (3, b"message 1", None),
+];
+
+/// Whether it stands so.
+fn is_found(
+    alloc: Global,
+    signature: &[u8],
+    row: &(u16, &[u8], Option<u16>),
+) -> Result<bool, Fail> {
+    let (count, message, place) = *row;
+    let batch = numbered(alloc, count)?;
+    Ok(found(alloc, &batch, message, signature)? == place)
+}
+
+#[test]
+fn places_of_a_signature(rt: HostRuntime) -> Result<(), Fail> {
+    let third = third_signature(rt.alloc())?;
+    assert!(rt; third.len() == 2414);
+    for row in PLACES {
+        assert!(rt;
+            is_found(rt.alloc(), &third, row)?,
+            "{:?} of {}",
+            row.1,
+            row.0
+        );
+    }
+    Ok(())
+}
+
+/// How many of its bytes are kept, which of them are changed, and whether what is left has the form of a signature.
+type Changes = (usize, &'static [(usize, u8)], Result<(), BatchRefusal>);
+
+const CHANGES: &[Changes] = &[
+    (66, &[], Ok(())),
+    (65, &[], Err(BatchRefusal::Short)),
+    (2414, &[(1, 4)], Err(BatchRefusal::Range)),
+    (2414, &[(1, 4), (0, 9)], Err(BatchRefusal::Range)),
+];
+
+/// Whether it is so.
+fn has_form(alloc: Global, signature: &[u8], row: &Changes) -> Result<bool, Fail> {
+    let (kept, changes, form) = row;
+    let mut changed = Vec::from_slice(alloc, signature.get(..*kept).ok_or("too short")?)?;
+    for &(at, byte) in *changes {
+        *changed.get_mut(at).ok_or("no such byte")? = byte;
+    }
+    Ok(test_form(&changed) == *form)
+}
+
 #[test]
 fn changes_of_a_signature(rt: HostRuntime) -> Result<(), Fail> {
-    let mut pen = LmsPen::replay(rt.alloc(), CLIENT, LmsSet::W4H5)?;
-    let batch = numbered(rt.alloc(), 3)?;
-    let made = batch.sign(&mut pen).map_err(|_| "not signed")?;
-    let third = made.signature(2).ok_or("no signature")?;
-    assert!(rt; third.len() == 2414);
-    assert!(rt; found(rt.alloc(), &batch, b"message 2", third)? == Some(2));
-    assert!(rt; found(rt.alloc(), &numbered(rt.alloc(), 2)?, b"message 2", third)?.is_none());
-    assert!(rt; found(rt.alloc(), &batch, b"message 1", third)?.is_none());
-    for (kept, answer) in [(65, Err(BatchRefusal::Short)), (66, Ok(()))] {
-        assert!(rt; test_form(third.get(..kept).ok_or("too short")?) == answer);
+    let third = third_signature(rt.alloc())?;
+    let mut place = 0usize;
+    for row in CHANGES {
+        assert!(rt; has_form(rt.alloc(), &third, row)?, "row {place}");
+        place = place.saturating_add(1);
     }
-    let mut changed = Vec::from_slice(rt.alloc(), third)?;
-    changed[1] = 4;
-    assert!(rt; test_form(&changed) == Err(BatchRefusal::Range));
-    changed[0] = 9;
-    assert!(rt; test_form(&changed) == Err(BatchRefusal::Range));
     Ok(())
 }
 

@@ -10,7 +10,8 @@ use Rattle.client_core.specs.declared.client.Client.{Client}
 use Rattle.client_core.specs.declared.fault.CallFault.{CallFault}
 use Rattle.client_core.specs.declared.fault.CallFault.TheVariants as calls
 use Rattle.basil_types.specs.Transaction.{TransactionValue}
-use Rattle.client_core.specs.Calls.{begin_done, by_slot, call_begin, call_invoke, call_recover, call_write, write_done, write_fault}
+use Rattle.client_core.specs.Calls.{begin_done, by_slot, call_begin, call_invoke, call_prepare, call_recover, call_write}
+use Rattle.client_core.specs.Calls.{recovered_at, write_done, write_fault}
 use Rattle.client_core.specs.Clients.{ClientDone, ClientSelf, ClientValue, SlotValue, quiet}
 use Rattle.client_core.specs.Done.{KeepsSlots, SameOutbox, Sends}
 use Rattle.cluster_file.specs.Listing.{Listing}
@@ -24,9 +25,12 @@ use Rattle.client_link.specs.declared.op.Op.{Op}
 use Rattle.client_link.specs.declared.fault.RunFault.{RunFault}
 use Rattle.client_link.specs.declared.fault.RunFault.TheVariants.{Undecided, Call, NoMemory}
 use Rattle.client_link.specs.Having.{ComesTo, HasAskedAll, HasCalled, HasCome, HasEnded, HasGone, HasRun, HasTurned}
-use Rattle.client_link.specs.Having.{IsTalk, OnEnd, fault_told}
-use Rattle.client_link.specs.Running.{Calling, Runs, RunsBegun, RunsPlan, StopsOr, Turn, closing, ending, held_at, if_logged, outcome_at}
-use Rattle.client_link.specs.Running.{formed_at, invokes, recovers, recovery, sends, starting, turns_of}
+use Rattle.client_link.specs.Having.{IsTalk, OnEnd, fault_told, slot_given}
+use Rattle.client_link.specs.Running.{Calling, FormsBy, Runs, RunsBegun, RunsPlan, RunsRecovery, StopsOr, Turn, closing, ending, held_at}
+use Rattle.client_link.specs.Running.{finishing, formed_at, if_logged, invokes, outcome_at, recovers, recovery, sends, starting, takes_up}
+use Rattle.client_link.specs.Running.{turns_of}
+use Rattle.client_link.specs.declared.aim.Aim.{Aim}
+use Rattle.client_link.specs.declared.aim.Aim.TheVariants.{Decision, Form}
 use Rattle.frame_views.specs.Values.{SignedValue}
 use Rattle.client_link.specs.declared.closing.Stage.{Stage}
 use Rattle.client_link.specs.declared.closing.Stage.TheVariants as stages
@@ -113,11 +117,23 @@ module _ (me : ClientSelf) (slot : ℕ) (v : ClientValue) where
   recovers_unformed h unformed = ap decided_or h ∙ ap (recovery me v) unformed
 
 -- so it was recovered
-pub recovered : (me : ClientSelf) (v : ClientValue) (t : TransactionValue) (signature : List ℕ) {lent : List ℕ}
-    {answer : Result ClientDone CallFault} {P : ClientDone → Type 0} → answer ≡ call_recover me v t signature → lent ≡ signature →
-    (d : ClientDone) × (call_recover me v t lent ≡ Ok d) × P d → (d : ClientDone) × (answer ≡ Ok d) × P d
-recovered me v t signature is same done =
-    (done.0, is ∙ ap (call_recover me v t) (sym same) ∙ done.1, done.2)
+pub recovered : (me : ClientSelf) (v : ClientValue) (x : SignedValue) (lent : TransactionValue) (bytes : List ℕ)
+    {answer : Result ClientDone CallFault} {P : ClientDone → Type 0} → answer ≡ call_recover me v x.transaction x.signature →
+    lent ≡ x.transaction → bytes ≡ x.signature →
+    (d : ClientDone) × (call_recover me v lent bytes ≡ Ok d) × P d → (d : ClientDone) × (answer ≡ Ok d) × P d
+recovered me v x lent bytes is named signed done = (
+  done.0,
+  is ∙ ap (λ t. call_recover me v t x.signature) (sym named) ∙ ap (call_recover me v lent) (sym signed) ∙ done.1,
+  done.2,
+)
+
+-- or refused
+pub unrecovered : (me : ClientSelf) (v : ClientValue) (x : SignedValue) (lent : TransactionValue) (bytes : List ℕ)
+    {fault : CallFault} → lent ≡ x.transaction → bytes ≡ x.signature →
+    (fault ≢ calls.NoMemory → call_recover me v lent bytes ≡ Err fault) → fault ≢ calls.NoMemory →
+    call_recover me v x.transaction x.signature ≡ Err fault
+unrecovered me v x lent bytes named signed is some =
+    ap (λ t. call_recover me v t x.signature) (sym named) ∙ ap (call_recover me v lent) (sym signed) ∙ is some
 
 -- ---- and asked for
 
@@ -157,14 +173,14 @@ module _ {V S : Type 0} {v : verifiers.Ghosts V} {g : signers.Ghosts S} (new : C
         mid = asked.new;
         failed = asked.failed;
         at = asked.at;
-        goes = λ more rest end last runs.
-            subst (λ a. Calling (own new) l slot turn a (Runs (own new) l slot more) t (asked.failed + rest) end last) (sym h.is)
+        goes = λ aim more rest end last runs.
+            subst (λ a. Calling (own new) l slot turn a (Runs (own new) l slot aim more) t (asked.failed + rest) end last) (sym h.is)
             (record {
               mid = asked.new;
               now = asked.failed;
               rest = rest;
               asks = asked.asks;
-              onward = subst (λ b. StopsOr slot b (Runs (own new) l slot more) asked.new rest end last)
+              onward = subst (λ b. StopsOr slot b (Runs (own new) l slot aim more) asked.new rest end last)
                   (sym (on asked.new.client asked.at.client_is)) runs;
               sum = refl;
             });
@@ -183,15 +199,16 @@ module _ {V S : Type 0} {v : verifiers.Ghosts V} {g : signers.Ghosts S} (new : C
         failed = asked.failed;
         client_is = asked.at.client_is;
         links = asked.at.links;
-        ends = λ more.
-            subst (λ a. Calling (own new) l slot turn a (Runs (own new) l slot more) t asked.failed (Some (Undecided replies)) asked.new)
+        ends = λ aim more.
+            subst
+            (λ a. Calling (own new) l slot turn a (Runs (own new) l slot aim more) t asked.failed (Some (Undecided replies)) asked.new)
             (sym h.is)
             (record {
               mid = asked.new;
               now = asked.failed;
               rest = 0;
               asks = asked.asks;
-              onward = subst (λ b. StopsOr slot b (Runs (own new) l slot more) asked.new 0 (Some (Undecided replies)) asked.new)
+              onward = subst (λ b. StopsOr slot b (Runs (own new) l slot aim more) asked.new 0 (Some (Undecided replies)) asked.new)
                   (sym (stops asked.new.client asked.at.client_is))
                   (record { ended = ap (λ n. Some (Undecided n)) (held asked.new.client asked.at.client_is); same = refl; none = refl });
               sum = omega arith;
@@ -208,8 +225,8 @@ module _ {V S : Type 0} {v : verifiers.Ghosts V} {g : signers.Ghosts S} (new : C
         failed = 0;
         client_is = h.1.client_is;
         links = h.1.links;
-        ends = λ more.
-            subst (λ a. Calling (own new) l slot turn a (Runs (own new) l slot more) t 0 (Some (Call fault)) t) (sym h.0)
+        ends = λ aim more.
+            subst (λ a. Calling (own new) l slot turn a (Runs (own new) l slot aim more) t 0 (Some (Call fault)) t) (sym h.0)
             (record { ended = refl; same = refl; none = refl });
         risen = rose_none before now later;
       }
@@ -248,8 +265,8 @@ pub record Turning {V S : Type 0} {v : verifiers.Ghosts V} {g : signers.Ghosts S
   pub slots : KeepsSlots first.held now.held
   pub faults : before ≤ count
   pub at : (t : Talk) → IsTalk first told e t → (mid : Talk) × (failed : ℕ) × IsTalk now after later mid
-      × ((more : List Turn) (rest : ℕ) (end : Option RunFault) (new : Talk) →
-      Runs (own first) l slot (left ++ more) mid rest end new → Runs (own first) l slot (all ++ more) t (failed + rest) end new)
+      × ((aim : Aim) (more : List Turn) (rest : ℕ) (end : Option RunFault) (new : Talk) →
+      Runs (own first) l slot aim (left ++ more) mid rest end new → Runs (own first) l slot aim (all ++ more) t (failed + rest) end new)
       × RoseBy failed before count
 
 pub turning_none : {V S : Type 0} {v : verifiers.Ghosts V} {g : signers.Ghosts S} (first : Client V S v g) (l : Listing)
@@ -266,7 +283,7 @@ turning_none first l slot all left told e before is =
         t,
         0,
         at,
-        λ more rest end new runs. subst (λ k. Runs (own first) l slot (all ++ more) t k end new) (omega arith) runs,
+        λ aim more rest end new runs. subst (λ k. Runs (own first) l slot aim (all ++ more) t k end new) (omega arith) runs,
         rose_none before before (omega arith),
       );
     })
@@ -294,15 +311,15 @@ module _ {V S : Type 0} {v : verifiers.Ghosts V} {g : signers.Ghosts S} (first n
               did.mid,
               failed + did.failed,
               did.at,
-              λ more rest end new runs.
-                  let one : Runs (own next) l slot ((turn ∷ []) ++ (others ++ more)) so.0 (did.failed + rest) end new =
-                  did.goes (others ++ more) rest end new
-                  (subst (λ me. Runs me l slot (others ++ more) did.mid rest end new) (sym same) runs) in
-                  let here : Runs (own first) l slot (left ++ more) so.0 (did.failed + rest) end new =
-                  subst (λ ts. Runs (own first) l slot (ts ++ more) so.0 (did.failed + rest) end new) (sym is)
-                  (subst (λ me. Runs me l slot (turn ∷ (others ++ more)) so.0 (did.failed + rest) end new) same one) in
-                  subst (λ n. Runs (own first) l slot (all ++ more) t n end new) (omega arith)
-                  (so.3 more (did.failed + rest) end new here),
+              λ aim more rest end new runs.
+                  let one : Runs (own next) l slot aim ((turn ∷ []) ++ (others ++ more)) so.0 (did.failed + rest) end new =
+                  did.goes aim (others ++ more) rest end new
+                  (subst (λ me. Runs me l slot aim (others ++ more) did.mid rest end new) (sym same) runs) in
+                  let here : Runs (own first) l slot aim (left ++ more) so.0 (did.failed + rest) end new =
+                  subst (λ ts. Runs (own first) l slot aim (ts ++ more) so.0 (did.failed + rest) end new) (sym is)
+                  (subst (λ me. Runs me l slot aim (turn ∷ (others ++ more)) so.0 (did.failed + rest) end new) same one) in
+                  subst (λ n. Runs (own first) l slot aim (all ++ more) t n end new) (omega arith)
+                  (so.3 aim more (did.failed + rest) end new here),
               rose_then failed did.failed before count counted so.4 did.risen,
             );
       }
@@ -320,12 +337,12 @@ module _ {V S : Type 0} {v : verifiers.Ghosts V} {g : signers.Ghosts S} (first n
         failed = failed + did.failed;
         client_is = did.client_is;
         links = did.links;
-        ends = λ more.
-            subst (λ me. Runs me l slot (all ++ more) t (failed + did.failed) (Some fault) did.new) (sym same)
-            (so.3 more did.failed (Some fault) did.new
-            (subst (λ ts. Runs (own first) l slot (ts ++ more) so.0 did.failed (Some fault) did.new) (sym is)
-            (subst (λ me. Runs me l slot (turn ∷ (others ++ more)) so.0 did.failed (Some fault) did.new) same
-            (did.ends (others ++ more)))));
+        ends = λ aim more.
+            subst (λ me. Runs me l slot aim (all ++ more) t (failed + did.failed) (Some fault) did.new) (sym same)
+            (so.3 aim more did.failed (Some fault) did.new
+            (subst (λ ts. Runs (own first) l slot aim (ts ++ more) so.0 did.failed (Some fault) did.new) (sym is)
+            (subst (λ me. Runs me l slot aim (turn ∷ (others ++ more)) so.0 did.failed (Some fault) did.new) same
+            (did.ends aim (others ++ more)))));
         risen = rose_then failed did.failed before count counted so.4 did.risen;
       }
 
@@ -346,11 +363,11 @@ turning_all first now l slot all left told after e later before count t k none a
       mid = so.0;
       failed = so.1;
       at = so.2;
-      goes = λ more rest end new runs.
-          subst (λ me. Runs me l slot (all ++ more) t (so.1 + rest) end new) (sym k.self)
-          (so.3 more rest end new
-          (subst (λ ts. Runs (own first) l slot (ts ++ more) so.0 rest end new) (sym none)
-          (subst (λ me. Runs me l slot more so.0 rest end new) k.self runs)));
+      goes = λ aim more rest end new runs.
+          subst (λ me. Runs me l slot aim (all ++ more) t (so.1 + rest) end new) (sym k.self)
+          (so.3 aim more rest end new
+          (subst (λ ts. Runs (own first) l slot aim (ts ++ more) so.0 rest end new) (sym none)
+          (subst (λ me. Runs me l slot aim more so.0 rest end new) k.self runs)));
       risen = so.4;
     }
 
@@ -368,81 +385,136 @@ talk_begun client told e w s shows links none asked left =
       left = left;
     }
 
--- the reads and writes end it
-pub run_ended : {V S : Type 0} {v : verifiers.Ghosts V} {g : signers.Ghosts S} (client : Client V S v g) (me : ClientSelf) (l : Listing)
-    (slot : ℕ) (turns more : List Turn) (told : Option LinkState) (e : Errands) (t : Talk) (before now : ℕ) (fault : RunFault) →
-    own client ≡ me → HasTurned client l slot turns told e t before now (Err fault) →
-    OnEnd {T = Unit {0}} (Err fault) (HasRun client told (Runs me l slot (turns ++ more)) t before now)
-run_ended client me l slot turns more told e t before now (Undecided replies) self h =
-    record {
-      new = h.new;
-      client_is = h.client_is;
-      links = h.links;
-      failed = h.failed;
-      runs_so = subst (λ m. Runs m l slot (turns ++ more) t h.failed (Some (Undecided replies)) h.new) self (h.ends more);
-      risen = h.risen;
-    }
-run_ended client me l slot turns more told e t before now (Call fault) self h =
-    record {
-      new = h.new;
-      client_is = h.client_is;
-      links = h.links;
-      failed = h.failed;
-      runs_so = subst (λ m. Runs m l slot (turns ++ more) t h.failed (Some (Call fault)) h.new) self (h.ends more);
-      risen = h.risen;
-    }
-run_ended client me l slot turns more told e t before now NoMemory self h = tt
+-- the turns end it
+module _ {V S : Type 0} {v : verifiers.Ghosts V} {g : signers.Ghosts S} (client : Client V S v g) (me : ClientSelf) (l : Listing)
+    (slot : ℕ) (aim : Aim) (turns : List Turn) (told : Option LinkState) (e : Errands) (t : Talk) (before now : ℕ) where
+  ended_in : (more : List Turn) (fault : RunFault) → own client ≡ me → HasEnded client l slot turns told t before now fault →
+      HasRun client told (Runs me l slot aim (turns ++ more)) t before now (Some fault)
+  ended_in more fault self h =
+      record {
+        new = h.new;
+        client_is = h.client_is;
+        links = h.links;
+        failed = h.failed;
+        runs_so = subst (λ m. Runs m l slot aim (turns ++ more) t h.failed (Some fault) h.new) self (h.ends aim more);
+        risen = h.risen;
+      }
 
--- the turns behind them do
+  pub run_ended : (more : List Turn) (fault : RunFault) → own client ≡ me →
+      HasTurned client l slot turns told e t before now (Err fault) →
+      OnEnd {T = Unit {0}} (Err fault) (HasRun client told (Runs me l slot aim (turns ++ more)) t before now)
+  run_ended more (Undecided replies) self h = ended_in more _ self h
+  run_ended more (Call fault) self h = ended_in more _ self h
+  run_ended more NoMemory self h = tt
+
+  -- none stands behind them
+  pub run_ended_last : (fault : RunFault) → own client ≡ me → HasTurned client l slot turns told e t before now (Err fault) →
+      OnEnd {T = Unit {0}} (Err fault) (HasRun client told (Runs me l slot aim turns) t before now)
+  run_ended_last fault self h =
+      subst (λ ts. OnEnd {T = Unit {0}} (Err fault) (HasRun client told (Runs me l slot aim ts) t before now)) (append-nil turns)
+      (run_ended [] fault self h)
+
+-- they came through, and there is a decision, or none
+pub run_closed : {V S : Type 0} {v : verifiers.Ghosts V} {g : signers.Ghosts S} (client : Client V S v g) (me : ClientSelf) (l : Listing)
+    (slot : ℕ) (turns : List Turn) (told : Option LinkState) (e : Errands) (t : Talk) (before now : ℕ) → own client ≡ me →
+    (h : HasGone client l slot turns told e t before now) (end : Option RunFault) → end ≡ ending (own client) slot h.mid.client →
+    HasRun client told (Runs me l slot Decision turns) t before now end
+run_closed client me l slot turns told e t before now self h end is =
+    let last : Runs (own client) l slot Decision [] h.mid 0 end h.mid = record { ended = is; same = refl; none = refl } in
+    record {
+      new = h.mid;
+      client_is = h.at.client_is;
+      links = h.at.links;
+      failed = h.failed + 0;
+      runs_so = subst (λ m. Runs m l slot Decision turns t (h.failed + 0) end h.mid) self
+          (subst (λ ts. Runs (own client) l slot Decision ts t (h.failed + 0) end h.mid) (append-nil turns)
+          (h.goes Decision [] 0 end h.mid last));
+      risen = subst (λ n. RoseBy n before now) (omega arith) h.risen;
+    }
+
+-- the transaction is formed, or the client refuses that
+module _ {V S : Type 0} {v : verifiers.Ghosts V} {g : signers.Ghosts S} (client : Client V S v g) (told : Option LinkState)
+    (e : Errands) (me : ClientSelf) (l : Listing) (slot : ℕ) (t : Talk) (count : ℕ) where
+  pub run_formed : HasCalled client told e t (call_prepare me t.client slot) (Ok tt) →
+      HasRun client told (Runs me l slot Form []) t count count None
+  run_formed h =
+      record {
+        new = sends t h.0;
+        client_is = h.2.client_is;
+        links = h.2.links;
+        failed = 0;
+        runs_so = subst (λ a. FormsBy a t 0 None (sends t h.0)) (sym h.1) (record { ended = refl; same = refl; none = refl });
+        risen = rose_none count count (omega arith);
+      }
+
+  unformed : (fault : CallFault) → (call_prepare me t.client slot ≡ Err fault) × IsTalk client told e t →
+      HasRun client told (Runs me l slot Form []) t count count (Some (Call fault))
+  unformed fault h =
+      record {
+        new = t;
+        client_is = h.1.client_is;
+        links = h.1.links;
+        failed = 0;
+        runs_so = subst (λ a. FormsBy a t 0 (Some (Call fault)) t) (sym h.0) (record { ended = refl; same = refl; none = refl });
+        risen = rose_none count count (omega arith);
+      }
+
+  unformed_as : (fault : CallFault) → HasCalled client told e t (call_prepare me t.client slot) (Err fault) →
+      OnEnd {T = Unit {0}} (Err (fault_told fault)) (HasRun client told (Runs me l slot Form []) t count count)
+  unformed_as (calls.TimeNotAbove last) h = unformed _ (h (λ is. cc))
+  unformed_as calls.NotOpen h = unformed _ (h (λ is. cc))
+  unformed_as calls.TooMany h = unformed _ (h (λ is. cc))
+  unformed_as calls.SizeOut h = unformed _ (h (λ is. cc))
+  unformed_as (calls.ReadPending key) h = unformed _ (h (λ is. cc))
+  unformed_as calls.Empty h = unformed _ (h (λ is. cc))
+  unformed_as calls.Exhausted h = unformed _ (h (λ is. cc))
+  unformed_as calls.NotPrepared h = unformed _ (h (λ is. cc))
+  unformed_as calls.NothingLogged h = unformed _ (h (λ is. cc))
+  unformed_as (calls.BadTransaction form) h = unformed _ (h (λ is. cc))
+  unformed_as calls.NoMemory h = tt
+
+  pub run_unformed : (fault : CallFault) (known : RunFault) → known ≡ fault_told fault →
+      HasCalled client told e t (call_prepare me t.client slot) (Err fault) →
+      OnEnd {T = Unit {0}} (Err known) (HasRun client told (Runs me l slot Form []) t count count)
+  run_unformed fault known is h =
+      subst (λ f. OnEnd {T = Unit {0}} (Err f) (HasRun client told (Runs me l slot Form []) t count count)) (sym is)
+      (unformed_as fault h)
+
+-- behind the turns it runs on
 module _ {V S : Type 0} {v : verifiers.Ghosts V} {g : signers.Ghosts S} (mid client : Client V S v g) (me : ClientSelf) (l : Listing)
-    (slot : ℕ) (turns : List Turn) (of : ClientSelf → List Turn) (told after : Option LinkState) (e later : Errands) (t : Talk)
-    (before between now : ℕ) (first : HasGone mid l slot turns told e t before between) (self : own mid ≡ me)
-    (same : own client ≡ own mid) where
-  then_ended : (fault : RunFault) → HasEnded client l slot (of me) after first.mid between now fault →
-      HasRun client after (Runs me l slot (turns ++ of me)) t before now (Some fault)
-  then_ended fault h =
+    (slot : ℕ) (aim : Aim) (turns : List Turn) (of : ClientSelf → List Turn) (told after : Option LinkState) (e : Errands) (t : Talk)
+    (before between now : ℕ) (first : HasGone mid l slot turns told e t before between) (self : own mid ≡ me) where
+  through : (end : Option RunFault) → HasRun client after (Runs (own mid) l slot aim (of (own mid))) first.mid between now end →
+      HasRun client after (Runs me l slot aim (turns ++ of me)) t before now end
+  through end h =
       record {
         new = h.new;
         client_is = h.client_is;
         links = h.links;
         failed = first.failed + h.failed;
-        runs_so = subst (λ m. Runs m l slot (turns ++ of me) t (first.failed + h.failed) (Some fault) h.new) self
-            (first.goes (of me) h.failed (Some fault) h.new
-            (subst (λ m. Runs m l slot (of me) first.mid h.failed (Some fault) h.new) same
-            (subst (λ ts. Runs (own client) l slot ts first.mid h.failed (Some fault) h.new) (append-nil (of me)) (h.ends []))));
+        runs_so = subst (λ m. Runs m l slot aim (turns ++ of m) t (first.failed + h.failed) end h.new) self
+            (first.goes aim (of (own mid)) h.failed end h.new h.runs_so);
         risen = rose_then first.failed h.failed before between now first.risen h.risen;
       }
 
-  ended_by : (fault : RunFault) → HasTurned client l slot (of me) after later first.mid between now (Err fault) →
-      OnEnd {T = Unit {0}} (Err fault) (HasRun client after (Runs me l slot (turns ++ of me)) t before now)
-  ended_by (Undecided replies) h = then_ended (Undecided replies) h
-  ended_by (Call fault) h = then_ended (Call fault) h
-  ended_by NoMemory h = tt
+  pub run_then : (result : Result (Unit {0}) RunFault) →
+      OnEnd result (HasRun client after (Runs (own mid) l slot aim (of (own mid))) first.mid between now) →
+      OnEnd result (HasRun client after (Runs me l slot aim (turns ++ of me)) t before now)
+  run_then (Ok x) h = through None h
+  run_then (Err (Undecided replies)) h = through _ h
+  run_then (Err (Call fault)) h = through _ h
+  run_then (Err NoMemory) h = tt
 
-  pub run_ended_then : (fault : RunFault) → HasTurned client l slot (of (own mid)) after later first.mid between now (Err fault) →
-      OnEnd {T = Unit {0}} (Err fault) (HasRun client after (Runs me l slot (turns ++ of me)) t before now)
-  run_ended_then fault h =
-      ended_by fault (subst (λ m. HasTurned client l slot (of m) after later first.mid between now (Err fault)) self h)
-
-  -- or it came through
-  pub run_through : (h : HasGone client l slot (of (own mid)) after later first.mid between now) (end : Option RunFault) →
-      end ≡ ending (own client) slot h.mid.client → HasRun client after (Runs me l slot (turns ++ of me)) t before now end
-  run_through h end is =
-      let last : Runs (own client) l slot [] h.mid 0 end h.mid = record { ended = is; same = refl; none = refl } in
-      let one = first.risen in
-      let two = h.risen in
-      record {
-        new = h.mid;
-        client_is = h.at.client_is;
-        links = h.at.links;
-        failed = first.failed + (h.failed + 0);
-        runs_so = subst (λ m. Runs m l slot (turns ++ of m) t (first.failed + (h.failed + 0)) end h.mid) self
-            (first.goes (of (own mid)) (h.failed + 0) end h.mid
-            (subst (λ m. Runs m l slot (of (own mid)) first.mid (h.failed + 0) end h.mid) same
-            (subst (λ ts. Runs (own client) l slot ts first.mid (h.failed + 0) end h.mid) (append-nil (of (own mid)))
-            (h.goes [] 0 end h.mid last))));
-        risen = subst (λ n. RoseBy n before now) (omega arith) (rose_then first.failed h.failed before between now one two);
-      }
+-- for what it is
+pub run_then_for : {V S : Type 0} {v : verifiers.Ghosts V} {g : signers.Ghosts S} (mid client : Client V S v g) (me : ClientSelf)
+    (l : Listing) (slot : ℕ) (aim known : Aim) (turns : List Turn) (told after : Option LinkState) (e : Errands) (t : Talk)
+    (before between now : ℕ) → (first : HasGone mid l slot turns told e t before between) → own mid ≡ me → aim ≡ known →
+    (result : Result (Unit {0}) RunFault) →
+    OnEnd result (HasRun client after (Runs (own mid) l slot known (closing (own mid) slot known)) first.mid between now) →
+    OnEnd result (HasRun client after (Runs me l slot aim (turns ++ closing me slot aim)) t before now)
+run_then_for mid client me l slot aim known turns told after e t before between now first self is result h =
+    run_then mid client me l slot aim turns (λ m. closing m slot aim) told after e t before between now first self result
+    (subst (λ a. OnEnd result (HasRun client after (Runs (own mid) l slot a (closing (own mid) slot a)) first.mid between now)) (sym is) h)
 
 -- there is a decision, or none
 pub ending_decided : (me : ClientSelf) (slot : ℕ) (v : ClientValue) → is_some (outcome_at me slot v) ≡ true → None ≡ ending me slot v
@@ -463,10 +535,10 @@ begin_sends v time d h = unrefused (when (not (nat_lt v.last time)) (calls.TimeN
     unrefused (Some fault) h = absurd cc
 
 module _ {V S : Type 0} {v : verifiers.Ghosts V} {g : signers.Ghosts S} (client : Client V S v g) (me : ClientSelf) (l : Listing)
-    (time : ℕ) (plan : List Op) (w : ClientValue) (s : LinkState) (told : Option LinkState) (before now : ℕ) where
+    (aim : Aim) (time : ℕ) (plan : List Op) (w : ClientValue) (s : LinkState) (told : Option LinkState) (before now : ℕ) where
   begun_end : (slot : ℕ) (d : ClientDone) (end : Option RunFault) → call_begin w time ≡ Ok d → slot ≡ length w.slots →
-      HasRun client told (Runs me l slot (turns_of me slot plan ++ closing me slot)) (starting d.client s) before now end →
-      HasRun client told (RunsPlan me l time plan) (starting w s) before now end
+      HasRun client told (Runs me l slot aim (turns_of me slot plan ++ closing me slot aim)) (starting d.client s) before now end →
+      HasRun client told (RunsPlan me l aim time plan) (starting w s) before now end
   begun_end slot d end begun at h =
       let waits : starting d.client s ≡ sends (starting w s) d =
       ap (λ sent. record (starting d.client s) { queue = map framed sent }) (sym (begin_sends w time d begun)) in
@@ -475,9 +547,9 @@ module _ {V S : Type 0} {v : verifiers.Ghosts V} {g : signers.Ghosts S} (client 
         client_is = h.client_is;
         links = h.links;
         failed = h.failed;
-        runs_so = subst (λ a. RunsBegun me l plan (length w.slots) a (starting w s) h.failed end h.new) (sym begun)
-            (subst (λ n. Runs me l n (turns_of me n plan ++ closing me n) (sends (starting w s) d) h.failed end h.new) at
-            (subst (λ t. Runs me l slot (turns_of me slot plan ++ closing me slot) t h.failed end h.new) waits h.runs_so));
+        runs_so = subst (λ a. RunsBegun me l aim plan (length w.slots) a (starting w s) h.failed end h.new) (sym begun)
+            (subst (λ n. Runs me l n aim (turns_of me n plan ++ closing me n aim) (sends (starting w s) d) h.failed end h.new) at
+            (subst (λ t. Runs me l slot aim (turns_of me slot plan ++ closing me slot aim) t h.failed end h.new) waits h.runs_so));
         risen = h.risen;
       }
 
@@ -485,36 +557,37 @@ module _ {V S : Type 0} {v : verifiers.Ghosts V} {g : signers.Ghosts S} (client 
       (at : slot ≡ length w.slots)
     where
       abbrev Ran : ClientSelf → Option RunFault → Type 0
-      Ran m end = HasRun client told (Runs m l slot (turns_of m slot plan ++ closing m slot)) (starting d.client s) before now end
+      Ran m end =
+          HasRun client told (Runs m l slot aim (turns_of m slot plan ++ closing m slot aim)) (starting d.client s) before now end
 
       -- it came through
-      pub run_begun : Ran mine None → HasRun client told (RunsPlan me l time plan) (starting w s) before now None
+      pub run_begun : Ran mine None → HasRun client told (RunsPlan me l aim time plan) (starting w s) before now None
       run_begun h = begun_end slot d None begun at (subst (λ m. Ran m None) same h)
 
       -- it didn't
       pub run_begun_err : (fault : RunFault) → OnEnd {T = Unit {0}} (Err fault) (Ran mine) →
-          OnEnd {T = ℕ} (Err fault) (HasRun client told (RunsPlan me l time plan) (starting w s) before now)
+          OnEnd {T = ℕ} (Err fault) (HasRun client told (RunsPlan me l aim time plan) (starting w s) before now)
       run_begun_err (Undecided replies) h = begun_end slot d _ begun at (subst (λ m. Ran m (Some (Undecided replies))) same h)
       run_begun_err (Call fault) h = begun_end slot d _ begun at (subst (λ m. Ran m (Some (Call fault))) same h)
       run_begun_err NoMemory h = tt
 
   -- the client refuses to begin
   unbegun_end : (fault : CallFault) → call_begin w time ≡ Err fault → ShowsClient client w → told ≡ Some s → before ≤ now →
-      HasRun client told (RunsPlan me l time plan) (starting w s) before now (Some (Call fault))
+      HasRun client told (RunsPlan me l aim time plan) (starting w s) before now (Some (Call fault))
   unbegun_end fault begun shows links later =
       record {
         new = starting w s;
         client_is = shows;
         links = links;
         failed = 0;
-        runs_so = subst (λ a. RunsBegun me l plan (length w.slots) a (starting w s) 0 (Some (Call fault)) (starting w s)) (sym begun)
+        runs_so = subst (λ a. RunsBegun me l aim plan (length w.slots) a (starting w s) 0 (Some (Call fault)) (starting w s)) (sym begun)
             (record { ended = refl; same = refl; none = refl });
         risen = rose_none before now later;
       }
 
   run_unbegun_as : (fault : CallFault) → (fault ≢ calls.NoMemory → call_begin w time ≡ Err fault) → ShowsClient client w →
       told ≡ Some s → before ≤ now →
-      OnEnd {T = ℕ} (Err (fault_told fault)) (HasRun client told (RunsPlan me l time plan) (starting w s) before now)
+      OnEnd {T = ℕ} (Err (fault_told fault)) (HasRun client told (RunsPlan me l aim time plan) (starting w s) before now)
   run_unbegun_as (calls.TimeNotAbove last) h shows links later = unbegun_end _ (h (λ is. cc)) shows links later
   run_unbegun_as calls.NotOpen h shows links later = unbegun_end _ (h (λ is. cc)) shows links later
   run_unbegun_as calls.TooMany h shows links later = unbegun_end _ (h (λ is. cc)) shows links later
@@ -530,7 +603,83 @@ module _ {V S : Type 0} {v : verifiers.Ghosts V} {g : signers.Ghosts S} (client 
   pub run_unbegun : (fault : CallFault) (known : RunFault) → known ≡ fault_told fault →
       (fault ≢ calls.NoMemory → call_begin w time ≡ Err fault) →
       ShowsClient client w → told ≡ Some s → before ≤ now →
-      OnEnd {T = ℕ} (Err known) (HasRun client told (RunsPlan me l time plan) (starting w s) before now)
+      OnEnd {T = ℕ} (Err known) (HasRun client told (RunsPlan me l aim time plan) (starting w s) before now)
   run_unbegun fault known is h shows links later =
-      subst (λ f. OnEnd {T = ℕ} (Err f) (HasRun client told (RunsPlan me l time plan) (starting w s) before now)) (sym is)
+      subst (λ f. OnEnd {T = ℕ} (Err f) (HasRun client told (RunsPlan me l aim time plan) (starting w s) before now)) (sym is)
       (run_unbegun_as fault h shows links later)
+
+-- ---- a run from a transaction that was formed
+
+-- it was taken up
+pub took_up : {V S : Type 0} {v : verifiers.Ghosts V} {g : signers.Ghosts S} (new : Client V S v g) (me : ClientSelf) (l : Listing)
+    (x : SignedValue) (told : Option LinkState) (e : Errands) (t : Talk) (before now : ℕ) (result : Result (Unit {0}) RunFault) →
+    own new ≡ me → before ≤ now → ComesTo new l told e t (call_recover me t.client x.transaction x.signature) before now result →
+    HasTurned new l (recovered_at t.client x.transaction) (takes_up me x ∷ []) told e t before now result
+took_up new me l x told e t before now result self later h =
+    turned_so new me l (recovered_at t.client x.transaction) (takes_up me x) told e t before now self result h (λ v. refl) later
+
+pub not_taken_up : {V S : Type 0} {v : verifiers.Ghosts V} {g : signers.Ghosts S} (new : Client V S v g) (me : ClientSelf)
+    (l : Listing) (x : SignedValue) (told : Option LinkState) (e : Errands) (t : Talk) (count : ℕ) (fault : CallFault)
+    (known : RunFault) → own new ≡ me → known ≡ fault_told fault →
+    HasCalled new told e t (call_recover me t.client x.transaction x.signature) (Err fault) →
+    HasTurned new l (recovered_at t.client x.transaction) (takes_up me x ∷ []) told e t count count (Err known)
+not_taken_up new me l x told e t count fault known self is h =
+    subst (λ f. HasTurned new l (recovered_at t.client x.transaction) (takes_up me x ∷ []) told e t count count (Err f)) (sym is)
+    (took_up new me l x told e t count count (Err (fault_told fault)) self (omega arith)
+    (comes_refused new l told e t (call_recover me t.client x.transaction x.signature) count count fault h))
+
+-- as it is said of the whole
+module _ {V S : Type 0} {v : verifiers.Ghosts V} {g : signers.Ghosts S} (client : Client V S v g) (me : ClientSelf) (l : Listing)
+    (x : SignedValue) (told : Option LinkState) (t : Talk) (before now : ℕ) where
+  abbrev Recovered : Option RunFault → Type 0
+  Recovered end =
+      let at = recovered_at t.client x.transaction in
+      HasRun client told (Runs me l at Decision (takes_up me x ∷ finishing me at)) t before now end
+
+  recovery_ran : (end : Option RunFault) → Recovered end → HasRun client told (RunsRecovery me l x) t before now end
+  recovery_ran end h =
+      record {
+        new = h.new;
+        client_is = h.client_is;
+        links = h.links;
+        failed = h.failed;
+        runs_so = h.runs_so;
+        risen = h.risen;
+      }
+
+  recovery_ended : (result : Result (Unit {0}) RunFault) → OnEnd result Recovered →
+      OnEnd result (HasRun client told (RunsRecovery me l x) t before now)
+  recovery_ended (Ok done) h = recovery_ran None h
+  recovery_ended (Err (Undecided replies)) h = recovery_ran _ h
+  recovery_ended (Err (Call fault)) h = recovery_ran _ h
+  recovery_ended (Err NoMemory) h = tt
+
+  -- the first call ends it
+  pub run_untaken : (e : Errands) (fault : RunFault) → own client ≡ me →
+      HasTurned client l (recovered_at t.client x.transaction) (takes_up me x ∷ []) told e t before now (Err fault) →
+      OnEnd {T = Unit {0}} (Err fault) (HasRun client told (RunsRecovery me l x) t before now)
+  run_untaken e fault self h =
+      let at = recovered_at t.client x.transaction in
+      recovery_ended (Err fault)
+      (run_ended client me l at Decision (takes_up me x ∷ []) told e t before now (finishing me at) fault self h)
+
+  -- or the others come behind it
+  pub run_finished : (mid : Client V S v g) (slot : ℕ) (first_told : Option LinkState) (e : Errands) (between : ℕ) →
+      slot ≡ recovered_at t.client x.transaction → own mid ≡ me →
+      (first : HasGone mid l (recovered_at t.client x.transaction) (takes_up me x ∷ []) first_told e t before between) →
+      (result : Result (Unit {0}) RunFault) →
+      OnEnd result (HasRun client told (Runs (own mid) l slot Decision (finishing (own mid) slot)) first.mid between now) →
+      OnEnd result (HasRun client told (RunsRecovery me l x) t before now)
+  run_finished mid slot first_told e between is self first result h =
+      let at = recovered_at t.client x.transaction in
+      recovery_ended result
+      (run_then mid client me l at Decision (takes_up me x ∷ []) (λ m. finishing m at) first_told told e t before between now first self
+      result
+      (subst (λ k. OnEnd result (HasRun client told (Runs (own mid) l k Decision (finishing (own mid) k)) first.mid between now)) is h))
+
+-- the slot was answered
+pub end_given : (P : Option RunFault → Type 0) (result : Result ℕ RunFault) → OnEnd (slot_given result) P → OnEnd result P
+end_given P (Ok slot) h = h
+end_given P (Err (Undecided replies)) h = h
+end_given P (Err (Call fault)) h = h
+end_given P (Err NoMemory) h = tt

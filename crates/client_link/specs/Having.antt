@@ -13,6 +13,7 @@ use Rattle.cluster_file.specs.Listing.{Listing, address_in}
 use Rattle.keyring.specs.declared.verifier.Verifier as verifiers
 use Rattle.keyring.specs.declared.signer.Signer as signers
 use Rattle.node_link.specs.Asking.{Fate, RoseBy, failures_of}
+use Rattle.client_link.specs.declared.aim.Aim.{Aim}
 use Rattle.client_link.specs.declared.errands.Errands.{Errands}
 use Rattle.client_link.specs.declared.fault.RunFault.{RunFault}
 use Rattle.client_link.specs.declared.fault.RunFault.TheVariants.{Undecided, Call, NoMemory}
@@ -130,13 +131,13 @@ ComesTo client l told e old answer before now (Err NoMemory) = ⊤
 -- a run that goes on from there began here, with these turns and so many failed calls of the links
 abbrev pub GoesTo : ClientSelf → Listing → (slot : ℕ) → List Turn → (old mid : Talk) → (failed : ℕ) → Type 0
 GoesTo me l slot turns old mid failed =
-    (more : List Turn) (rest : ℕ) (end : Option RunFault) (new : Talk) → Runs me l slot more mid rest end new →
-    Runs me l slot (turns ++ more) old (failed + rest) end new
+    (aim : Aim) (more : List Turn) (rest : ℕ) (end : Option RunFault) (new : Talk) →
+    Runs me l slot aim more mid rest end new → Runs me l slot aim (turns ++ more) old (failed + rest) end new
 
 -- a run that begins with these turns ends there
 abbrev pub EndsIn : ClientSelf → Listing → (slot : ℕ) → List Turn → (old new : Talk) → (failed : ℕ) → RunFault → Type 0
 EndsIn me l slot turns old new failed fault =
-    (more : List Turn) → Runs me l slot (turns ++ more) old failed (Some fault) new
+    (aim : Aim) (more : List Turn) → Runs me l slot aim (turns ++ more) old failed (Some fault) new
 
 pub record HasGone {V S : Type 0} {v : verifiers.Ghosts V} {g : signers.Ghosts S} (client : Client V S v g)
     (l : Listing) (slot : ℕ) (turns : List Turn) (told : Option LinkState) (e : Errands) (old : Talk)
@@ -167,6 +168,11 @@ HasTurned client l slot turns told e old before now (Err (Undecided replies)) =
 HasTurned client l slot turns told e old before now (Err (Call fault)) =
     HasEnded client l slot turns told old before now (Call fault)
 HasTurned client l slot turns told e old before now (Err NoMemory) = ⊤
+
+-- whatever slot was answered
+abbrev pub slot_given : Result ℕ RunFault → Result (Unit {0}) RunFault
+slot_given (Ok slot) = Ok tt
+slot_given (Err fault) = Err fault
 
 -- ---- a run
 

@@ -1,5 +1,5 @@
 -- A transaction that a client carries through over its links: its reads and writes, stages 1 and 2 (Basil, sections 4
--- and 5), and at most two rounds of recovery.
+-- and 5), and at most two rounds of recovery; or it only forms it, or finishes one that was formed.
 use Rattle.std.specs.Prelude.{◌≡◌, ℕ, ◌+◌, List, [], ◌∷◌, ◌++◌, length, Bool, true, false, Option, Some, None, is_some}
 use Rattle.std.specs.Prelude.{Result, Ok, Err, option_and_then, slice_get, if◌then◌else◌}
 use Rattle.std.specs.Option.{option_map_or}
@@ -7,12 +7,14 @@ use Rattle.basil_types.specs.Links.{LinkState}
 use Rattle.client_core.specs.declared.fault.CallFault.{CallFault}
 use Rattle.client_core.specs.declared.fault.CallFault.TheVariants as calls
 use Rattle.client_core.specs.Calls.{call_begin, call_invoke, call_prepare, call_read, call_recover, call_settle}
-use Rattle.client_core.specs.Calls.{call_write}
+use Rattle.client_core.specs.Calls.{call_write, recovered_at}
 use Rattle.client_core.specs.Clients.{ClientDone, ClientSelf, ClientValue, SlotValue, quiet}
 use Rattle.client_core.specs.Slots.{ReadStateValue, NotRead, Pending, formed_in, held_in, outcome_in, value}
 use Rattle.client_recover.specs.Taken.{DecidedValue}
 use Rattle.cluster_file.specs.Listing.{Listing}
 use Rattle.frame_views.specs.Values.{SignedValue}
+use Rattle.client_link.specs.declared.aim.Aim.{Aim}
+use Rattle.client_link.specs.declared.aim.Aim.TheVariants.{Decision, Form}
 use Rattle.client_link.specs.declared.op.Op.{Op}
 use Rattle.client_link.specs.declared.op.Op.TheVariants.{Read, Write}
 use Rattle.client_link.specs.declared.fault.RunFault.{RunFault}
@@ -88,9 +90,18 @@ invokes me slot = record { call = λ v. if_logged v (call_invoke me v slot); sto
 abbrev pub round : ClientSelf → (slot : ℕ) → List Turn
 round me slot = recovers me slot ∷ settles me slot ∷ invokes me slot ∷ []
 
--- behind the reads and writes
-abbrev pub closing : ClientSelf → (slot : ℕ) → List Turn
-closing me slot = prepares me slot ∷ settles me slot ∷ round me slot ++ round me slot
+-- behind the reads and writes, unless the transaction is only to be formed
+abbrev pub closing : ClientSelf → (slot : ℕ) → Aim → List Turn
+closing me slot Decision = prepares me slot ∷ settles me slot ∷ round me slot ++ round me slot
+closing me slot Form = []
+
+-- a transaction that was formed is taken up, with its client's signature
+abbrev pub takes_up : ClientSelf → SignedValue → Turn
+takes_up me x = record { call = λ v. call_recover me v x.transaction x.signature; stops = never }
+
+-- behind that: the rest of its fallback round, and one more
+abbrev pub finishing : ClientSelf → (slot : ℕ) → List Turn
+finishing me slot = settles me slot ∷ invokes me slot ∷ round me slot
 
 -- ---- a run
 
@@ -133,11 +144,21 @@ Calling me l slot turn (Err fault) later old failed end new = Stops end (Some (C
 Calling me l slot turn (Ok d) later old failed end new =
     AsksThen me l (λ mid. StopsOr slot (turn.stops mid.client) later mid) (sends old d) failed end new
 
+-- the transaction is formed, and its messages wait for nobody
+abbrev pub FormsBy : Result ClientDone CallFault → Going
+FormsBy (Err fault) old failed end new = Stops end (Some (Call fault)) old new failed
+FormsBy (Ok d) old failed end new = Stops end None (sends old d) new failed
+
+-- where no call is left
+abbrev pub Ends : ClientSelf → (slot : ℕ) → Aim → Going
+Ends me slot Decision old failed end new = Stops end (ending me slot old.client) old new failed
+Ends me slot Form old failed end new = FormsBy (call_prepare me old.client slot) old failed end new
+
 -- one call after another, until one is refused or stops it
-abbrev pub Runs : ClientSelf → Listing → (slot : ℕ) → List Turn → Going
-Runs me l slot [] old failed end new = Stops end (ending me slot old.client) old new failed
-Runs me l slot (turn ∷ turns) old failed end new =
-    Calling me l slot turn (turn.call old.client) (Runs me l slot turns) old failed end new
+abbrev pub Runs : ClientSelf → Listing → (slot : ℕ) → Aim → List Turn → Going
+Runs me l slot aim [] old failed end new = Ends me slot aim old failed end new
+Runs me l slot aim (turn ∷ turns) old failed end new =
+    Calling me l slot turn (turn.call old.client) (Runs me l slot aim turns) old failed end new
 
 -- ---- the whole of it
 
@@ -148,12 +169,18 @@ most_carried = 4096
 abbrev pub starting : ClientValue → LinkState → Talk
 starting v s = record { client = v; links = s; queue = []; left = most_carried }
 
-abbrev pub RunsBegun : ClientSelf → Listing → List Op → (slot : ℕ) → Result ClientDone CallFault → Going
-RunsBegun me l plan slot (Err fault) old failed end new = Stops end (Some (Call fault)) old new failed
-RunsBegun me l plan slot (Ok d) old failed end new =
-    Runs me l slot (turns_of me slot plan ++ closing me slot) (sends old d) failed end new
+abbrev pub RunsBegun : ClientSelf → Listing → Aim → List Op → (slot : ℕ) → Result ClientDone CallFault → Going
+RunsBegun me l aim plan slot (Err fault) old failed end new = Stops end (Some (Call fault)) old new failed
+RunsBegun me l aim plan slot (Ok d) old failed end new =
+    Runs me l slot aim (turns_of me slot plan ++ closing me slot aim) (sends old d) failed end new
 
--- a transaction of this time is begun in the next slot, and carried through
-abbrev pub RunsPlan : ClientSelf → Listing → (time : ℕ) → List Op → Going
-RunsPlan me l time plan old failed end new =
-    RunsBegun me l plan (length old.client.slots) (call_begin old.client time) old failed end new
+-- a transaction of this time is begun in the next slot, and carried through or formed
+abbrev pub RunsPlan : ClientSelf → Listing → Aim → (time : ℕ) → List Op → Going
+RunsPlan me l aim time plan old failed end new =
+    RunsBegun me l aim plan (length old.client.slots) (call_begin old.client time) old failed end new
+
+-- a transaction that was formed is carried through, in the slot that it has or the next one
+abbrev pub RunsRecovery : ClientSelf → Listing → SignedValue → Going
+RunsRecovery me l x old failed end new =
+    let slot = recovered_at old.client x.transaction in
+    Runs me l slot Decision (takes_up me x ∷ finishing me slot) old failed end new

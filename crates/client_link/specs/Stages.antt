@@ -1,8 +1,6 @@
 -- The calls behind the reads and writes, as the code names them.
 use Rattle.std.specs.Prelude.{ℕ, List, [], ◌∷◌}
 use Rattle.client_core.specs.Clients.{ClientSelf}
-use Rattle.frame_views.specs.Values.{SignedValue}
-use Rattle.client_link.specs.declared.closing.Signed.{Signed}
 use Rattle.client_link.specs.declared.closing.Stage.{Stage}
 use Rattle.client_link.specs.declared.closing.Stage.TheVariants.{Prepare, Settle, Recover, Invoke}
 use Rattle.client_link.specs.Running.{Turn, invokes, prepares, recovers, settles}
@@ -16,6 +14,3 @@ stage_turn me slot Invoke = invokes me slot
 abbrev pub stage_turns : ClientSelf → (slot : ℕ) → List Stage → List Turn
 stage_turns me slot [] = []
 stage_turns me slot (stage ∷ stages) = stage_turn me slot stage ∷ stage_turns me slot stages
-
-abbrev pub shown_copy : Signed → SignedValue
-shown_copy x = record { transaction = x.transaction; signature = x.signature }

@@ -1,23 +1,23 @@
 //! The stages of a transaction behind its reads and writes (Basil, sections 4 and 5).
 
-ghost use Rattle.std.specs.Prelude.{◌≡◌, ◌<◌, ◌≤◌, ◌∷◌, [], IfOk, IfSome, Option, option_map, length, is_some};
+ghost use Rattle.std.specs.Prelude.{◌≡◌, ◌<◌, ◌≤◌, ◌∷◌, [], ℕ, IfOk, Option, length, is_some};
 ghost use Rattle.basil_types.specs.Links.{LinkState};
 ghost use Rattle.client_core.specs.Shown.{own, ShowsClient};
 ghost use Rattle.client_core.specs.Clients.{ClientValue};
 ghost use Rattle.client_core.specs.Done.{KeepsSlots};
-ghost use Rattle.client_link.specs.Having.{HasCalled, HasTurned, IsTalk};
-ghost use Rattle.client_link.specs.Running.{closing, formed_at, invokes, outcome_at, recovers};
-ghost use Rattle.client_link.specs.Stages.{shown_copy, stage_turn, stage_turns};
+ghost use Rattle.client_link.specs.Having.{HasCalled, HasRun, HasTurned, IsTalk, OnEnd};
+ghost use Rattle.client_link.specs.Running.{Runs, closing, finishing, formed_at, invokes, outcome_at, recovers};
+ghost use Rattle.client_link.specs.Stages.{stage_turn, stage_turns};
 ghost use Rattle.client_link.specs.Talking.{Talk};
-ghost use Rattle.frame_views.specs.Fitting.{IsSignature};
+ghost use Rattle.cluster_file.specs.Listing.{Listing};
 
-use crate::calling::ask_for;
+use crate::aim::Aim;
+use crate::calling::{ask_for, held_of, refused};
 use crate::errands::Errands;
 use crate::fault::RunFault;
-use basil_types::bytes::Bytes;
+use crate::signed::Signed;
 use basil_types::links::Links;
 use basil_types::memory::NoMemory;
-use basil_types::transaction::Transaction;
 use client_core::{CallFault, Client};
 use cluster_file::ClusterFile;
 use keyring::signer::Signer;
@@ -45,15 +45,17 @@ const STAGES: [Stage; 8] = [
     Stage::Invoke,
 ];
 
-/// A transaction with its client's signature.
-#[derive(Drop)]
-struct Signed {
-    transaction: Transaction,
-    signature: Bytes,
-}
+/// The stages of a transaction that was taken up: the rest of a round of recovery, and one more.
+const LATER_STAGES: [Stage; 5] = [
+    Stage::Settle,
+    Stage::Invoke,
+    Stage::Recover,
+    Stage::Settle,
+    Stage::Invoke,
+];
 
 /// Whether there is a decision.
-pub(crate) fn is_decided<V: Verifier, S: Signer>(client: &Client<V, S>, slot: u32) -> bool
+fn is_decided<V: Verifier, S: Signer>(client: &Client<V, S>, slot: u32) -> bool
     requires { slot < length client.now.held.slots.items }
     ensures { (v : ClientValue) → ShowsClient client.now v → result ≡ is_some (outcome_at (own client.now) slot v) }
 {
@@ -68,19 +70,12 @@ fn signed_in<V: Verifier, S: Signer>(
     slot: u32,
 ) -> Result<Option<Signed>, NoMemory>
     requires { slot < length client.now.held.slots.items }
-    ensures copy { (v : ClientValue) → ShowsClient client.now v →
-        IfOk result (λ copy. option_map shown_copy copy ≡ formed_at slot v) }
-    ensures fits { IfOk result (λ copy. IfSome copy (λ x. IsSignature x.signature)) }
+    ensures { (v : ClientValue) → ShowsClient client.now v → IfOk result (λ copy. copy ≡ formed_at slot v) }
 {
     let _ = client.slots();
     match client.formed(slot) {
         Some((transaction, signature)) => {
-            let transaction = transaction.view().try_owned(alloc)?;
-            let signature = Bytes::copy_of(alloc, signature)?;
-            Ok(Some(Signed {
-                transaction,
-                signature,
-            }))
+            Ok(Some(Signed::copy_of(alloc, transaction, signature)?))
         }
         None => Ok(None),
     }
@@ -105,8 +100,7 @@ fn recover_own<V: Verifier, S: Signer>(
     }
     match signed_in(alloc, client, slot) {
         Ok(Some(signed)) => {
-            let signature = signed.signature.as_slice();
-            match client.recover(&signed.transaction, signature, &mut errands.out) {
+            match client.recover(signed.transaction(), signed.signature(), &mut errands.out) {
                 Ok(_) => Ok(()),
                 Err(fault) => Err(fault),
             }
@@ -217,8 +211,42 @@ fn run_each<V: Verifier, S: Signer, L: Links>(
     Ok(())
 }
 
-/// Goes through all stages.
-pub(crate) fn run_stages<V: Verifier, S: Signer, L: Links>(
+/// Goes through these stages, behind which there is a decision, or none.
+fn close_by<V: Verifier, S: Signer, L: Links>(
+    alloc: Global,
+    client: &mut Client<V, S>,
+    number: u8,
+    file: &ClusterFile,
+    links: &mut L,
+    errands: &mut Errands,
+    slot: u32,
+    stages: &[Stage],
+) -> Result<(), RunFault>
+    requires number { number ≡ client.old.seat.number }
+    requires cluster { client.old.seat.cluster ≡ file.now.cluster }
+    requires held { slot < length client.old.held.slots.items }
+    ensures ran { (t : Talk) → IsTalk client.old (L.told links.old) errands.old t → OnEnd result (HasRun client.new
+        (L.told links.new)
+        (Runs (own client.old) file.now slot Aim.Decision (stage_turns (own client.old) slot stages.now))
+        t (L.faults links.old) (L.faults links.new)) }
+    ensures own { own client.new ≡ own client.old }
+    ensures seat { client.new.seat ≡ client.old.seat }
+    ensures slots { KeepsSlots client.old.held client.new.held }
+    ensures faults { L.faults links.old ≤ L.faults links.new }
+{
+    match run_each(alloc, client, number, file, links, errands, slot, stages) {
+        Ok(()) => {}
+        Err(fault) => return Err(fault),
+    }
+    if is_decided(client, slot) {
+        Ok(())
+    } else {
+        Err(RunFault::Undecided(held_of(client, slot)))
+    }
+}
+
+/// Goes through all stages behind the reads and writes.
+pub(crate) fn close<V: Verifier, S: Signer, L: Links>(
     alloc: Global,
     client: &mut Client<V, S>,
     number: u8,
@@ -230,13 +258,69 @@ pub(crate) fn run_stages<V: Verifier, S: Signer, L: Links>(
     requires number { number ≡ client.old.seat.number }
     requires cluster { client.old.seat.cluster ≡ file.now.cluster }
     requires held { slot < length client.old.held.slots.items }
-    ensures turned { (t : Talk) → IsTalk client.old (L.told links.old) errands.old t →
-        HasTurned client.new file.now slot (closing (own client.old) slot) (L.told links.new) errands.new
-        t (L.faults links.old) (L.faults links.new) result }
+    ensures ran { (t : Talk) → IsTalk client.old (L.told links.old) errands.old t → OnEnd result (HasRun client.new
+        (L.told links.new)
+        (Runs (own client.old) file.now slot Aim.Decision (closing (own client.old) slot Aim.Decision))
+        t (L.faults links.old) (L.faults links.new)) }
     ensures own { own client.new ≡ own client.old }
     ensures seat { client.new.seat ≡ client.old.seat }
     ensures slots { KeepsSlots client.old.held client.new.held }
     ensures faults { L.faults links.old ≤ L.faults links.new }
 {
-    run_each(alloc, client, number, file, links, errands, slot, &STAGES)
+    close_by(alloc, client, number, file, links, errands, slot, &STAGES)
+}
+
+/// Goes through the stages of a transaction that was taken up.
+pub(crate) fn finish<V: Verifier, S: Signer, L: Links>(
+    alloc: Global,
+    client: &mut Client<V, S>,
+    number: u8,
+    file: &ClusterFile,
+    links: &mut L,
+    errands: &mut Errands,
+    slot: u32,
+) -> Result<(), RunFault>
+    requires number { number ≡ client.old.seat.number }
+    requires cluster { client.old.seat.cluster ≡ file.now.cluster }
+    requires held { slot < length client.old.held.slots.items }
+    ensures ran { (t : Talk) → IsTalk client.old (L.told links.old) errands.old t → OnEnd result (HasRun client.new
+        (L.told links.new)
+        (Runs (own client.old) file.now slot Aim.Decision (finishing (own client.old) slot))
+        t (L.faults links.old) (L.faults links.new)) }
+    ensures own { own client.new ≡ own client.old }
+    ensures seat { client.new.seat ≡ client.old.seat }
+    ensures slots { KeepsSlots client.old.held client.new.held }
+    ensures faults { L.faults links.old ≤ L.faults links.new }
+{
+    close_by(
+        alloc,
+        client,
+        number,
+        file,
+        links,
+        errands,
+        slot,
+        &LATER_STAGES,
+    )
+}
+
+/// Forms the transaction in a slot, and asks nothing.
+pub(crate) fn form<V: Verifier, S: Signer>(
+    alloc: Global,
+    client: &mut Client<V, S>,
+    slot: u32,
+    errands: &mut Errands,
+) -> Result<(), RunFault>
+    requires held { slot < length client.old.held.slots.items }
+    ensures ran { (told : Option LinkState) (t : Talk) (l : Listing) (count : ℕ) →
+        IsTalk client.old told errands.old t → OnEnd result (HasRun client.new told
+        (Runs (own client.old) l slot Aim.Form (closing (own client.old) slot Aim.Form)) t count count) }
+    ensures own { own client.new ≡ own client.old }
+    ensures seat { client.new.seat ≡ client.old.seat }
+    ensures slots { KeepsSlots client.old.held client.new.held }
+{
+    match call_stage(alloc, client, slot, Stage::Prepare, errands) {
+        Ok(()) => Ok(()),
+        Err(fault) => Err(refused(fault)),
+    }
 }

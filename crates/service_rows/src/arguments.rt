@@ -1,6 +1,6 @@
 //! Arguments that call neither a node nor a client.
 
-use crate::frames::{FILE, SEED};
+use crate::frames::{FILE, SEED, TRANSACTION};
 use crate::support::{Given, run_given};
 use basil_cli::status::Status;
 use std::test::Fail;
@@ -58,8 +58,58 @@ const ROWS: &[&[&str]] = &[
     &["client", "1", SEED, "0", "r"],
     &["client", "1", SEED, "0", "d:a"],
     &["client", "1", SEED, "0", "r:a", ""],
+    // The same of a transaction that is only formed.
+    &["form"],
+    &["form", "1", SEED, "0"],
+    &["form", "17", SEED, "0", "r:a"],
+    &["form", "1", SEED, "0", "d:a"],
+    // What is taken up has both words, and none behind them.
+    &["recover", "1", SEED, "0"],
+    &["recover", "1", SEED, "0", TRANSACTION],
+    &["recover", "1", SEED, "0", TRANSACTION, "5a", "5a"],
+    &["recover", "17", SEED, "0", TRANSACTION, "5a"],
+    &["recover", "1", SEED, "1025", TRANSACTION, "5a"],
+    // Its transaction is whole, and nothing follows it; both words are lower-case hex.
+    &[
+        "recover",
+        "1",
+        SEED,
+        "0",
+        "01000000000000000a0100010161000278",
+        "5a",
+    ],
+    &[
+        "recover",
+        "1",
+        SEED,
+        "0",
+        "01000000000000000a01000101610002783100",
+        "5a",
+    ],
+    &[
+        "recover",
+        "1",
+        SEED,
+        "0",
+        "03000000000000000a010001016100027831",
+        "5a",
+    ],
+    &[
+        "recover",
+        "1",
+        SEED,
+        "0",
+        "01000000000000000A010001016100027831",
+        "5a",
+    ],
+    &["recover", "1", SEED, "0", "", "5a"],
+    &["recover", "1", SEED, "0", TRANSACTION, ""],
+    &["recover", "1", SEED, "0", TRANSACTION, "5"],
+    &["recover", "1", SEED, "0", TRANSACTION, "5A"],
     // Another name.
     &["clients", "1", SEED, "0", "r:a"],
+    &["forms", "1", SEED, "0", "r:a"],
+    &["recovers", "1", SEED, "0", TRANSACTION, "5a"],
 ];
 
 #[test]

@@ -8,6 +8,8 @@ mod clients;
 #[cfg(test)]
 mod frames;
 #[cfg(test)]
+mod handed;
+#[cfg(test)]
 mod refused;
 #[cfg(test)]
 mod served;

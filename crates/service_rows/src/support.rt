@@ -117,7 +117,7 @@ pub(crate) fn run_given(
     let failing_writes = Vec::from_slice(alloc, given.failing_writes)?;
     let failing_links = Vec::from_slice(alloc, given.failing_links)?;
     let moments = Vec::from_slice(alloc, &[10u64, 11])?;
-    let sink = MemSink::new(alloc, 1000, failing_writes)?;
+    let sink = MemSink::new(alloc, 5000, failing_writes)?;
     let source = MemSource::new(input, 100, failing_reads);
     let links = MemLinks::new(alloc, connections, Vec::new(alloc), failing_links);
     Ok(run_owned(alloc, &arguments, source, sink, links, moments)?)

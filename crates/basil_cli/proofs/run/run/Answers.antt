@@ -1,8 +1,8 @@
 -- A node's arguments are no other command.
 use Rattle.std.proofs.Common.{rules, ◌≡◌, Some, None, Ok, map, string_bytes, refl, subst}
-use Rattle.std.specs.Prelude.{IfSome}
+use Rattle.std.specs.Prelude.{IfErr, IfSome}
 use Rattle.party_seat.specs.Serving.{Begins, HasStopped, serves_at}
-use Rattle.basil_cli.specs.Answers.{counted}
+use Rattle.basil_cli.specs.Answers.{Answers, counted}
 use Rattle.basil_cli.specs.Clients.{ToldRun, client_of, client_station}
 use Rattle.basil_cli.specs.Commands.{command_of}
 use Rattle.basil_cli.specs.Nodes.{WroteAt, WroteServed, node_of, station_of, stop_told}
@@ -10,7 +10,7 @@ use Rattle.basil_cli.specs.Outcome.{is_too_long}
 use Rattle.basil_cli.specs.declared.client.ClientCall.{ClientCall}
 use Rattle.basil_cli.specs.declared.node.NodeCall.{NodeCall}
 use Rattle.basil_cli.proofs.Arguments.{untaken_arguments}
-use Rattle.basil_cli.proofs.ClientLaws.{client_is_none, client_wanting, no_such, node_no_client, same_client}
+use Rattle.basil_cli.proofs.ClientLaws.{client_is_none, client_refused_any, client_wanting, no_such, node_no_client, same_client}
 use Rattle.basil_cli.proofs.NodeLaws.{node_is_none, node_wanting, not_begun, not_read, refused_any, same_call, some_any}
 use Rattle.basil_cli.proofs.Stopping.{untaken}
 use Rattle.basil_cli.proofs.run.run.Goals as goal
@@ -145,6 +145,24 @@ returns-in-Ok-Some-Client-clause-broken g c = λ carried e f.
     no_such (command_of (map string_bytes c.args.arguments.now)) _
     (client_is_none (map string_bytes c.args.arguments.now) c.in-Ok-Some-Client.call said).0 e _
 
+pub returns-in-Ok-Some-Client-clause-load_safe : goal.returns-in-Ok-Some-Client-clause-load_safe
+returns-in-Ok-Some-Client-clause-load_safe g c = λ size e f.
+    let said : client_of (map string_bytes c.args.arguments.now) ≡ Some c.in-Ok-Some-Client.call = search rules in
+    no_such (command_of (map string_bytes c.args.arguments.now)) _
+    (client_is_none (map string_bytes c.args.arguments.now) c.in-Ok-Some-Client.call said).0 e _
+
+pub returns-in-Ok-Some-Client-clause-load_safe_in_part : goal.returns-in-Ok-Some-Client-clause-load_safe_in_part
+returns-in-Ok-Some-Client-clause-load_safe_in_part g c = λ size e f.
+    let said : client_of (map string_bytes c.args.arguments.now) ≡ Some c.in-Ok-Some-Client.call = search rules in
+    no_such (command_of (map string_bytes c.args.arguments.now)) _
+    (client_is_none (map string_bytes c.args.arguments.now) c.in-Ok-Some-Client.call said).0 e _
+
+pub returns-in-Ok-Some-Client-clause-load_broken : goal.returns-in-Ok-Some-Client-clause-load_broken
+returns-in-Ok-Some-Client-clause-load_broken g c = λ size e f.
+    let said : client_of (map string_bytes c.args.arguments.now) ≡ Some c.in-Ok-Some-Client.call = search rules in
+    no_such (command_of (map string_bytes c.args.arguments.now)) _
+    (client_is_none (map string_bytes c.args.arguments.now) c.in-Ok-Some-Client.call said).0 e _
+
 pub returns-in-Ok-Some-Client-clause-unbatched : goal.returns-in-Ok-Some-Client-clause-unbatched
 returns-in-Ok-Some-Client-clause-unbatched g c = λ claim e f.
     let said : client_of (map string_bytes c.args.arguments.now) ≡ Some c.in-Ok-Some-Client.call = search rules in
@@ -205,6 +223,32 @@ returns-in-Ok-Some-Client-clause-node_complete g c = λ call e read write link.
     no_such (node_of (map string_bytes c.args.arguments.now)) call
     (client_is_none (map string_bytes c.args.arguments.now) c.in-Ok-Some-Client.call said).1 e _
 
+pub returns-in-Ok-Some-Client-clause-client_refused : goal.returns-in-Ok-Some-Client-clause-client_refused
+returns-in-Ok-Some-Client-clause-client_refused g c = λ call e.
+    let said : client_of (map string_bytes c.args.arguments.now) ≡ Some c.in-Ok-Some-Client.call = search rules in
+    let counts = counted (g.S.Source.faults c.args.source.now) (g.S.Source.faults c.run_client.new.source)
+    (g.L.Links.faults c.args.links.now) (g.L.Links.faults c.run_client.new.links) in
+    subst
+    (λ (x : ClientCall). IfSome (g.S.Source.left c.args.source.now) (λ bytes. IfErr (client_station x.seat bytes) (λ refusal.
+    Answers c.run_client.result refusal counts (g.K.Sink.taken c.args.sink.now) (g.K.Sink.taken c.run_client.new.sink))))
+    (same_client (map string_bytes c.args.arguments.now) c.in-Ok-Some-Client.call call said e) c.run_client.ensures.refused
+
+pub returns-in-Ok-Some-Client-clause-client_idle : goal.returns-in-Ok-Some-Client-clause-client_idle
+returns-in-Ok-Some-Client-clause-client_idle g c = λ call e.
+    let said : client_of (map string_bytes c.args.arguments.now) ≡ Some c.in-Ok-Some-Client.call = search rules in
+    subst
+    (λ (x : ClientCall). IfSome (g.S.Source.left c.args.source.now) (λ bytes. IfErr (client_station x.seat bytes) (λ _.
+    c.run_client.new.links ≡ c.args.links.now)))
+    (same_client (map string_bytes c.args.arguments.now) c.in-Ok-Some-Client.call call said e) c.run_client.ensures.idle
+
+pub returns-in-Ok-Some-Client-clause-client_still : goal.returns-in-Ok-Some-Client-clause-client_still
+returns-in-Ok-Some-Client-clause-client_still g c = λ call e.
+    let said : client_of (map string_bytes c.args.arguments.now) ≡ Some c.in-Ok-Some-Client.call = search rules in
+    subst
+    (λ (x : ClientCall). IfSome (g.S.Source.left c.args.source.now) (λ bytes. IfErr (client_station x.seat bytes) (λ _.
+    c.run_client.new.clock ≡ c.args.clock.now)))
+    (same_client (map string_bytes c.args.arguments.now) c.in-Ok-Some-Client.call call said e) c.run_client.ensures.still
+
 pub returns-in-Ok-Some-Client-clause-client_ran : goal.returns-in-Ok-Some-Client-clause-client_ran
 returns-in-Ok-Some-Client-clause-client_ran g c = λ call s moments state e outcomes ticks told.
     let said : client_of (map string_bytes c.args.arguments.now) ≡ Some c.in-Ok-Some-Client.call = search rules in
@@ -212,10 +256,19 @@ returns-in-Ok-Some-Client-clause-client_ran g c = λ call s moments state e outc
     (g.L.Links.faults c.args.links.now) (g.L.Links.faults c.run_client.new.links) in
     subst
     (λ (x : ClientCall). IfSome (g.S.Source.left c.args.source.now) (λ bytes. client_station x.seat bytes ≡ Ok s →
-    ToldRun s x.plan moments state (g.L.Links.told c.run_client.new.links) counts c.run_client.result
+    ToldRun s x.task moments state (g.L.Links.told c.run_client.new.links) counts c.run_client.result
     (g.K.Sink.taken c.args.sink.now) (g.K.Sink.taken c.run_client.new.sink)))
     (same_client (map string_bytes c.args.arguments.now) c.in-Ok-Some-Client.call call said e)
     (c.run_client.ensures.ran s moments state outcomes ticks told)
+
+pub returns-in-Err-clause-client_refused : goal.returns-in-Err-clause-client_refused
+returns-in-Err-clause-client_refused g c = λ call e. client_refused_any (g.S.Source.left c.args.source.now) call.seat _ (λ o. refl)
+
+pub returns-in-Err-clause-client_idle : goal.returns-in-Err-clause-client_idle
+returns-in-Err-clause-client_idle g c = λ call e. client_refused_any (g.S.Source.left c.args.source.now) call.seat _ (λ o. refl)
+
+pub returns-in-Err-clause-client_still : goal.returns-in-Err-clause-client_still
+returns-in-Err-clause-client_still g c = λ call e. client_refused_any (g.S.Source.left c.args.source.now) call.seat _ (λ o. refl)
 
 pub returns-in-Err-clause-client_complete : goal.returns-in-Err-clause-client_complete
 returns-in-Err-clause-client_complete g c = λ call e read write.
