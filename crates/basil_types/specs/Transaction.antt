@@ -1,5 +1,5 @@
 -- A transaction, its canonical bytes, its id and its version, and what is a transaction.
-use Rattle.std.specs.Prelude.{◌≡◌, ℕ, Bool, ◌≤◌, ◌<◌, ◌^◌, ◌∷◌, ◌++◌, []}
+use Rattle.std.specs.Prelude.{◌≡◌, ℕ, Bool, ◌≤◌, ◌∷◌, ◌++◌, []}
 use Rattle.std.specs.Prelude.{List, true, false, length, ◌==◌, if◌then◌else◌}
 use Rattle.std.specs.List.{flat_map, list_any}
 use Rattle.std.specs.Str.{bytes_eq}

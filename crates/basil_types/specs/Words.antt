@@ -1,5 +1,5 @@
 -- The six kinds of words that parties sign.
-use Rattle.std.specs.Prelude.{◌≡◌, ℕ, ◌∷◌, ◌++◌, [], ◌<◌, ◌≤◌, ◌^◌, List, length}
+use Rattle.std.specs.Prelude.{◌≡◌, ℕ, ◌∷◌, ◌++◌, [], ◌≤◌, List, length}
 use Rattle.std.specs.Int.{to_be_bytes, w64}
 use Rattle.basil_types.specs.Limits.{IsU64, id_size, longest_key}
 use Rattle.basil_types.specs.declared.party.Decision.{Decision}

@@ -1,6 +1,6 @@
 -- Which refusal comes first.
-use Rattle.std.specs.Prelude.{◌≡◌, ℕ, List, [], ◌∷◌, length, not, ◌==◌, ◌&&◌, nat_lt, if◌then◌else◌}
-use Rattle.std.specs.Prelude.{Option, Some, None, option_map, option_and_then, slice_get, Result, MatchResult, find}
+use Rattle.std.specs.Prelude.{ℕ, List, [], ◌∷◌, length, not, ◌==◌, ◌&&◌, nat_lt, if◌then◌else◌}
+use Rattle.std.specs.Prelude.{Option, Some, None, option_map, option_and_then, slice_get, find}
 use Rattle.std.specs.Str.{bytes_eq}
 use Rattle.basil_types.specs.Built.{or_else}
 use Rattle.basil_types.specs.declared.party.Decision.{Decision}

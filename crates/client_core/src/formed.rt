@@ -1,7 +1,7 @@
 //! Frames for a formed transaction: each is taken and held back, and then let go or kept.
 
 ghost use Rattle.std.specs.Prelude.{◌≡◌, ◌≢◌, ◌<◌, false, is_some, length, option_map};
-ghost use Rattle.std.specs.Prelude.{slice_get, Some, Ok, Err, OnOk, OnErr, IfErr};
+ghost use Rattle.std.specs.Prelude.{slice_get, Some, Ok, Err, OnOk, OnErr, IfErr, IfSome};
 ghost use Rattle.std.specs.Option.{ForSome};
 ghost use Rattle.basil_types.specs.Setting.{Setting};
 ghost use Rattle.certificates.specs.declared.fault.FrameFault.TheVariants as faults;
@@ -18,7 +18,8 @@ ghost use Rattle.client_recover.specs.Owned.{shown_outcome};
 ghost use Rattle.client_recover.specs.Pursuits.{outcome, take_frame};
 ghost use Rattle.client_recover.specs.Standing.{StandsFor, IsAsBefore, SameTask, TakesOf};
 ghost use Rattle.client_recover.specs.Taken.{PursuitValue, TakenValue};
-ghost use Rattle.frame_views.specs.Fitting.{FitsMessage, bounds_of};
+ghost use Rattle.frame_values.specs.Owned.{certificate_value};
+ghost use Rattle.frame_views.specs.Fitting.{FitsCertificate, FitsMessage, bounds_of, widest};
 ghost use Rattle.frame_views.specs.Shown.{message_of};
 
 use crate::held::{Formed, Held, Slot};
@@ -114,8 +115,10 @@ impl Formed {
 
     /// The decision and its certificate, without a frame that is held back.
     pub(crate) fn outcome(&self) -> Option<(Decision, &Certificate)>
-        ensures { (p : PursuitValue) → ShowsPursuit self.now p →
+        ensures value { (p : PursuitValue) → ShowsPursuit self.now p →
             option_map shown_outcome result ≡ outcome self.now.pursuit.cluster p }
+        // The certificate has a spelling.
+        ensures fits { IfSome result (λ o. FitsCertificate widest (certificate_value o.1.now)) }
     {
         if self.held_back {
             self.pursuit.outcome_before()

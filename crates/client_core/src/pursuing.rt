@@ -1,6 +1,6 @@
 //! A client's calls about transactions that are formed or recovered.
 
-ghost use Rattle.std.specs.Prelude.{◌≡◌, ◌<◌, Some, OnErr, IfOk, length, option_map, slice_get};
+ghost use Rattle.std.specs.Prelude.{◌≡◌, ◌<◌, Some, OnErr, IfOk, IfSome, length, option_map, slice_get};
 ghost use Rattle.client_core.specs.Shown.{ShowsClient};
 ghost use Rattle.client_core.specs.Calls.{call_invoke, call_recover, call_settle, recovered_at};
 ghost use Rattle.client_core.specs.Clients.{ClientValue, SlotValue};
@@ -8,7 +8,8 @@ ghost use Rattle.client_core.specs.Done.{Calls, KeepsSlots, SameOutbox, Sends};
 ghost use Rattle.client_core.specs.Seats.{self_at};
 ghost use Rattle.client_core.specs.Slots.{held_in, outcome_in, slot_of_id};
 ghost use Rattle.client_recover.specs.Owned.{shown_outcome};
-ghost use Rattle.frame_views.specs.Fitting.{IsSignature};
+ghost use Rattle.frame_values.specs.Owned.{certificate_value};
+ghost use Rattle.frame_views.specs.Fitting.{FitsCertificate, IsSignature, widest};
 
 use crate::client::Client;
 use crate::fault::CallFault;
@@ -131,10 +132,12 @@ impl<V: Verifier, S: Signer> Client<V, S> {
     /// The decision on the transaction in a slot, with the certificate that proves it. None before there is one.
     pub fn outcome(&self, slot: u32) -> Option<(Decision, &Certificate)>
         requires { slot < length self.now.held.slots.items }
-        ensures { (v : ClientValue) (s : SlotValue) →
+        ensures value { (v : ClientValue) (s : SlotValue) →
             ShowsClient self.now v →
             slice_get v.slots slot ≡ Some s →
             option_map shown_outcome result ≡ outcome_in self.now.seat.cluster s }
+        // The certificate has a spelling.
+        ensures fits { IfSome result (λ o. FitsCertificate widest (certificate_value o.1.now)) }
     {
         self.held.slots[slot as usize].outcome()
     }

@@ -1,5 +1,5 @@
 -- What answering with a fault says.
-use Rattle.std.specs.Prelude.{◌≡◌, Option, None, Some, Result, MatchResult, ⊤}
+use Rattle.std.specs.Prelude.{⊤}
 use Rattle.certificates.specs.declared.fault.FrameFault.{FrameFault}
 use Rattle.certificates.specs.declared.fault.FrameFault.TheVariants.{BadFrame, NotMine, BadSignature, BadVersion}
 use Rattle.certificates.specs.declared.fault.FrameFault.TheVariants.{BadCertificate, NoMemory}

@@ -1,5 +1,5 @@
 -- Reported views, and the view that they raise a replica to.
-use Rattle.std.specs.Prelude.{ℕ, ◌+◌, ◌-◌, ◌^◌, ◌<◌, All, List, Option, max}
+use Rattle.std.specs.Prelude.{ℕ, ◌+◌, ◌-◌, ◌^◌, All, List, Option, max}
 use Rattle.std.specs.Prelude.{min, nat_lt, nat_le, count_by, filter, unwrap_or}
 use Rattle.std.specs.List.{reduce}
 use Rattle.std.specs.Option.{option_map_or}

@@ -1,5 +1,5 @@
 -- Which values have a spelling, in a cluster of so many shards and replicas of a shard.
-use Rattle.std.specs.Prelude.{◌≡◌, ℕ, ◌<◌, ◌≤◌, ◌+◌, ◌^◌, List, length, Option, Some, None, Bool, true, false, ⊤}
+use Rattle.std.specs.Prelude.{◌≡◌, ℕ, ◌<◌, ◌≤◌, ◌+◌, List, length, Option, Some, None, Bool, true, false, ⊤}
 use Rattle.quorum_laws.specs.Numbers as quorum
 use Rattle.basil_types.specs.Lists.{AreItems}
 use Rattle.basil_types.specs.Setting.{Setting}

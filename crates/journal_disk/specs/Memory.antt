@@ -1,5 +1,5 @@
 -- A disk in memory that stops, and what each call makes of it.
-use Rattle.std.specs.Prelude.{◌≡◌, ℕ, ◌⊎◌, List, [], Bool, true, false, ◌||◌, Some, None}
+use Rattle.std.specs.Prelude.{◌≡◌, ℕ, ◌⊎◌, List, [], Bool, false, ◌||◌, Some, None}
 use Rattle.basil_types.specs.Memory.{CallCounts, counted, fails_next, uncalled}
 use Rattle.journal_disk.specs.declared.disk.Stop.{Stop}
 use Rattle.journal_disk.specs.Disk.{DiskState, keeps}

@@ -3,13 +3,13 @@ use Rattle.std.proofs.Common.{◌≡◌, ◌∙◌, ℕ, zero, suc, ◌+◌, ◌
 use Rattle.std.proofs.Common.{arith, map, refl, sym, ap, inl, inr}
 use Rattle.std.proofs.lemmas.Bool.{and_from, and_parts, cases_lt, eq-eqb, false_from_ne_true, lt-ltb, ltb-true}
 use Rattle.std.specs.List.{flat_map, range_with_len}
-use Rattle.std.specs.Prelude.{◌&&◌, Option, Some, filter, is_some, nat_lt, not}
+use Rattle.std.specs.Prelude.{◌&&◌, Some, filter, is_some, nat_lt, not}
 use Rattle.basil_types.specs.declared.party.Party.TheVariants.{Replica}
 use Rattle.quorum_laws.specs.Numbers.{replicas}
-use Rattle.run_journals.specs.Journals.{JournalValue, is_its, journal_at}
+use Rattle.run_journals.specs.Journals.{is_its, journal_at}
 use Rattle.cluster_run.specs.States.{Setup, Standing, first_standing, is_faulty, shard_standing, start}
-use Rattle.journaled_runs.specs.Journaling.{first_journals, fresh_journals, fresh_of, is_correct}
-use Rattle.journaled_runs.specs.Owners.{OwnersAreCorrect, keeps_journal}
+use Rattle.journaled_runs.specs.Journaling.{fresh_journals, fresh_of, is_correct}
+use Rattle.journaled_runs.specs.Owners.{OwnersAreCorrect}
 use Rattle.journaled_runs.proofs.Places.{same_place}
 
 module _ (s : Setup) (shard index : ℕ) where

@@ -11,7 +11,7 @@ use Rattle.cluster_run.specs.Events.{EventValue, Lose, happens}
 use Rattle.cluster_run.specs.States.{Setup, State}
 use Rattle.delivery_laws.specs.Deliveries.{Taking, takes}
 use Rattle.journaled_runs.specs.Journaling.{JournaledState, entered_since, full, handing, happens_in, lose_all, noted, stopped}
-use Rattle.journaled_runs.specs.Journaling.{stops_in, with_state, with_stop, written}
+use Rattle.journaled_runs.specs.Journaling.{with_state, with_stop, written}
 use Rattle.journaled_runs.specs.Owners.{OwnersOutlastStops, OwnersStay, SameOwners}
 use Rattle.journaled_runs.proofs.Places.{same_test}
 

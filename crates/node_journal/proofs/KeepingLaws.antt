@@ -5,7 +5,7 @@ use Rattle.std.proofs.lemmas.List.{map-append, nil_from_length}
 use Rattle.journal_disk.specs.Disk.{BothTold, Change, DiskState, Kept, MayLeave, MightLeave, OnTold}
 use Rattle.journal_disk.specs.Foreseen.{Foreseen, OnStopped, StopState}
 use Rattle.journal_records.specs.declared.limits.TheConstants.{JOURNAL_LIMIT}
-use Rattle.journal_records.specs.Journal.{EndsAt, Holds, HoldsForGood, IsKept, last_gate}
+use Rattle.journal_records.specs.Journal.{EndsAt, Holds, HoldsForGood, last_gate}
 use Rattle.journal_records.specs.Journal as records
 use Rattle.journal_records.specs.Stopping.{after_stop, and_if, leaves_open}
 use Rattle.node_steps.specs.Pens.{PenValue}

@@ -1,11 +1,8 @@
 -- Log replies before they are signed.
 use Rattle.std.specs.Prelude.{ℕ, List, [], None}
-use Rattle.basil_types.specs.declared.party.Party.{Party}
 use Rattle.basil_types.specs.Words.{SignedWords, LogReplyWords}
 use Rattle.decision_log.specs.declared.cell.LogCell.{LogCell}
 use Rattle.frame_views.specs.Values.{LogReplyValue}
-use Rattle.frame_writing.specs.Unsigned.{unsigned_log_reply}
-use Rattle.node_steps.specs.Pendings.{Front}
 use Rattle.node_steps.specs.Pens.{pen_value}
 use Rattle.replica_core.specs.declared.seat.Seat.{Seat}
 use Rattle.replica_core.specs.Replicas.{LoggedEntry, BookValue}

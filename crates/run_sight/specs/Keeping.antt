@@ -6,7 +6,6 @@ use Rattle.std.specs.Map.{lookup}
 use Rattle.std.specs.Str.{bytes_eq}
 use Rattle.sight_laws.specs.Seen.{committed_in}
 use Rattle.basil_types.specs.declared.party.Decision.{Decision}
-use Rattle.basil_types.specs.declared.party.Decision.TheVariants.{Commit}
 use Rattle.basil_types.specs.Setting.{Setting}
 use Rattle.basil_types.specs.Transaction.{TransactionValue, id}
 use Rattle.certificates.specs.Accepted.{Accepted}

@@ -1,7 +1,7 @@
 //! The lines of a text, each without its newline. No call takes memory.
 
 ghost use Rattle.std.specs.Prelude.{◌≡◌, ◌<◌, ◌∷◌, [], IfSome, MatchOption, length, position, ◌==◌};
-ghost use Rattle.schedule_text.specs.TextLines.{lines_of};
+ghost use Rattle.schedule_text.specs.TextLines.{behind_line, line_in, lines_of};
 
 /// Where the first line ends.
 fn newline(bytes: &[u8]) -> Option<usize>
@@ -15,6 +15,8 @@ fn newline(bytes: &[u8]) -> Option<usize>
 pub fn next_line(bytes: &[u8]) -> (&[u8], &[u8])
     requires { 0 < length bytes.now }
     ensures lines { lines_of bytes.now ≡ result.0.now ∷ lines_of result.1.now }
+    ensures line { result.0.now ≡ line_in bytes.now }
+    ensures behind { result.1.now ≡ behind_line bytes.now }
     ensures shorter { length result.1.now < length bytes.now }
 {
     match newline(bytes) {

@@ -1,4 +1,4 @@
-use Rattle.std.proofs.Common.{refl, sym}
+use Rattle.std.proofs.Common.{sym}
 use Rattle.cluster_world.proofs.TakingLaws.{moment_told, no_moment, within_found}
 use Rattle.cluster_world.proofs.PairLaws.{got}
 use Rattle.cluster_world.proofs.engine.Engine.moment.Goals as goal
