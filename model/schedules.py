@@ -875,7 +875,7 @@ def compared_loads(top):
             yield path.name, path.with_suffix(".stdout").read_text(), made(seed, count)
     for seed, count, totals in rows_of(top / "crates/basil_rows/src/loads.rt", TOTALS):
         yield f"load {seed} {count}", totals.replace("\\n", "\n"), load_totals(seed, count)
-    for seed, count, *row in rows_of(top / "crates/load_rows/src/texts.rt", DIGESTED):
+    for seed, count, *row in rows_of(top / "crates/text_rows/src/loads/texts.rt", DIGESTED):
         seed = seed.replace("_", "")
         yield f"generate {seed} {count}", " ".join(row), digest_row(seed, count)
 

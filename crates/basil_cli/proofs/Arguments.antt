@@ -14,7 +14,7 @@ use Rattle.basil_cli.specs.Parts.{outcome_is}
 use Rattle.basil_cli.specs.Reading.{IsReadThrough, StopsSoon, StopsSoonFor, is_enough}
 use Rattle.basil_cli.specs.declared.command.Command.{Command}
 use Rattle.basil_cli.specs.declared.command.Command.TheVariants.{Replay, Generate, Load, Keys, Sign, Verify, HssKeys, HssSign, HssVerify}
-use Rattle.basil_cli.specs.declared.command.Command.TheVariants.{Batch, Unbatch, Check, Audit}
+use Rattle.basil_cli.specs.declared.command.Command.TheVariants.{Batch, Unbatch, Check, Confirm, Audit}
 use Rattle.basil_cli.specs.declared.ending.Ending.{Ending}
 use Rattle.basil_cli.specs.declared.input.InputFail.{InputFail}
 use Rattle.basil_cli.specs.declared.status.Status.{Status}
@@ -58,6 +58,7 @@ long_as (HssVerify claim) other read coming bytes long = over bytes _ long
 long_as (Batch leaf) other read coming bytes long = over bytes _ long
 long_as (Unbatch claim) other read coming bytes long = over bytes _ long
 long_as Check other read coming bytes long = over bytes _ long
+long_as Confirm other read coming bytes long = over bytes _ long
 long_as Audit other read coming bytes long = over bytes _ long
 long_as none other read coming bytes long = absurd cc
 

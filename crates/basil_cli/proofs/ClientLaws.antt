@@ -33,14 +33,14 @@ use Rattle.schedule_text.specs.Tokens.{Token}
 use Rattle.basil_cli.specs.Answers.{IsTold, status_of}
 use Rattle.basil_cli.specs.Clients.{CallRefused, ClientStation, IsClientTold, IsRunEnding, Open, RanTo, Reported, SitsInFile}
 use Rattle.basil_cli.specs.Clients.{RunsTask, client_call_of, client_call_with, client_of, client_seat_of, client_seated, client_seated_in}
-use Rattle.basil_cli.specs.Clients.{client_station, end_of, outcome_of_run, recovery_of, task_of, time_at}
+use Rattle.basil_cli.specs.Clients.{client_station, end_of, outcome_of_run, formed_of, task_of, time_at}
 use Rattle.basil_cli.specs.Commands.{command_of}
 use Rattle.basil_cli.specs.Nodes.{node_of}
 use Rattle.basil_cli.specs.Outcome.{Outcome, TooLong, is_too_long, longest_input}
 use Rattle.basil_cli.specs.Parts.{IsWhole, outcome_is}
 use Rattle.basil_cli.specs.declared.client.ClientCall.{ClientCall}
 use Rattle.basil_cli.specs.declared.client.ClientTask.{ClientTask}
-use Rattle.basil_cli.specs.declared.client.ClientTask.TheVariants.{Transact, Form, Recover}
+use Rattle.basil_cli.specs.declared.client.ClientTask.TheVariants.{Transact, Form, Recover, Certify}
 use Rattle.basil_cli.specs.declared.ending.Ending.{Ending}
 use Rattle.basil_cli.specs.declared.input.InputFail.{InputFail}
 use Rattle.basil_cli.specs.declared.input.Whole.TheVariants as whole
@@ -59,20 +59,26 @@ too_few spell name (one ∷ []) h = refl
 too_few spell name (one ∷ two ∷ []) h = refl
 too_few spell name (one ∷ two ∷ three ∷ words) h = absurd (omega (arith, h))
 
+-- the four names
+abbrev IsNamed : Token → Type 0
+IsNamed name = (name ≡ codes "client") ⊎ (name ≡ codes "form") ⊎ (name ≡ codes "recover") ⊎ (name ≡ codes "certify")
+
 -- what a client is to do is named so
-named : (name : Token) (arguments : List Token) (task : ClientTask) → task_of name arguments ≡ Some task →
-    (name ≡ codes "client") ⊎ (name ≡ codes "form") ⊎ (name ≡ codes "recover")
+named : (name : Token) (arguments : List Token) (task : ClientTask) → task_of name arguments ≡ Some task → IsNamed name
 named name arguments task e =
-    by (bytes_eq name (codes "client")) (bytes_eq name (codes "form")) (bytes_eq name (codes "recover")) refl refl refl e
+    by (bytes_eq name (codes "client")) (bytes_eq name (codes "form")) (bytes_eq name (codes "recover")) (bytes_eq name (codes "certify"))
+    refl refl refl refl e
   where
-    by : (b c d : Bool) → bytes_eq name (codes "client") ≡ b → bytes_eq name (codes "form") ≡ c → bytes_eq name (codes "recover") ≡ d →
+    by : (b c d f : Bool) → bytes_eq name (codes "client") ≡ b → bytes_eq name (codes "form") ≡ c → bytes_eq name (codes "recover") ≡ d →
+        bytes_eq name (codes "certify") ≡ f →
         (if b then option_map Transact (plan_of arguments) else if c then option_map Form (plan_of arguments)
-        else if d then recovery_of arguments else None) ≡ Some task →
-        (name ≡ codes "client") ⊎ (name ≡ codes "form") ⊎ (name ≡ codes "recover")
-    by true c d is other third e = inl ((bytes_eq-Decides name (codes "client")).0 is)
-    by false true d is other third e = inr (inl ((bytes_eq-Decides name (codes "form")).0 other))
-    by false false true is other third e = inr (inr ((bytes_eq-Decides name (codes "recover")).0 third))
-    by false false false is other third e = absurd cc
+        else if d then option_map Recover (formed_of arguments) else if f then option_map Certify (formed_of arguments)
+        else None) ≡ Some task → IsNamed name
+    by true c d f is other third fourth e = inl ((bytes_eq-Decides name (codes "client")).0 is)
+    by false true d f is other third fourth e = inr (inl ((bytes_eq-Decides name (codes "form")).0 other))
+    by false false true f is other third fourth e = inr (inr (inl ((bytes_eq-Decides name (codes "recover")).0 third)))
+    by false false false true is other third fourth e = inr (inr (inr ((bytes_eq-Decides name (codes "certify")).0 fourth)))
+    by false false false false is other third fourth e = absurd cc
 
 -- a call has its task
 has_task : (task : Option ClientTask) (seat : Option ClientSeat) (call : ClientCall) → client_call_with task seat ≡ Some call →
@@ -80,24 +86,21 @@ has_task : (task : Option ClientTask) (seat : Option ClientSeat) (call : ClientC
 has_task (Some task) seat call e = (task, refl)
 has_task None seat call e = absurd cc
 
--- those of a client are no command of another name, and no node
-pub client_is_none : (arguments : List Token) (call : ClientCall) → client_of arguments ≡ Some call →
-    (command_of arguments ≡ None) × (node_of arguments ≡ None)
+-- no command of another name, and no node
+abbrev IsOther : List Token → Type 0
+IsOther arguments = (command_of arguments ≡ None) × (node_of arguments ≡ None)
+
+-- those of a client are none of both
+pub client_is_none : (arguments : List Token) (call : ClientCall) → client_of arguments ≡ Some call → IsOther arguments
 client_is_none (name ∷ number ∷ seed ∷ leaf ∷ arguments) call e =
     let has = has_task (task_of name arguments) (client_seat_of number seed leaf) call e in
     by (named name arguments has.0 has.1)
   where
-    by : (name ≡ codes "client") ⊎ (name ≡ codes "form") ⊎ (name ≡ codes "recover") →
-        (command_of (name ∷ number ∷ seed ∷ leaf ∷ arguments) ≡ None) × (node_of (name ∷ number ∷ seed ∷ leaf ∷ arguments) ≡ None)
-    by (inl is) =
-        subst (λ (n : Token). (command_of (n ∷ number ∷ seed ∷ leaf ∷ arguments) ≡ None)
-        × (node_of (n ∷ number ∷ seed ∷ leaf ∷ arguments) ≡ None)) (sym is) (refl, refl)
-    by (inr (inl is)) =
-        subst (λ (n : Token). (command_of (n ∷ number ∷ seed ∷ leaf ∷ arguments) ≡ None)
-        × (node_of (n ∷ number ∷ seed ∷ leaf ∷ arguments) ≡ None)) (sym is) (refl, refl)
-    by (inr (inr is)) =
-        subst (λ (n : Token). (command_of (n ∷ number ∷ seed ∷ leaf ∷ arguments) ≡ None)
-        × (node_of (n ∷ number ∷ seed ∷ leaf ∷ arguments) ≡ None)) (sym is) (refl, refl)
+    by : IsNamed name → IsOther (name ∷ number ∷ seed ∷ leaf ∷ arguments)
+    by (inl is) = subst (λ (n : Token). IsOther (n ∷ number ∷ seed ∷ leaf ∷ arguments)) (sym is) (refl, refl)
+    by (inr (inl is)) = subst (λ (n : Token). IsOther (n ∷ number ∷ seed ∷ leaf ∷ arguments)) (sym is) (refl, refl)
+    by (inr (inr (inl is))) = subst (λ (n : Token). IsOther (n ∷ number ∷ seed ∷ leaf ∷ arguments)) (sym is) (refl, refl)
+    by (inr (inr (inr is))) = subst (λ (n : Token). IsOther (n ∷ number ∷ seed ∷ leaf ∷ arguments)) (sym is) (refl, refl)
 client_is_none [] call e = absurd cc
 client_is_none (name ∷ []) call e = absurd cc
 client_is_none (name ∷ number ∷ []) call e = absurd cc
@@ -302,3 +305,7 @@ module _ {V S : Type 0} {v : verifiers.Ghosts V} {g : signers.Ghosts S} (client 
   pub taken_up : (x : SignedValue) → task ≡ Recover x → OnEnd ran (HasRun client told (RunsRecovery me l x) t before now) →
       OnEnd ran (HasRun client told (RunsTask me l moment task) t before now)
   taken_up x is h = ran_as (Recover x) is h
+
+  pub taken_to_certify : (x : SignedValue) → task ≡ Certify x → OnEnd ran (HasRun client told (RunsRecovery me l x) t before now) →
+      OnEnd ran (HasRun client told (RunsTask me l moment task) t before now)
+  taken_to_certify x is h = ran_as (Certify x) is h

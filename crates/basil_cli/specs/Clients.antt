@@ -1,5 +1,5 @@
--- `client`, `form` and `recover`: a client of a cluster's file that carries one transaction through, or only forms it,
--- or carries through one that was formed.
+-- `client`, `form`, `recover` and `certify`: a client of a cluster's file that carries one transaction through, or only
+-- forms it, or carries through one that was formed.
 use Rattle.std.specs.Prelude.{◌≡◌, ◌⊎◌, ◌≤◌, ⊤, ℕ, max, length, List, [], ◌∷◌, codes, if◌then◌else◌}
 use Rattle.std.specs.Prelude.{Option, Some, None, option_map, Result, Ok, Err, IfOk}
 use Rattle.std.specs.Str.{bytes_eq}
@@ -13,11 +13,13 @@ use Rattle.client_link.specs.declared.fault.RunFault.TheVariants as runs
 use Rattle.client_link.specs.declared.aim.Aim.TheVariants as aims
 use Rattle.client_link.specs.Running.{Going, RunsPlan, RunsRecovery, starting}
 use Rattle.client_link.specs.Talking.{Talk}
+use Rattle.client_text.specs.Certifying.{certified}
 use Rattle.client_text.specs.Handing.{handed_over, signed_of}
 use Rattle.client_text.specs.Ops.{plan_of}
 use Rattle.client_text.specs.Reports.{report_of}
 use Rattle.cluster_file.specs.Listing.{Listing}
 use Rattle.cluster_file.specs.Text.{cluster_in}
+use Rattle.frame_views.specs.Values.{SignedValue}
 use Rattle.keyring.specs.declared.verifier.Verifier as verifiers
 use Rattle.keyring.specs.declared.signer.Signer as signers
 use Rattle.node_link.specs.Asking.{RoseBy}
@@ -33,12 +35,13 @@ use Rattle.schedule_text.specs.declared.reason.Reason.TheVariants.{RefusedCall}
 use Rattle.basil_cli.specs.Ranges.{seed_size, most_leaves}
 use Rattle.basil_cli.specs.Answers.{Answers, Counts, IsTold}
 use Rattle.basil_cli.specs.Commands.{hex_of, said}
-use Rattle.basil_cli.specs.Nodes.{file_reason, node_of, seat_reason}
+use Rattle.basil_cli.specs.Files.{file_reason}
+use Rattle.basil_cli.specs.Nodes.{node_of, seat_reason}
 use Rattle.basil_cli.specs.Outcome.{Outcome, BadLine, TooLong, Undecided, Written, is_too_long}
 use Rattle.basil_cli.specs.Parts.{outcome_is}
 use Rattle.basil_cli.specs.declared.client.ClientCall.{ClientCall}
 use Rattle.basil_cli.specs.declared.client.ClientTask.{ClientTask}
-use Rattle.basil_cli.specs.declared.client.ClientTask.TheVariants.{Transact, Form, Recover}
+use Rattle.basil_cli.specs.declared.client.ClientTask.TheVariants.{Transact, Form, Recover, Certify}
 use Rattle.basil_cli.specs.declared.ending.Ending.{Ending}
 use Rattle.basil_cli.specs.declared.input.InputFail.{InputFail}
 use Rattle.basil_cli.specs.declared.input.InputFail.TheVariants as input
@@ -61,16 +64,17 @@ client_seat_of number seed leaf =
     (said (number_in 0 most_leaves leaf))
 
 -- TRANSACTION SIGNATURE
-abbrev pub recovery_of : List Token → Option ClientTask
-recovery_of (transaction ∷ signature ∷ []) = option_map Recover (signed_of transaction signature)
-recovery_of _ = None
+abbrev pub formed_of : List Token → Option SignedValue
+formed_of (transaction ∷ signature ∷ []) = signed_of transaction signature
+formed_of _ = None
 
 -- what a client is to do, by its command and the arguments behind its seat
 abbrev pub task_of : (name : Token) → List Token → Option ClientTask
 task_of name arguments =
     if bytes_eq name (codes "client") then option_map Transact (plan_of arguments)
     else if bytes_eq name (codes "form") then option_map Form (plan_of arguments)
-    else if bytes_eq name (codes "recover") then recovery_of arguments
+    else if bytes_eq name (codes "recover") then option_map Recover (formed_of arguments)
+    else if bytes_eq name (codes "certify") then option_map Certify (formed_of arguments)
     else None
 
 abbrev pub client_call_with : Option ClientTask → Option ClientSeat → Option ClientCall
@@ -83,7 +87,7 @@ client_call_of name (number ∷ seed ∷ leaf ∷ arguments) =
     client_call_with (task_of name arguments) (client_seat_of number seed leaf)
 client_call_of name _ = None
 
--- `client C SEED LEAF OP...`, `form C SEED LEAF OP...` and `recover C SEED LEAF TRANSACTION SIGNATURE`
+-- `client C SEED LEAF OP...`, `form C SEED LEAF OP...`, and `recover` and `certify C SEED LEAF TRANSACTION SIGNATURE`
 abbrev pub client_of : List Token → Option ClientCall
 client_of [] = None
 client_of (name ∷ arguments) = client_call_of name arguments
@@ -135,12 +139,14 @@ abbrev pub RunsTask : ClientSelf → Listing → (time : ℕ) → ClientTask →
 RunsTask me l time (Transact plan) = RunsPlan me l aims.Decision time plan
 RunsTask me l time (Form plan) = RunsPlan me l aims.Form time plan
 RunsTask me l time (Recover x) = RunsRecovery me l x
+RunsTask me l time (Certify x) = RunsRecovery me l x
 
 -- what it tells then; its transaction is the first that it holds
 abbrev pub told_of : ClientSelf → ClientTask → ClientValue → List ℕ
 told_of me (Transact plan) v = report_of me 0 plan v
 told_of me (Form plan) v = handed_over 0 v
 told_of me (Recover x) v = report_of me 0 [] v
+told_of me (Certify x) v = certified me 0 v
 
 -- a run that ended so
 abbrev pub outcome_of_run : ClientSelf → ClientTask → ClientValue → Option RunFault → Outcome

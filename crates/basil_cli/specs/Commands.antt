@@ -13,7 +13,7 @@ use Rattle.basil_cli.specs.Ranges.{seed_size, ident_size, most_drawn}
 use Rattle.basil_cli.specs.declared.command.Claim.{Claim}
 use Rattle.basil_cli.specs.declared.command.Command.{Command}
 use Rattle.basil_cli.specs.declared.command.Command.TheVariants.{Replay, Generate, Load, Keys}
-use Rattle.basil_cli.specs.declared.command.Command.TheVariants.{Sign, Verify, Check, Audit}
+use Rattle.basil_cli.specs.declared.command.Command.TheVariants.{Sign, Verify, Check, Confirm, Audit}
 use Rattle.basil_cli.specs.declared.command.Command.TheVariants.{HssKeys, HssSign, HssVerify, Batch, Unbatch}
 use Rattle.basil_cli.specs.declared.command.HssMaterial.{HssMaterial}
 use Rattle.basil_cli.specs.declared.command.KeyMaterial.{KeyMaterial}
@@ -170,6 +170,11 @@ abbrev pub check_of : List Token → Option Command
 check_of [] = Some Check
 check_of (argument ∷ arguments) = None
 
+-- `confirm`
+abbrev pub confirm_of : List Token → Option Command
+confirm_of [] = Some Confirm
+confirm_of (argument ∷ arguments) = None
+
 -- `audit`
 abbrev pub audit_of : List Token → Option Command
 audit_of [] = Some Audit
@@ -191,6 +196,7 @@ command_of (name ∷ arguments) =
     else if bytes_eq name (codes "batch") then batch_of arguments
     else if bytes_eq name (codes "unbatch") then unbatch_of arguments
     else if bytes_eq name (codes "check") then check_of arguments
+    else if bytes_eq name (codes "confirm") then confirm_of arguments
     else if bytes_eq name (codes "audit") then audit_of arguments
     else None
 

@@ -4,6 +4,8 @@ pub mod Outcome
 pub mod Signatures
 pub mod Batches
 pub mod Checking
+pub mod Files
+pub mod Confirming
 pub mod Signers
 pub mod Output
 pub mod Answers

@@ -20,11 +20,11 @@ use Rattle.party_seat.specs.declared.station.NodeSeat.{NodeSeat}
 use Rattle.schedule_text.specs.Fields.{number_in}
 use Rattle.schedule_text.specs.Tokens.{Token}
 use Rattle.schedule_text.specs.declared.reason.Reason.{Reason}
-use Rattle.schedule_text.specs.declared.reason.Reason.TheVariants.{NoHeader, Misspelt, OutOfRange, WrongParty}
-use Rattle.schedule_text.specs.declared.reason.Reason.TheVariants.{OutOfSize}
+use Rattle.schedule_text.specs.declared.reason.Reason.TheVariants.{OutOfRange, WrongParty}
 use Rattle.basil_cli.specs.Ranges.{seed_size, most_leaves}
 use Rattle.basil_cli.specs.Answers.{IsTold}
 use Rattle.basil_cli.specs.Commands.{hex_of, said}
+use Rattle.basil_cli.specs.Files.{file_reason}
 use Rattle.basil_cli.specs.Outcome.{Outcome, BadLine, TooLong, Written, is_too_long}
 use Rattle.basil_cli.specs.Parts.{outcome_is}
 use Rattle.basil_cli.specs.declared.ending.Ending.{Ending}
@@ -63,11 +63,6 @@ node_of [] = None
 node_of (name ∷ arguments) = if bytes_eq name (codes "node") then call_of arguments else None
 
 -- ---- its station
-
--- the reason of a file that is refused
-abbrev pub file_reason : ℕ → Reason
-file_reason number =
-    if number == 1 then NoHeader else if number == 2 then Misspelt else if number == 3 then OutOfRange else OutOfSize
 
 -- the reason where it doesn't get its seat
 abbrev pub seat_reason : SeatFault → Reason

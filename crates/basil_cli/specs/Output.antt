@@ -13,12 +13,13 @@ use Rattle.schedule_replay.specs.declared.fault.ReplayFault.TheVariants as fault
 use Rattle.basil_cli.specs.Batches.{batched, unbatched}
 use Rattle.basil_cli.specs.Checking.{checked}
 use Rattle.basil_cli.specs.Commands.{command_of}
+use Rattle.basil_cli.specs.Confirming.{confirmed}
 use Rattle.basil_cli.specs.Outcome.{Outcome, Usage, BadLine, Written, Broken, Full, Stray, unless_too_long}
 use Rattle.basil_cli.specs.Signatures.{keys_made, signed, verified, hss_keys_made, hss_signed, hss_verified}
 use Rattle.basil_cli.specs.declared.command.Command.{Command}
 use Rattle.basil_cli.specs.declared.command.LoadSize.{LoadSize}
 use Rattle.basil_cli.specs.declared.command.Command.TheVariants.{Replay, Generate, Load, Keys}
-use Rattle.basil_cli.specs.declared.command.Command.TheVariants.{Sign, Verify, Check, Audit}
+use Rattle.basil_cli.specs.declared.command.Command.TheVariants.{Sign, Verify, Check, Confirm, Audit}
 use Rattle.basil_cli.specs.declared.command.Command.TheVariants.{HssKeys, HssSign, HssVerify, Batch, Unbatch}
 
 -- a schedule leads to its report, or to one of three faults; to the others none leads
@@ -57,6 +58,7 @@ output_of (HssVerify claim) coming bytes = unless_too_long bytes (hss_verified c
 output_of (Batch leaf) coming bytes = unless_too_long bytes (batched leaf bytes)
 output_of (Unbatch claim) coming bytes = unless_too_long bytes (unbatched claim bytes)
 output_of Check coming bytes = unless_too_long bytes (checked bytes)
+output_of Confirm coming bytes = unless_too_long bytes (confirmed bytes)
 output_of Audit coming bytes = unless_too_long bytes (audited (finding_of bytes))
 
 abbrev pub outcome_with : Option Command → (coming : List (List ℕ)) → (bytes : List ℕ) → Outcome

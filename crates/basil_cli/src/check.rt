@@ -100,7 +100,10 @@ fn judge(
 
 /// The writeback that a frame says, or the reason why the line is refused.
 #[tactic(auto, unfolding(crate::specs::Checking::framed))]
-fn read_writeback<'a>(bytes: &'a [u8], cluster: &Cluster) -> Result<WritebackView<'a>, Reason>
+pub(crate) fn read_writeback<'a>(
+    bytes: &'a [u8],
+    cluster: &Cluster,
+) -> Result<WritebackView<'a>, Reason>
     ensures value { Framed result (framed cluster.now bytes.now) }
     ensures fits { IfOk result (λ m. FitsWriteback (bounds_of cluster.now) (writeback_of m)) }
 {

@@ -1,5 +1,5 @@
-//! `client`, `form` and `recover`: a client of a cluster's file that carries one transaction through, or only forms it,
-//! or carries through one that was formed.
+//! `client`, `form`, `recover` and `certify`: a client of a cluster's file that carries one transaction through, or only
+//! forms it, or carries through one that was formed.
 
 ghost use Rattle.std.specs.Prelude.{◌≡◌, ◌⊎◌, ◌<◌, ◌≤◌, ℕ, List, length, true, Some, Ok, Err, IfOk, IfErr, IfSome};
 ghost use Rattle.std.specs.Prelude.{map, string_bytes};
@@ -14,7 +14,7 @@ ghost use Rattle.basil_cli.specs.Answers.{Answers, counted, is_outcomes};
 ghost use Rattle.basil_cli.specs.Clients as clients;
 ghost use Rattle.basil_cli.specs.Clients.{ClientStation, IsClientTold, IsRunEnding, RanTo, SeatTold, SitsInFile};
 ghost use Rattle.basil_cli.specs.Clients.{RunsTask, ToldRun, client_seat_of, client_seated, client_seated_in};
-ghost use Rattle.basil_cli.specs.Clients.{client_call_of, client_station, recovery_of, task_of, time_at, told_of};
+ghost use Rattle.basil_cli.specs.Clients.{client_call_of, client_station, formed_of, task_of, time_at, told_of};
 ghost use Rattle.basil_cli.specs.Clients.{end_of, outcome_of_run};
 ghost use Rattle.client_link.specs.Having.{HasRun, OnEnd};
 ghost use Rattle.client_link.specs.Running.{starting};
@@ -27,8 +27,9 @@ ghost use Rattle.basil_cli.specs.Reading.{IsReadThrough, StopsSoon};
 
 use crate::command::read_seed;
 use crate::ending::Ending;
+use crate::files::file_reason;
 use crate::input::{InputFail, Whole, read_whole};
-use crate::node::{file_reason, read_first_leaf};
+use crate::node::read_first_leaf;
 use crate::status::Status;
 use crate::writing::write_ending;
 use basil_types::bytes::Bytes;
@@ -40,7 +41,7 @@ use basil_types::sink::Sink;
 use basil_types::source::Source;
 use client_core::Client;
 use client_link::{Aim, RunFault, Signed, client_finish, client_run};
-use client_text::{Plan, hand_over, read_plan, read_signed, report};
+use client_text::{Plan, certify, hand_over, read_plan, read_signed, report};
 use cluster_file::{ClusterFile, FileFault, read_cluster};
 use keyring::signer::Signer;
 use keyring::verifier::Verifier;
@@ -58,6 +59,8 @@ pub(crate) enum ClientTask {
     Form { plan: Plan },
     /// A transaction that was formed is carried through.
     Recover { signed: Signed },
+    /// The same, and its certificate is told.
+    Certify { signed: Signed },
 }
 
 /// What a client is asked for: its seat, and what it is to do.
@@ -101,16 +104,13 @@ fn read_client_seat(
 }
 
 /// `TRANSACTION SIGNATURE`
-fn read_recovery(alloc: Global, arguments: &[String]) -> Result<Option<ClientTask>, NoMemory>
-    ensures { IfOk result (λ task. task ≡ recovery_of (map string_bytes arguments.now)) }
+fn read_formed(alloc: Global, arguments: &[String]) -> Result<Option<Signed>, NoMemory>
+    ensures { IfOk result (λ signed. signed ≡ formed_of (map string_bytes arguments.now)) }
 {
     let [transaction, signature] = arguments else {
         return Ok(None);
     };
-    match read_signed(alloc, transaction.as_bytes(), signature.as_bytes())? {
-        Some(signed) => Ok(Some(ClientTask::Recover { signed })),
-        None => Ok(None),
-    }
+    read_signed(alloc, transaction.as_bytes(), signature.as_bytes())
 }
 
 /// What a client is to do, by its command and the arguments behind its seat.
@@ -130,7 +130,14 @@ fn read_task(
             Some(plan) => Ok(Some(ClientTask::Form { plan })),
             None => Ok(None),
         },
-        "recover" => read_recovery(alloc, arguments),
+        "recover" => match read_formed(alloc, arguments)? {
+            Some(signed) => Ok(Some(ClientTask::Recover { signed })),
+            None => Ok(None),
+        },
+        "certify" => match read_formed(alloc, arguments)? {
+            Some(signed) => Ok(Some(ClientTask::Certify { signed })),
+            None => Ok(None),
+        },
         _ => Ok(None),
     }
 }
@@ -217,6 +224,7 @@ fn run_task<V: Verifier, S: Signer, L: Links, C: Clock>(
             links,
         ),
         ClientTask::Recover { signed } => client_finish(alloc, client, number, file, signed, links),
+        ClientTask::Certify { signed } => client_finish(alloc, client, number, file, signed, links),
     }
 }
 
@@ -235,6 +243,7 @@ fn tell<V: Verifier, S: Signer>(
         ClientTask::Transact { plan } => report(alloc, client, slot, plan.ops()),
         ClientTask::Form { .. } => hand_over(alloc, client, slot),
         ClientTask::Recover { .. } => report(alloc, client, slot, &[]),
+        ClientTask::Certify { .. } => certify(alloc, client, slot),
     }
 }
 
@@ -417,8 +426,8 @@ fn run_source<S: Source, L: Links, C: Clock>(
 }
 
 /// Does what a client is to do, whose cluster's file is the source, and writes what came of it: what became of its
-/// transaction and what that read, or, where it was only formed, the transaction and its signature; or why it doesn't
-/// come so far.
+/// transaction and what that read, or, where it was only formed, the transaction and its signature, or its certificate; or
+/// why it doesn't come so far.
 pub(crate) fn run_client<S: Source, K: Sink, L: Links, C: Clock>(
     alloc: Global,
     call: &ClientCall,

@@ -8,6 +8,7 @@ ghost use Rattle.basil_cli.specs.Commands as commands;
 ghost use Rattle.basil_cli.specs.Commands.{said, hex_of, claim_of, material_of, leaf_of, command_of, replay_of};
 ghost use Rattle.basil_cli.specs.Commands.{generate_of};
 ghost use Rattle.basil_cli.specs.Commands.{load_of, size_of, keys_of, sign_of, verify_of, check_of, audit_of, HasLeaf};
+ghost use Rattle.basil_cli.specs.Commands.{confirm_of};
 ghost use Rattle.basil_cli.specs.Commands.{hss_keys_of, hss_material_of, hss_sign_of, hss_verify_of, number_of};
 ghost use Rattle.basil_cli.specs.Commands.{IsLeaf, batch_of, numbers_in, reads, signing_of, unbatch_of};
 
@@ -92,6 +93,8 @@ pub(crate) enum Command {
     Unbatch { claim: Claim },
     /// Whether the certificate of a writeback proves its decision.
     Check,
+    /// The same, by the file of the cluster.
+    Confirm,
     /// Whether each read of listed transactions is what the serial order gives it.
     Audit,
 }
@@ -429,6 +432,16 @@ fn read_check(arguments: &[String]) -> Option<Command>
     }
 }
 
+/// `confirm`
+fn read_confirm(arguments: &[String]) -> Option<Command>
+    ensures { result ≡ confirm_of (map string_bytes arguments.now) }
+{
+    match arguments {
+        [] => Some(Command::Confirm),
+        _ => None,
+    }
+}
+
 /// `audit`
 fn read_audit(arguments: &[String]) -> Option<Command>
     ensures { result ≡ audit_of (map string_bytes arguments.now) }
@@ -461,6 +474,7 @@ pub(crate) fn read_command(alloc: Global, arguments: &[String]) -> Result<Option
         "batch" => read_batch(alloc, arguments),
         "unbatch" => read_unbatch(alloc, arguments),
         "check" => Ok(read_check(arguments)),
+        "confirm" => Ok(read_confirm(arguments)),
         "audit" => Ok(read_audit(arguments)),
         _ => Ok(None),
     }

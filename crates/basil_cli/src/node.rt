@@ -22,6 +22,7 @@ ghost use Rattle.basil_cli.specs.Reading.{IsReadThrough, StopsSoon};
 
 use crate::command::read_seed;
 use crate::ending::Ending;
+use crate::files::file_reason;
 use crate::input::{InputFail, Whole, read_whole};
 use crate::status::Status;
 use crate::writing::write_ending;
@@ -31,9 +32,7 @@ use basil_types::links::Links;
 use basil_types::memory::NoMemory;
 use basil_types::sink::Sink;
 use basil_types::source::Source;
-use cluster_file::{
-    ClusterFile, FileFault, NOT_A_FILE, REFUSED_CLUSTER, WRONG_PARTIES, read_cluster,
-};
+use cluster_file::{ClusterFile, FileFault, read_cluster};
 use party_seat::{NodeFault, NodeSeat, serve_seat};
 use schedule_text::fields::numbers::read_number_in;
 use schedule_text::reason::Reason;
@@ -142,18 +141,6 @@ pub(crate) fn read_node(alloc: Global, arguments: &[String]) -> Result<Option<No
     match name.as_str() {
         "node" => read_call(alloc, arguments),
         _ => Ok(None),
-    }
-}
-
-/// The reason of a file that is refused.
-pub(crate) fn file_reason(number: u8) -> Reason
-    ensures { result ≡ nodes.file_reason number }
-{
-    match number {
-        REFUSED_CLUSTER => Reason::NoHeader,
-        NOT_A_FILE => Reason::Misspelt,
-        WRONG_PARTIES => Reason::OutOfRange,
-        _ => Reason::OutOfSize,
     }
 }
 

@@ -34,6 +34,7 @@ use crate::batches::{batch, unbatch};
 use crate::check::check;
 use crate::client::run_client;
 use crate::command::{Command, read_command};
+use crate::confirm::confirm;
 use crate::ending::Ending;
 use crate::input::{InputFail, Whole, read_whole};
 use crate::node::run_node;
@@ -71,6 +72,7 @@ fn ending_of(alloc: Global, command: &Command, bytes: &[u8]) -> Result<Ending, N
         Command::Batch { signing } => batch(alloc, signing, bytes),
         Command::Unbatch { claim } => unbatch(alloc, claim, bytes),
         Command::Check => check(alloc, bytes),
+        Command::Confirm => confirm(alloc, bytes),
         Command::Audit => audit(alloc, bytes),
     }
 }

@@ -1,3 +1,4 @@
 pub mod Ops
 pub mod Reports
 pub mod Handing
+pub mod Certifying

@@ -20,7 +20,7 @@ use schedule_text::fields::frames::read_hex;
 use std::alloc::Global;
 
 /// Appends bytes in lower-case hex, or memory is wanting.
-fn put_hex(alloc: Global, out: &mut Vec<u8>, bytes: &[u8]) -> Result<(), NoMemory>
+pub(crate) fn put_hex(alloc: Global, out: &mut Vec<u8>, bytes: &[u8]) -> Result<(), NoMemory>
     ensures { OnOk result (out.new.items ≡ out.old.items ++ encode_lower bytes.now) }
 {
     let text = hex::encode(alloc, bytes)?;

@@ -1,4 +1,4 @@
-//! Arguments that call neither a node nor a client.
+//! Arguments that call neither a node nor a client, nor are another command.
 
 use crate::frames::{FILE, SEED, TRANSACTION};
 use crate::support::{Given, run_given};
@@ -106,10 +106,18 @@ const ROWS: &[&[&str]] = &[
     &["recover", "1", SEED, "0", TRANSACTION, ""],
     &["recover", "1", SEED, "0", TRANSACTION, "5"],
     &["recover", "1", SEED, "0", TRANSACTION, "5A"],
+    // The same of a certificate that is to be told.
+    &["certify", "1", SEED, "0", TRANSACTION],
+    &["certify", "17", SEED, "0", TRANSACTION, "5a"],
+    &["certify", "1", SEED, "0", TRANSACTION, "5A"],
+    &["certify", "1", SEED, "0", "w:a:x1"],
+    // Nobody confirms by words.
+    &["confirm", "5a"],
     // Another name.
     &["clients", "1", SEED, "0", "r:a"],
     &["forms", "1", SEED, "0", "r:a"],
     &["recovers", "1", SEED, "0", TRANSACTION, "5a"],
+    &["certifies", "1", SEED, "0", TRANSACTION, "5a"],
 ];
 
 #[test]

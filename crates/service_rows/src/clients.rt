@@ -1,29 +1,20 @@
 //! Clients that carry a transaction through.
 
-use crate::frames::{FILE, FIRST, NONE, VOTE, WRITEBACK};
+use crate::frames::{CLIENT_SEED, FILE, FIRST, VOTE, WRITEBACK};
 use crate::support::{Answer, Given, Row, are_answered, run_given};
 use basil_cli::status::Status;
 use schedule_text::reason::Reason;
 use std::alloc::Global;
 use std::test::Fail;
 
-/// The SEED of client 1.
-const SEED: &str = "c1c1c1c1c1c1c1c1c1c1c1c1c1c1c1c1c1c1c1c1c1c1c1c1c1c1c1c1c1c1c1c1";
-
 /// A seed that isn't the client's.
 const OTHER: &str = "a1a1a1a1a1a1a1a1a1a1a1a1a1a1a1a1a1a1a1a1a1a1a1a1a1a1a1a1a1a1a1a1";
 
 /// It writes `x1` to `a`, as client 1 from leaf 0 on.
-const WRITE: &[&str] = &["client", "1", SEED, "0", "w:a:x1"];
+const WRITE: &[&str] = &["client", "1", CLIENT_SEED, "0", "w:a:x1"];
 
 /// It reads `a`.
-const READ: &[&str] = &["client", "1", SEED, "0", "r:a"];
-
-/// The replica votes to commit, and takes the writeback.
-const VOTED: Given = Given {
-    connections: &[VOTE, NONE],
-    ..Given::NOTHING
-};
+const READ: &[&str] = &["client", "1", CLIENT_SEED, "0", "r:a"];
 
 /// The replica votes to commit, and is silent from then on.
 const VOTED_ONCE: Given = Given {
@@ -31,22 +22,16 @@ const VOTED_ONCE: Given = Given {
     ..Given::NOTHING
 };
 
-/// No link is made: a client asks fewer times than there are calls.
-const SILENT: Given = Given {
-    failing_links: &[1, 2, 3, 4, 5, 6, 7, 8, 9, 10, 11, 12, 13, 14, 15, 16],
-    ..VOTED
-};
-
 /// The file can't be read.
 const UNREAD: Given = Given {
     failing_reads: &[1],
-    ..VOTED
+    ..Given::VOTED
 };
 
 /// The sink can't be written.
 const UNWRITTEN: Given = Given {
     failing_writes: &[1],
-    ..VOTED
+    ..Given::VOTED
 };
 
 const REFUSED_CALL: Status = Status::BadInput {
@@ -68,7 +53,13 @@ const UNDECIDED: Status = Status::Undecided { replies: 0 };
 
 const ROWS: &[Row] = &[
     // The transaction commits, and its certificate is told to the replica.
-    (WRITE, VOTED, Status::Done, "commit\n", &[FIRST, WRITEBACK]),
+    (
+        WRITE,
+        Given::VOTED,
+        Status::Done,
+        "commit\n",
+        &[FIRST, WRITEBACK],
+    ),
     // That it isn't taken changes nothing.
     (
         WRITE,
@@ -78,20 +69,20 @@ const ROWS: &[Row] = &[
         &[FIRST, WRITEBACK],
     ),
     // No replica is reached, with a write and with a read.
-    (WRITE, SILENT, UNDECIDED, "undecided 0\n", &[]),
-    (READ, SILENT, UNDECIDED, "undecided 0\n", &[]),
+    (WRITE, Given::SILENT, UNDECIDED, "undecided 0\n", &[]),
+    (READ, Given::SILENT, UNDECIDED, "undecided 0\n", &[]),
     // No leaf is left for the first stage.
     (
-        &["client", "1", SEED, "32", "w:a:x1"],
-        VOTED,
+        &["client", "1", CLIENT_SEED, "32", "w:a:x1"],
+        Given::VOTED,
         REFUSED_CALL,
         "line 1 reason 9\n",
         &[],
     ),
     // There is no leaf 33 with height 5.
     (
-        &["client", "1", SEED, "33", "w:a:x1"],
-        VOTED,
+        &["client", "1", CLIENT_SEED, "33", "w:a:x1"],
+        Given::VOTED,
         OUT_OF_RANGE,
         "line 1 reason 3\n",
         &[],
@@ -99,14 +90,14 @@ const ROWS: &[Row] = &[
     // The seed isn't the client's, or no such client is listed.
     (
         &["client", "1", OTHER, "0", "w:a:x1"],
-        VOTED,
+        Given::VOTED,
         WRONG_PARTY,
         "line 1 reason 6\n",
         &[],
     ),
     (
-        &["client", "2", SEED, "0", "w:a:x1"],
-        VOTED,
+        &["client", "2", CLIENT_SEED, "0", "w:a:x1"],
+        Given::VOTED,
         WRONG_PARTY,
         "line 1 reason 6\n",
         &[],
@@ -163,7 +154,7 @@ fn is_outcome(answer: &Answer) -> bool {
 fn has_outcome(alloc: Global, failing_links: &'static [u64]) -> Result<bool, Fail> {
     let given = Given {
         failing_links,
-        ..VOTED
+        ..Given::VOTED
     };
     let answer = run_given(alloc, WRITE, FILE.as_bytes(), &given)?;
     Ok(is_outcome(&answer))

@@ -1,45 +1,30 @@
 //! Transactions that are formed and handed over, and taken up.
 
-use crate::frames::{FILE, NONE, RECOVERY, SIGNED, TRANSACTION, VOTE, WRITEBACK};
+use crate::frames::{CLIENT_SEED, FILE, RECOVERY, SIGNED, TRANSACTION, WRITEBACK};
 use crate::support::{Given, Row, are_answered, run_given};
 use basil_cli::status::Status;
 use schedule_text::reason::Reason;
 use std::alloc::Global;
 use std::test::Fail;
 
-/// The SEED of client 1.
-const SEED: &str = "c1c1c1c1c1c1c1c1c1c1c1c1c1c1c1c1c1c1c1c1c1c1c1c1c1c1c1c1c1c1c1c1";
-
 /// It forms a transaction that writes `x1` to `a`.
-const FORM: &[&str] = &["form", "1", SEED, "0", "w:a:x1"];
+const FORM: &[&str] = &["form", "1", CLIENT_SEED, "0", "w:a:x1"];
 
 /// It takes up the transaction that it formed so.
-const RECOVER: &[&str] = &["recover", "1", SEED, "0", TRANSACTION, SIGNED];
+const RECOVER: &[&str] = &["recover", "1", CLIENT_SEED, "0", TRANSACTION, SIGNED];
 
 /// The same where its key has no leaf left.
-const SPENT: &[&str] = &["recover", "1", SEED, "32", TRANSACTION, SIGNED];
+const SPENT: &[&str] = &["recover", "1", CLIENT_SEED, "32", TRANSACTION, SIGNED];
 
 /// A transaction that neither reads nor writes, which has no good form.
 const EMPTY: &[&str] = &[
     "recover",
     "1",
-    SEED,
+    CLIENT_SEED,
     "0",
     "01000000000000000a010000",
     SIGNED,
 ];
-
-/// The replica votes to commit, and takes the writeback.
-const VOTED: Given = Given {
-    connections: &[VOTE, NONE],
-    ..Given::NOTHING
-};
-
-/// No link is made.
-const SILENT: Given = Given {
-    failing_links: &[1, 2, 3, 4, 5, 6, 7, 8, 9, 10, 11, 12],
-    ..VOTED
-};
 
 const REFUSED_CALL: Status = Status::BadInput {
     line: 1,
@@ -57,42 +42,42 @@ const ROWS: &[Row] = &[
     // What was handed over commits, and its certificate is told to the replica. No leaf is needed for that.
     (
         RECOVER,
-        VOTED,
+        Given::VOTED,
         Status::Done,
         "commit\n",
         &[RECOVERY, WRITEBACK],
     ),
     (
         SPENT,
-        VOTED,
+        Given::VOTED,
         Status::Done,
         "commit\n",
         &[RECOVERY, WRITEBACK],
     ),
     // No replica is reached.
-    (RECOVER, SILENT, UNDECIDED, "undecided 0\n", &[]),
+    (RECOVER, Given::SILENT, UNDECIDED, "undecided 0\n", &[]),
     // A client takes up nothing that has no good form.
-    (EMPTY, VOTED, REFUSED_CALL, "line 1 reason 9\n", &[]),
+    (EMPTY, Given::VOTED, REFUSED_CALL, "line 1 reason 9\n", &[]),
     // Its seat is tested as every client's: there is no client 2.
     (
-        &["recover", "2", SEED, "0", TRANSACTION, SIGNED],
-        VOTED,
+        &["recover", "2", CLIENT_SEED, "0", TRANSACTION, SIGNED],
+        Given::VOTED,
         WRONG_PARTY,
         "line 1 reason 6\n",
         &[],
     ),
     // A read has no choice, and nothing is formed.
     (
-        &["form", "1", SEED, "0", "r:a", "w:a:x1"],
-        SILENT,
+        &["form", "1", CLIENT_SEED, "0", "r:a", "w:a:x1"],
+        Given::SILENT,
         UNDECIDED,
         "undecided 0\n",
         &[],
     ),
     // No leaf is left to sign with.
     (
-        &["form", "1", SEED, "32", "w:a:x1"],
-        VOTED,
+        &["form", "1", CLIENT_SEED, "32", "w:a:x1"],
+        Given::VOTED,
         REFUSED_CALL,
         "line 1 reason 9\n",
         &[],
@@ -115,7 +100,7 @@ fn handed_over(alloc: Global) -> Result<Vec<u8>, Fail> {
 
 #[test]
 fn what_is_formed_is_told_to_nobody_else(rt: HostRuntime) -> Result<(), Fail> {
-    let answer = run_given(rt.alloc(), FORM, FILE.as_bytes(), &VOTED)?;
+    let answer = run_given(rt.alloc(), FORM, FILE.as_bytes(), &Given::VOTED)?;
     let line = handed_over(rt.alloc())?;
     assert!(rt; answer.status == Status::Done);
     assert!(rt; answer.text.as_slice() == line.as_slice());
@@ -137,8 +122,15 @@ fn ended_with(alloc: Global, size: usize) -> Result<Status, Fail> {
     for _ in 0..size {
         signature.push_str("5a")?;
     }
-    let arguments = ["recover", "1", SEED, "0", TRANSACTION, signature.as_str()];
-    Ok(run_given(alloc, &arguments, FILE.as_bytes(), &SILENT)?.status)
+    let arguments = [
+        "recover",
+        "1",
+        CLIENT_SEED,
+        "0",
+        TRANSACTION,
+        signature.as_str(),
+    ];
+    Ok(run_given(alloc, &arguments, FILE.as_bytes(), &Given::SILENT)?.status)
 }
 
 #[test]

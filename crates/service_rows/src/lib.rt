@@ -4,6 +4,8 @@
 #[cfg(test)]
 mod arguments;
 #[cfg(test)]
+mod certified;
+#[cfg(test)]
 mod clients;
 #[cfg(test)]
 mod frames;

@@ -1,5 +1,6 @@
 //! The top call over memory, whose links and clock tell what they give.
 
+use crate::frames::{NONE, VOTE};
 use basil_cli::run::run;
 use basil_cli::status::Status;
 use basil_types::clock::MemClock;
@@ -31,6 +32,18 @@ impl Given {
         failing_reads: &[],
         failing_writes: &[],
         failing_links: &[],
+    };
+
+    /// The replica votes to commit, and takes the writeback.
+    pub const VOTED: Given = Given {
+        connections: &[VOTE, NONE],
+        ..Given::NOTHING
+    };
+
+    /// No link is made: a client asks fewer times than there are calls.
+    pub const SILENT: Given = Given {
+        failing_links: &[1, 2, 3, 4, 5, 6, 7, 8, 9, 10, 11, 12, 13, 14, 15, 16],
+        ..Given::VOTED
     };
 }
 

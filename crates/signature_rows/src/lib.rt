@@ -1,7 +1,11 @@
-//! Tests that cross crates: one-time, LMS and HSS signatures of other programs, what is refused, and keyrings over
-//! them.
+//! Tests that cross crates: one-time, LMS and HSS signatures of other programs, what is refused, keyrings over them, and
+//! batches.
 #![tactic(auto)]
 
+#[cfg(test)]
+mod batch_texts;
+#[cfg(test)]
+mod batches;
 #[cfg(test)]
 mod hss;
 #[cfg(test)]

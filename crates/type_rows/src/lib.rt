@@ -1,18 +1,24 @@
-//! Tests of types and forms, as tables.
+//! Tests of types and forms, of a pool of messages, and of disks and their journals, as tables.
 #![tactic(auto)]
 
 #[cfg(test)]
 mod clusters;
 #[cfg(test)]
+mod disks;
+#[cfg(test)]
 mod forms;
 #[cfg(test)]
 mod ids;
+#[cfg(test)]
+mod journals;
 #[cfg(test)]
 mod links;
 #[cfg(test)]
 mod outside;
 #[cfg(test)]
 mod plain_keys;
+#[cfg(test)]
+mod pools;
 #[cfg(test)]
 mod transactions;
 #[cfg(test)]

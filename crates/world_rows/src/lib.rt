@@ -1,4 +1,4 @@
-//! Tests of a world: what its events come to, what it tells, and what ends it.
+//! Tests of a world: what its events come to, what it tells, and what ends it; and of the watch over it.
 #![tactic(auto)]
 
 #[cfg(test)]
@@ -15,5 +15,7 @@ mod telling;
 mod trials;
 #[cfg(test)]
 mod trusting;
+#[cfg(test)]
+mod watch;
 #[cfg(test)]
 mod worlds;

@@ -4,7 +4,7 @@ use Rattle.client_core.specs.Clients.{ClientSelf}
 use Rattle.client_core.specs.Seats.{self_at}
 use Rattle.client_link.specs.Running.{starting}
 use Rattle.basil_cli.specs.Clients.{time_at}
-use Rattle.basil_cli.proofs.ClientLaws.{formed, moment_of, on_ok, taken_up, taken_up_first, transacted}
+use Rattle.basil_cli.proofs.ClientLaws.{formed, moment_of, on_ok, taken_to_certify, taken_up, taken_up_first, transacted}
 use Rattle.basil_cli.proofs.client.run_task.Goals as goal
 
 pub returns-in-Transact-clause-ran : goal.returns-in-Transact-clause-ran
@@ -37,3 +37,17 @@ pub returns-in-Recover-clause-first : goal.returns-in-Recover-clause-first
 returns-in-Recover-clause-first g c w shows none =
     on_ok c.client_finish.result (λ slot at. taken_up_first w c.in-Recover.signed.transaction slot none at)
     (c.client_finish.ensures.slot w shows)
+
+pub returns-in-Certify-clause-ran : goal.returns-in-Certify-clause-ran
+returns-in-Certify-clause-ran g c w moments state shows ticks told =
+    let me : ClientSelf =
+    self_at c.args.client.now.seat (g.V.Verifier.accepted c.args.client.now.keys) (g.S.Signer.fixed c.args.client.now.pen) in
+    taken_to_certify c.client_finish-in-Certify.new.client me c.args.file.now (g.L.Links.told c.client_finish-in-Certify.new.links)
+    (starting w state) (g.L.Links.faults c.args.links.now) (g.L.Links.faults c.client_finish-in-Certify.new.links) (time_at moments)
+    c.args.task.now c.client_finish-in-Certify.result c.in-Certify.signed c.in-Certify.is
+    (c.client_finish-in-Certify.ensures.ran w state shows told)
+
+pub returns-in-Certify-clause-first : goal.returns-in-Certify-clause-first
+returns-in-Certify-clause-first g c w shows none =
+    on_ok c.client_finish-in-Certify.result (λ slot at. taken_up_first w c.in-Certify.signed.transaction slot none at)
+    (c.client_finish-in-Certify.ensures.slot w shows)
