@@ -5,20 +5,20 @@ use Rattle.std.proofs.lemmas.Grind.{common_steps}
 use Rattle.std.specs.Prelude.{IfOk, IfSome}
 use Rattle.basil_types.specs.Links.{LinkState}
 use Rattle.schedule_replay.proofs.RoadLaws.{carries_as, carries_none}
-use Rattle.basil_cli.specs.Answers.{Answers, Counts, IsTold}
+use Rattle.command_ends.specs.Answers.{Answers, Counts, IsTold}
 use Rattle.basil_cli.specs.Commands.{reads, runs, arguments_carried}
 use Rattle.basil_cli.specs.Linked.{ByArguments, OfBytes}
-use Rattle.basil_cli.specs.Outcome.{Outcome, TooLong, Usage, is_too_long, longest_input, unless_too_long}
+use Rattle.command_ends.specs.Outcome.{Outcome, TooLong, Usage, is_too_long, longest_input, unless_too_long}
 use Rattle.basil_cli.specs.Output.{outcome_with, output_of}
-use Rattle.basil_cli.specs.Parts.{outcome_is}
+use Rattle.command_ends.specs.Endings.{outcome_is}
 use Rattle.basil_cli.specs.Reading.{IsReadThrough, StopsSoon, StopsSoonFor, is_enough}
 use Rattle.basil_cli.specs.declared.command.Command.{Command}
 use Rattle.basil_cli.specs.declared.command.Command.TheVariants.{Replay, Generate, Load, Keys, Sign, Verify, HssKeys, HssSign, HssVerify}
 use Rattle.basil_cli.specs.declared.command.Command.TheVariants.{Batch, Unbatch, Check, Confirm, Audit}
-use Rattle.basil_cli.specs.declared.ending.Ending.{Ending}
+use Rattle.command_ends.specs.declared.ending.Ending.{Ending}
 use Rattle.basil_cli.specs.declared.input.InputFail.{InputFail}
-use Rattle.basil_cli.specs.declared.status.Status.{Status}
-use Rattle.basil_cli.specs.declared.status.Status.TheVariants as ends
+use Rattle.command_ends.specs.declared.status.Status.{Status}
+use Rattle.command_ends.specs.declared.status.Status.TheVariants as ends
 use Rattle.basil_cli.proofs.SourceLaws.{of_any, of_map}
 use Rattle.basil_cli.proofs.Stopping.{untaken_for}
 

@@ -5,16 +5,16 @@ use Rattle.basil_types.specs.Links.{LinkState}
 use Rattle.batch_text.specs.Findings.{FindingsAreReal}
 use Rattle.batch_text.specs.Texts.{kept_in}
 use Rattle.batch_text.specs.declared.reading.Kept.{Kept}
-use Rattle.basil_cli.specs.Answers.{Answers, Counts, Tells}
+use Rattle.command_ends.specs.Answers.{Answers, Counts, Tells}
 use Rattle.basil_cli.specs.Batches.{ToldReally, unbatched, unbatched_with}
 use Rattle.basil_cli.specs.Linked.{ByArguments, OfBytes}
-use Rattle.basil_cli.specs.Outcome.{TooLong, is_too_long, unless_too_long}
+use Rattle.command_ends.specs.Outcome.{TooLong, is_too_long, unless_too_long}
 use Rattle.basil_cli.specs.Output.{output_of}
 use Rattle.basil_cli.specs.declared.command.Claim.{Claim}
 use Rattle.basil_cli.specs.declared.command.Command.{Command}
 use Rattle.basil_cli.specs.declared.command.Command.TheVariants.{Unbatch}
-use Rattle.basil_cli.specs.declared.status.Status.{Status}
-use Rattle.basil_cli.specs.declared.status.Status.TheVariants as ends
+use Rattle.command_ends.specs.declared.status.Status.{Status}
+use Rattle.command_ends.specs.declared.status.Status.TheVariants as ends
 use Rattle.basil_cli.proofs.SourceLaws.{of_map}
 
 -- the statuses that tell a finding, but for a refusal

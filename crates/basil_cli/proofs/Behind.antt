@@ -25,11 +25,11 @@ use Rattle.schedule_text.specs.Limits.{longest_line}
 use Rattle.basil_cli.specs.Behind.{CanDecide, CanEnd, Closes, HasRead, IsBehind, IsDecided, Reads, ReadsOn}
 use Rattle.basil_cli.specs.Linked as links
 use Rattle.basil_cli.specs.Linked.{OfBytes}
-use Rattle.basil_cli.specs.Outcome.{Outcome, Written}
+use Rattle.command_ends.specs.Outcome.{Outcome, Written}
 use Rattle.basil_cli.specs.Output.{loaded, replayed}
-use Rattle.basil_cli.specs.Parts.{outcome_is}
+use Rattle.command_ends.specs.Endings.{outcome_is}
 use Rattle.basil_cli.specs.Reading.{IsReadThrough, StopsSoon, ended_lines, has_newline, is_settled, open_line}
-use Rattle.basil_cli.specs.declared.ending.Ending.{Ending}
+use Rattle.command_ends.specs.declared.ending.Ending.{Ending}
 use Rattle.basil_cli.specs.declared.input.InputFail.{InputFail}
 use Rattle.basil_cli.specs.declared.replay.Reading.{Reading}
 use Rattle.basil_cli.proofs.LineEnds.{ended_line, fresh_line, joined, longer_line, same_ended}

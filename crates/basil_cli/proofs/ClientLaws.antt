@@ -30,23 +30,24 @@ use Rattle.keyring.specs.declared.signer.Signer as signers
 use Rattle.party_seat.specs.Clients.{ClientSitsAt, client_in}
 use Rattle.party_seat.specs.declared.client.ClientSeat.{ClientSeat}
 use Rattle.schedule_text.specs.Tokens.{Token}
-use Rattle.basil_cli.specs.Answers.{IsTold, status_of}
+use Rattle.command_ends.specs.Answers.{IsTold, status_of}
 use Rattle.basil_cli.specs.Clients.{CallRefused, ClientStation, IsClientTold, IsRunEnding, Open, RanTo, Reported, SitsInFile}
 use Rattle.basil_cli.specs.Clients.{RunsTask, client_call_of, client_call_with, client_of, client_seat_of, client_seated, client_seated_in}
 use Rattle.basil_cli.specs.Clients.{client_station, end_of, outcome_of_run, formed_of, task_of, time_at}
 use Rattle.basil_cli.specs.Commands.{command_of}
 use Rattle.basil_cli.specs.Nodes.{node_of}
-use Rattle.basil_cli.specs.Outcome.{Outcome, TooLong, is_too_long, longest_input}
-use Rattle.basil_cli.specs.Parts.{IsWhole, outcome_is}
+use Rattle.command_ends.specs.Outcome.{Outcome, TooLong, is_too_long, longest_input}
+use Rattle.command_ends.specs.Endings.{outcome_is}
+use Rattle.basil_cli.specs.Parts.{IsWhole}
 use Rattle.basil_cli.specs.declared.client.ClientCall.{ClientCall}
 use Rattle.basil_cli.specs.declared.client.ClientTask.{ClientTask}
 use Rattle.basil_cli.specs.declared.client.ClientTask.TheVariants.{Transact, Form, Recover, Certify}
-use Rattle.basil_cli.specs.declared.ending.Ending.{Ending}
+use Rattle.command_ends.specs.declared.ending.Ending.{Ending}
 use Rattle.basil_cli.specs.declared.input.InputFail.{InputFail}
 use Rattle.basil_cli.specs.declared.input.Whole.TheVariants as whole
 use Rattle.basil_cli.specs.declared.node.NodeCall.{NodeCall}
-use Rattle.basil_cli.specs.declared.status.Status.{Status}
-use Rattle.basil_cli.specs.declared.status.Status.TheVariants as ends
+use Rattle.command_ends.specs.declared.status.Status.{Status}
+use Rattle.command_ends.specs.declared.status.Status.TheVariants as ends
 use Rattle.basil_cli.proofs.NodeLaws.{some_any, some_map}
 
 -- ---- arguments

@@ -12,18 +12,18 @@ use Rattle.schedule_replay.specs.Reports.{report}
 use Rattle.schedule_replay.specs.Roads.{Direct, Road, road_with}
 use Rattle.schedule_replay.specs.declared.fault.ReplayFault.{ReplayFault}
 use Rattle.schedule_replay.specs.declared.fault.ReplayFault.TheVariants as fault
-use Rattle.basil_cli.specs.Answers.{Answers, Counts, IsBrokenEnd, LoadedInPart, LoadedSafely, Tells, TookFault, TookSome}
-use Rattle.basil_cli.specs.Answers.{WroteSafely, WroteSome}
+use Rattle.command_ends.specs.Answers.{Answers, Counts, Tells, TookFault, TookSome}
+use Rattle.basil_cli.specs.ScheduleEnds.{IsBrokenEnd, LoadedInPart, LoadedSafely, WroteSafely, WroteSome}
 use Rattle.basil_cli.specs.Commands.{reads}
 use Rattle.basil_cli.proofs.SourceLaws.{of_map}
 use Rattle.basil_cli.specs.Linked.{ByRoads, ByArguments, OfBytes}
-use Rattle.basil_cli.specs.Outcome.{text_of}
+use Rattle.command_ends.specs.Outcome.{text_of}
 use Rattle.basil_cli.specs.Output.{load_text, loaded, output_of, replayed}
 use Rattle.basil_cli.specs.declared.command.Command.{Command}
 use Rattle.basil_cli.specs.declared.command.Command.TheVariants.{Replay, Load}
 use Rattle.basil_cli.specs.declared.command.LoadSize.{LoadSize}
-use Rattle.basil_cli.specs.declared.status.Status.{Status}
-use Rattle.basil_cli.specs.declared.status.Status.TheVariants as ends
+use Rattle.command_ends.specs.declared.status.Status.{Status}
+use Rattle.command_ends.specs.declared.status.Status.TheVariants as ends
 
 -- ---- reports
 

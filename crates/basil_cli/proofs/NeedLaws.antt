@@ -21,7 +21,7 @@ use Rattle.keyring_lms.specs.Keys.{is_same}
 use Rattle.keyring_lms.specs.Replay.{replay_accepts, listed_accepts}
 use Rattle.lms_sign.specs.declared.sets.LmsSet.{LmsSet}
 use Rattle.basil_cli.specs.Checking.{proved, proved_by}
-use Rattle.basil_cli.specs.Outcome.{Refused}
+use Rattle.command_ends.specs.Outcome.{Refused}
 use Rattle.basil_cli.specs.Signers.{all_accepted, signer, signers, own_refusal}
 
 -- ---- no key

@@ -22,20 +22,21 @@ use Rattle.party_seat.specs.declared.fault.SeatFault.{SeatFault}
 use Rattle.party_seat.specs.declared.station.NodeSeat.{NodeSeat}
 use Rattle.replica_core.specs.Replicas.{ReplicaSelf}
 use Rattle.schedule_text.specs.Tokens.{Token}
-use Rattle.basil_cli.specs.Answers.{Answers, Counts, IsTold}
+use Rattle.command_ends.specs.Answers.{Answers, Counts, IsTold}
 use Rattle.basil_cli.specs.Commands.{arguments_read, command_of}
 use Rattle.basil_cli.specs.Nodes.{EndsAt, EndsServed, HasWritten, IsNodeTold, IsServed, TellsServed, WroteAt, WroteServed}
 use Rattle.basil_cli.specs.Nodes.{call_of, node_of, seated_at, seated_in, served_text, station_of, stop_in, stop_told}
-use Rattle.basil_cli.specs.Outcome.{Outcome, Written, is_too_long, longest_input, text_of, TooLong}
-use Rattle.basil_cli.specs.Parts.{IsWhole, outcome_is}
+use Rattle.command_ends.specs.Outcome.{Outcome, Written, is_too_long, longest_input, text_of, TooLong}
+use Rattle.command_ends.specs.Endings.{outcome_is}
+use Rattle.basil_cli.specs.Parts.{IsWhole}
 use Rattle.basil_cli.specs.declared.command.Command.{Command}
-use Rattle.basil_cli.specs.declared.ending.Ending.{Ending}
+use Rattle.command_ends.specs.declared.ending.Ending.{Ending}
 use Rattle.basil_cli.specs.declared.input.InputFail.{InputFail}
 use Rattle.basil_cli.specs.declared.input.InputFail.TheVariants as input
 use Rattle.basil_cli.specs.declared.input.Whole.TheVariants as whole
 use Rattle.basil_cli.specs.declared.node.NodeCall.{NodeCall}
-use Rattle.basil_cli.specs.declared.status.Status.{Status}
-use Rattle.basil_cli.specs.declared.status.Status.TheVariants as ends
+use Rattle.command_ends.specs.declared.status.Status.{Status}
+use Rattle.command_ends.specs.declared.status.Status.TheVariants as ends
 
 -- ---- arguments
 

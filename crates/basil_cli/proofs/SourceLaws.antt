@@ -2,7 +2,7 @@
 use Rattle.std.proofs.Common.{◌≡◌, ◌∙◌, ℕ, zero, suc, ◌<◌, List, [], ◌∷◌, length, Option, Some, None, refl, ap, arith}
 use Rattle.std.specs.Prelude.{IfSome}
 use Rattle.basil_cli.specs.Linked.{OfBytes}
-use Rattle.basil_cli.specs.Outcome.{Outcome, TooLong, longest_input}
+use Rattle.command_ends.specs.Outcome.{Outcome, TooLong, longest_input}
 use Rattle.basil_cli.specs.Output.{output_of}
 use Rattle.basil_cli.specs.Parts.{IsWhole}
 use Rattle.basil_cli.specs.declared.command.Command.{Command}

@@ -6,7 +6,7 @@ use Rattle.std.specs.Io.KnownBytes.{Consumes, IsAtEnd, Keeps}
 use Rattle.std.proofs.Math.Seq.{take-append_seam}
 use Rattle.std.proofs.lemmas.Grind.{common_steps}
 use Rattle.std.proofs.lemmas.List.{append_cancel_right, length-append, length-take, take-append-drop, take-append-le}
-use Rattle.basil_cli.specs.Outcome.{longest_input, is_too_long}
+use Rattle.command_ends.specs.Outcome.{longest_input, is_too_long}
 use Rattle.basil_cli.specs.Reading.{IsReadThrough, StopsSoon, StopsSoonFor, is_enough, is_settled, longest_piece}
 use Rattle.basil_cli.specs.declared.command.Command.{Command}
 use Rattle.schedule_replay.specs.Roads.{Road}

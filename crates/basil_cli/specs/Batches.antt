@@ -11,7 +11,7 @@ use Rattle.batch_text.specs.declared.finding.PlaceFinding.TheVariants as finding
 use Rattle.batch_text.specs.declared.reading.Kept.{Kept}
 use Rattle.lms_sign.specs.Signing.{signature_of}
 use Rattle.premise_watch.specs.declared.broken.Broken.TheVariants.{Collision}
-use Rattle.basil_cli.specs.Outcome.{Outcome, BadLine, Broken, Refused, Written, text_of}
+use Rattle.command_ends.specs.Outcome.{Outcome, BadLine, Broken, Refused, Written, text_of}
 use Rattle.basil_cli.specs.Signatures.{accepted, tree_named}
 use Rattle.basil_cli.specs.declared.command.Claim.{Claim}
 use Rattle.basil_cli.specs.declared.command.SigningLeaf.{SigningLeaf}

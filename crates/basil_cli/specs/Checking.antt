@@ -30,7 +30,7 @@ use Rattle.txn_meta.specs.declared.form.FormFault.{FormFault}
 use Rattle.schedule_text.specs.TextLines.{lines_of}
 use Rattle.schedule_text.specs.declared.reason.Reason.{Reason}
 use Rattle.schedule_text.specs.declared.reason.Reason.TheVariants.{NoHeader, Misspelt, OutOfSize}
-use Rattle.basil_cli.specs.Outcome.{Outcome, BadLine, Written, Refused}
+use Rattle.command_ends.specs.Outcome.{Outcome, BadLine, Written, Refused}
 use Rattle.basil_cli.specs.declared.check.Ring.{Ring}
 use Rattle.basil_cli.specs.declared.check.Ring.TheVariants as ring
 

@@ -33,22 +33,22 @@ use Rattle.schedule_text.specs.Fields.{number_in}
 use Rattle.schedule_text.specs.Tokens.{Token}
 use Rattle.schedule_text.specs.declared.reason.Reason.TheVariants.{RefusedCall}
 use Rattle.basil_cli.specs.Ranges.{seed_size, most_leaves}
-use Rattle.basil_cli.specs.Answers.{Answers, Counts, IsTold}
+use Rattle.command_ends.specs.Answers.{Answers, Counts, IsTold}
 use Rattle.basil_cli.specs.Commands.{hex_of, said}
 use Rattle.basil_cli.specs.Files.{file_reason}
 use Rattle.basil_cli.specs.Nodes.{node_of, seat_reason}
-use Rattle.basil_cli.specs.Outcome.{Outcome, BadLine, TooLong, Undecided, Written, is_too_long}
-use Rattle.basil_cli.specs.Parts.{outcome_is}
+use Rattle.command_ends.specs.Outcome.{Outcome, BadLine, TooLong, Undecided, Written, is_too_long}
+use Rattle.command_ends.specs.Endings.{outcome_is}
 use Rattle.basil_cli.specs.declared.client.ClientCall.{ClientCall}
 use Rattle.basil_cli.specs.declared.client.ClientTask.{ClientTask}
 use Rattle.basil_cli.specs.declared.client.ClientTask.TheVariants.{Transact, Form, Recover, Certify}
-use Rattle.basil_cli.specs.declared.ending.Ending.{Ending}
+use Rattle.command_ends.specs.declared.ending.Ending.{Ending}
 use Rattle.basil_cli.specs.declared.input.InputFail.{InputFail}
 use Rattle.basil_cli.specs.declared.input.InputFail.TheVariants as input
 use Rattle.basil_cli.specs.declared.parties.PartyCall.{PartyCall}
 use Rattle.basil_cli.specs.declared.parties.PartyCall.TheVariants as parties
-use Rattle.basil_cli.specs.declared.status.Status.{Status}
-use Rattle.basil_cli.specs.declared.status.Status.TheVariants as ends
+use Rattle.command_ends.specs.declared.status.Status.{Status}
+use Rattle.command_ends.specs.declared.status.Status.TheVariants as ends
 
 -- ---- its arguments
 
@@ -193,7 +193,8 @@ pub record RanTo (s : ClientStation) (task : ClientTask) (moments : List ℕ) (s
 
 -- and told it
 pub record ToldRun (s : ClientStation) (task : ClientTask) (moments : List ℕ) (state : LinkState)
-    (told : Option LinkState) (counts : Counts) (status : Status) (taken_before taken_now : Option (List ℕ)) : Type 0 where
+    (told : Option LinkState) (counts : Counts) (status : Status) (taken_before taken_now : Option (List ℕ)) :
+    Type 0 where
   pub outcome : Outcome
   pub ran : RanTo s task moments state told counts.links_before counts.links_now outcome
   pub answers : Answers status outcome counts taken_before taken_now

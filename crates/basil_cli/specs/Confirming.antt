@@ -8,7 +8,7 @@ use Rattle.schedule_text.specs.TextLines.{behind_line, line_in}
 use Rattle.schedule_text.specs.declared.reason.Reason.{Reason}
 use Rattle.basil_cli.specs.Checking.{judged, writeback_on}
 use Rattle.basil_cli.specs.Files.{file_reason}
-use Rattle.basil_cli.specs.Outcome.{Outcome, BadLine}
+use Rattle.command_ends.specs.Outcome.{Outcome, BadLine}
 
 -- by the file's public keys
 abbrev pub judged_in : Listing → Result WritebackValue Reason → Outcome

@@ -1,6 +1,5 @@
 pub mod Ranges
 pub mod Commands
-pub mod Outcome
 pub mod Signatures
 pub mod Batches
 pub mod Checking
@@ -8,7 +7,7 @@ pub mod Files
 pub mod Confirming
 pub mod Signers
 pub mod Output
-pub mod Answers
+pub mod ScheduleEnds
 pub mod Reading
 pub mod Parts
 pub mod Behind

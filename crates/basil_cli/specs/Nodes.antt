@@ -22,17 +22,17 @@ use Rattle.schedule_text.specs.Tokens.{Token}
 use Rattle.schedule_text.specs.declared.reason.Reason.{Reason}
 use Rattle.schedule_text.specs.declared.reason.Reason.TheVariants.{OutOfRange, WrongParty}
 use Rattle.basil_cli.specs.Ranges.{seed_size, most_leaves}
-use Rattle.basil_cli.specs.Answers.{IsTold}
+use Rattle.command_ends.specs.Answers.{IsTold}
 use Rattle.basil_cli.specs.Commands.{hex_of, said}
 use Rattle.basil_cli.specs.Files.{file_reason}
-use Rattle.basil_cli.specs.Outcome.{Outcome, BadLine, TooLong, Written, is_too_long}
-use Rattle.basil_cli.specs.Parts.{outcome_is}
-use Rattle.basil_cli.specs.declared.ending.Ending.{Ending}
+use Rattle.command_ends.specs.Outcome.{Outcome, BadLine, TooLong, Written, is_too_long}
+use Rattle.command_ends.specs.Endings.{outcome_is}
+use Rattle.command_ends.specs.declared.ending.Ending.{Ending}
 use Rattle.basil_cli.specs.declared.input.InputFail.{InputFail}
 use Rattle.basil_cli.specs.declared.input.InputFail.TheVariants as input
 use Rattle.basil_cli.specs.declared.node.NodeCall.{NodeCall}
-use Rattle.basil_cli.specs.declared.status.Status.{Status}
-use Rattle.basil_cli.specs.declared.status.Status.TheVariants as ends
+use Rattle.command_ends.specs.declared.status.Status.{Status}
+use Rattle.command_ends.specs.declared.status.Status.TheVariants as ends
 
 -- ---- its arguments
 

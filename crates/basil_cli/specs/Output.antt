@@ -14,7 +14,7 @@ use Rattle.basil_cli.specs.Batches.{batched, unbatched}
 use Rattle.basil_cli.specs.Checking.{checked}
 use Rattle.basil_cli.specs.Commands.{command_of}
 use Rattle.basil_cli.specs.Confirming.{confirmed}
-use Rattle.basil_cli.specs.Outcome.{Outcome, Usage, BadLine, Written, Broken, Full, Stray, unless_too_long}
+use Rattle.command_ends.specs.Outcome.{Outcome, Usage, BadLine, Written, Broken, Full, Stray, unless_too_long}
 use Rattle.basil_cli.specs.Signatures.{keys_made, signed, verified, hss_keys_made, hss_signed, hss_verified}
 use Rattle.basil_cli.specs.declared.command.Command.{Command}
 use Rattle.basil_cli.specs.declared.command.LoadSize.{LoadSize}

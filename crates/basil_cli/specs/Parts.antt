@@ -4,26 +4,11 @@ use Rattle.frame_views.specs.Shown.{writeback_of}
 use Rattle.frame_views.specs.Values.{WritebackValue}
 use Rattle.frame_views.specs.declared.frames.views.WritebackView.{WritebackView}
 use Rattle.schedule_text.specs.declared.reason.Reason.{Reason}
-use Rattle.basil_cli.specs.Outcome.{Outcome, BadLine, Written, Broken, Refused, RefusedAt, Stray, Full}
-use Rattle.basil_cli.specs.Outcome.{Undecided, TooLong}
-use Rattle.basil_cli.specs.Outcome.{longest_input}
+use Rattle.command_ends.specs.Outcome.{longest_input}
 use Rattle.basil_cli.specs.declared.input.InputFail.{InputFail}
 use Rattle.basil_cli.specs.declared.input.InputFail.TheVariants as input
 use Rattle.basil_cli.specs.declared.input.Whole.{Whole}
 use Rattle.basil_cli.specs.declared.input.Whole.TheVariants as whole
-use Rattle.basil_cli.specs.declared.ending.Ending.{Ending}
-use Rattle.basil_cli.specs.declared.ending.Ending.TheVariants as ending
-
-abbrev pub outcome_is : Ending → Outcome
-outcome_is (ending.BadLine line reason) = BadLine line reason
-outcome_is (ending.Written text) = Written text
-outcome_is (ending.Broken broken) = Broken broken
-outcome_is (ending.Refused reason) = Refused reason
-outcome_is (ending.RefusedAt refusal) = RefusedAt refusal
-outcome_is (ending.Stray line) = Stray line
-outcome_is (ending.Full messages bytes) = Full messages bytes
-outcome_is (ending.Undecided replies) = Undecided replies
-outcome_is ending.TooLong = TooLong
 
 -- whether a link failed
 abbrev pub is_link_fail : {A : Type 0} → Result A InputFail → Bool

@@ -5,7 +5,7 @@ use Rattle.std.specs.Prelude.{Option, Some, None, is_err, ⊤}
 use Rattle.std.specs.List.{list_any, slice_split}
 use Rattle.schedule_replay.specs.Stages.{Begins, run_lines}
 use Rattle.schedule_text.specs.Limits.{longest_line}
-use Rattle.basil_cli.specs.Outcome.{is_too_long}
+use Rattle.command_ends.specs.Outcome.{is_too_long}
 use Rattle.basil_cli.specs.declared.command.Command.{Command}
 use Rattle.basil_cli.specs.declared.command.Command.TheVariants.{Replay}
 use Rattle.schedule_replay.specs.Roads.{Road, road_with}

@@ -9,7 +9,7 @@ use Rattle.lms_sign.specs.Tree.{Tree, tree_of, public_of}
 use Rattle.lms_sign.specs.Numbers.{refusal_number}
 use Rattle.lms_sign.specs.Verifying.{first_refusal}
 use Rattle.lms_sign.specs.declared.verifying.LmsRefusal.{LmsRefusal}
-use Rattle.basil_cli.specs.Outcome.{Outcome, Written, Refused, RefusedAt}
+use Rattle.command_ends.specs.Outcome.{Outcome, Written, Refused, RefusedAt}
 use Rattle.basil_cli.specs.declared.command.Claim.{Claim}
 use Rattle.basil_cli.specs.declared.command.HssMaterial.{HssMaterial}
 use Rattle.basil_cli.specs.declared.command.KeyMaterial.{KeyMaterial}

@@ -2,14 +2,14 @@
 
 ghost use Rattle.std.specs.Prelude.{◌≡◌, ◌≤◌, IfOk, length};
 ghost use Rattle.audit_text.specs.Findings.{finding_of};
-ghost use Rattle.basil_cli.specs.Outcome.{longest_input};
+ghost use Rattle.command_ends.specs.Outcome.{longest_input};
 ghost use Rattle.basil_cli.specs.Output.{audited};
-ghost use Rattle.basil_cli.specs.Parts.{outcome_is};
+ghost use Rattle.command_ends.specs.Endings.{outcome_is};
 
-use crate::ending::Ending;
 use audit_text::finding::{Finding, audit_text};
 use basil_types::bytes::Bytes;
 use basil_types::memory::NoMemory;
+use command_ends::ending::Ending;
 use std::alloc::Global;
 
 /// What the bytes of an input to `audit` lead to.

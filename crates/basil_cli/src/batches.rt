@@ -4,11 +4,10 @@ ghost use Rattle.std.specs.Prelude.{◌≡◌, ◌<◌, ◌≤◌, IfOk, length}
 ghost use Rattle.batch_text.specs.Texts.{signatures_of};
 ghost use Rattle.basil_cli.specs.Batches.{batched, sealed_by, told, unbatched};
 ghost use Rattle.basil_cli.specs.Commands.{IsLeaf};
-ghost use Rattle.basil_cli.specs.Outcome.{Written, longest_input};
-ghost use Rattle.basil_cli.specs.Parts.{outcome_is};
+ghost use Rattle.command_ends.specs.Outcome.{Written, longest_input};
+ghost use Rattle.command_ends.specs.Endings.{outcome_is};
 
 use crate::command::{Claim, SigningLeaf};
-use crate::ending::Ending;
 use crate::signatures::{accepted, key_at};
 use basil_types::bytes::Bytes;
 use basil_types::memory::NoMemory;
@@ -17,6 +16,7 @@ use batch_sign::{Batch, BatchFault};
 use batch_text::finding::{PlaceFinding, judge};
 use batch_text::reading::{BatchTextFault, read_batch, read_kept};
 use batch_text::writing::signature_lines;
+use command_ends::ending::Ending;
 use keyring_lms::LmsPen;
 use premise_watch::broken::Broken;
 use std::alloc::Global;

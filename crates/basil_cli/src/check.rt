@@ -9,14 +9,15 @@ ghost use Rattle.basil_cli.specs.Checking as checking;
 ghost use Rattle.basil_cli.specs.Checking.{accepted_by, proved_by, judged, judged_alone};
 ghost use Rattle.basil_cli.specs.Checking.{framed, writeback_on, checked_under, headed, checked};
 ghost use Rattle.schedule_text.specs.TextLines.{lines_of};
-ghost use Rattle.basil_cli.specs.Parts.{outcome_is, Framed};
+ghost use Rattle.command_ends.specs.Endings.{outcome_is};
+ghost use Rattle.basil_cli.specs.Parts.{Framed};
 
-use crate::ending::Ending;
 use crate::proving::{judge_by, judge_by_replay};
 use basil_types::cluster::Cluster;
 use basil_types::memory::NoMemory;
 use basil_types::transaction::TransactionView;
 use batch_sign::BatchKeys;
+use command_ends::ending::Ending;
 use frame_views::certificates::CertificateView;
 use frame_views::frames::{MessageView, WritebackView};
 use keyring::plain::PlainKeys;

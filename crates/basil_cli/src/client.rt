@@ -1,5 +1,5 @@
-//! `client`, `form`, `recover` and `certify`: a client of a cluster's file that carries one transaction through, or only
-//! forms it, or carries through one that was formed.
+//! `client`, `form`, `recover` and `certify`: a client of a cluster's file that carries one transaction through, or
+//! only forms it, or carries through one that was formed.
 
 ghost use Rattle.std.specs.Prelude.{◌≡◌, ◌⊎◌, ◌<◌, ◌≤◌, ℕ, List, length, true, Some, Ok, Err, IfOk, IfErr, IfSome};
 ghost use Rattle.std.specs.Prelude.{map, string_bytes};
@@ -10,7 +10,7 @@ ghost use Rattle.basil_types.specs.Links.{LinkState};
 ghost use Rattle.cluster_file.specs.Text.{cluster_in};
 ghost use Rattle.party_seat.specs.Clients.{client_in};
 ghost use Rattle.schedule_text.specs.Fields.{number_in};
-ghost use Rattle.basil_cli.specs.Answers.{Answers, counted, is_outcomes};
+ghost use Rattle.command_ends.specs.Answers.{Answers, counted, is_outcomes};
 ghost use Rattle.basil_cli.specs.Clients as clients;
 ghost use Rattle.basil_cli.specs.Clients.{ClientStation, IsClientTold, IsRunEnding, RanTo, SeatTold, SitsInFile};
 ghost use Rattle.basil_cli.specs.Clients.{RunsTask, ToldRun, client_seat_of, client_seated, client_seated_in};
@@ -21,17 +21,14 @@ ghost use Rattle.client_link.specs.Running.{starting};
 ghost use Rattle.client_core.specs.Shown.{own, ShowsClient};
 ghost use Rattle.client_core.specs.Clients.{ClientValue};
 ghost use Rattle.basil_cli.specs.Commands.{said};
-ghost use Rattle.basil_cli.specs.Outcome.{is_too_long};
-ghost use Rattle.basil_cli.specs.Parts.{outcome_is};
+ghost use Rattle.command_ends.specs.Outcome.{is_too_long};
+ghost use Rattle.command_ends.specs.Endings.{outcome_is};
 ghost use Rattle.basil_cli.specs.Reading.{IsReadThrough, StopsSoon};
 
 use crate::command::read_seed;
-use crate::ending::Ending;
 use crate::files::file_reason;
 use crate::input::{InputFail, Whole, read_whole};
 use crate::node::read_first_leaf;
-use crate::status::Status;
-use crate::writing::write_ending;
 use basil_types::bytes::Bytes;
 use basil_types::clock::Clock;
 use basil_types::limits::MOST_CLIENTS;
@@ -43,6 +40,9 @@ use client_core::Client;
 use client_link::{Aim, RunFault, Signed, client_finish, client_run};
 use client_text::{Plan, certify, hand_over, read_plan, read_signed, report};
 use cluster_file::{ClusterFile, FileFault, read_cluster};
+use command_ends::ending::Ending;
+use command_ends::status::Status;
+use command_ends::writing::write_ending;
 use keyring::signer::Signer;
 use keyring::verifier::Verifier;
 use party_seat::{ClientSeat, SeatFault, client_of};
@@ -426,8 +426,8 @@ fn run_source<S: Source, L: Links, C: Clock>(
 }
 
 /// Does what a client is to do, whose cluster's file is the source, and writes what came of it: what became of its
-/// transaction and what that read, or, where it was only formed, the transaction and its signature, or its certificate; or
-/// why it doesn't come so far.
+/// transaction and what that read, or, where it was only formed, the transaction and its signature, or its certificate;
+/// or why it doesn't come so far.
 pub(crate) fn run_client<S: Source, K: Sink, L: Links, C: Clock>(
     alloc: Global,
     call: &ClientCall,

@@ -3,18 +3,18 @@
 ghost use Rattle.std.specs.Prelude.{◌≡◌, IfOk, Ok};
 ghost use Rattle.basil_cli.specs.Checking.{judged};
 ghost use Rattle.basil_cli.specs.Confirming.{confirmed, confirmed_by};
-ghost use Rattle.basil_cli.specs.Parts.{outcome_is};
+ghost use Rattle.command_ends.specs.Endings.{outcome_is};
 ghost use Rattle.cluster_file.specs.Text.{cluster_in};
 ghost use Rattle.frame_views.specs.Fitting.{FitsWriteback, bounds_of};
 ghost use Rattle.frame_views.specs.Shown.{writeback_of};
 ghost use Rattle.keyring_lms.specs.Keys.{lms_accepts};
 
 use crate::check::read_writeback;
-use crate::ending::Ending;
 use crate::files::file_reason;
 use crate::proving::judge_by;
 use basil_types::memory::NoMemory;
 use cluster_file::{ClusterFile, FileFault, read_cluster};
+use command_ends::ending::Ending;
 use frame_views::frames::WritebackView;
 use keyring_lms::LmsKeys;
 use schedule_text::fields::frames::read_hex;

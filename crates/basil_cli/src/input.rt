@@ -2,7 +2,7 @@
 
 ghost use Rattle.std.specs.Prelude.{◌≡◌, ◌<◌, IfOk, IfSome, IsErrOf};
 ghost use Rattle.basil_types.specs.Causes.{Rose};
-ghost use Rattle.basil_cli.specs.Outcome.{is_too_long};
+ghost use Rattle.command_ends.specs.Outcome.{is_too_long};
 ghost use Rattle.basil_cli.specs.Parts.{IsWhole, IsShort};
 ghost use Rattle.basil_cli.specs.Reading.{IsReadThrough, StopsSoon};
 

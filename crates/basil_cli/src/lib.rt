@@ -7,7 +7,6 @@ mod check;
 mod client;
 mod command;
 mod confirm;
-mod ending;
 mod files;
 mod input;
 mod node;
@@ -16,6 +15,5 @@ mod proving;
 mod replay;
 pub mod run;
 mod signatures;
-pub mod status;
-mod texts;
-mod writing;
+
+pub use command_ends::status;

@@ -10,9 +10,9 @@ ghost use Rattle.party_seat.specs.Serving.{Begins, HasStopped, serves_at};
 ghost use Rattle.party_seat.specs.Stations.{Station};
 ghost use Rattle.schedule_replay.specs.Outcomes as schedules;
 ghost use Rattle.schedule_replay.specs.Roads.{Direct, Uses};
-ghost use Rattle.basil_cli.specs.Answers.{Answers, IsBrokenEnd, IsTold};
-ghost use Rattle.basil_cli.specs.Answers.{LoadedInPart, LoadedSafely, TookFault, WroteSafely, WroteSome};
-ghost use Rattle.basil_cli.specs.Answers.{counted, is_outcomes};
+ghost use Rattle.command_ends.specs.Answers.{Answers, IsTold, TookFault, counted, is_outcomes};
+ghost use Rattle.command_ends.specs.Endings.{outcome_is};
+ghost use Rattle.command_ends.specs.Outcome.{is_too_long, longest_input};
 ghost use Rattle.basil_cli.specs.Batches.{ToldReally};
 ghost use Rattle.basil_cli.specs.Commands.{command_of, is_carried, runs, arguments_carried};
 ghost use Rattle.basil_cli.specs.Commands.{arguments_read, reads, HasLeaf};
@@ -20,9 +20,9 @@ ghost use Rattle.basil_cli.specs.Linked.{ByRoads, ByArguments, OfBytes};
 ghost use Rattle.basil_cli.specs.Clients.{CallsNone, ClientStation, IsClientTold, ToldRun, client_of, client_station};
 ghost use Rattle.basil_cli.specs.Nodes.{HasWritten, IsNodeTold, WroteAt, WroteServed, node_of, station_of};
 ghost use Rattle.basil_cli.specs.Nodes.{stop_told};
-ghost use Rattle.basil_cli.specs.Outcome.{is_too_long, longest_input};
 ghost use Rattle.basil_cli.specs.Output.{load_text, outcome_of, output_of};
-ghost use Rattle.basil_cli.specs.Parts.{is_link_fail, outcome_is};
+ghost use Rattle.basil_cli.specs.Parts.{is_link_fail};
+ghost use Rattle.basil_cli.specs.ScheduleEnds.{IsBrokenEnd, LoadedInPart, LoadedSafely, WroteSafely, WroteSome};
 ghost use Rattle.basil_cli.specs.declared.client.ClientCall.{ClientCall};
 ghost use Rattle.basil_cli.specs.declared.command.Claim.{Claim};
 ghost use Rattle.basil_cli.specs.declared.command.LoadSize.{LoadSize};
@@ -35,20 +35,20 @@ use crate::check::check;
 use crate::client::run_client;
 use crate::command::{Command, read_command};
 use crate::confirm::confirm;
-use crate::ending::Ending;
 use crate::input::{InputFail, Whole, read_whole};
 use crate::node::run_node;
 use crate::parties::{PartyCall, read_party};
 use crate::replay::{generate, load, replay};
 use crate::signatures::{hss_keys, hss_sign, hss_verify, keys, sign, verify};
-use crate::status::Status;
-use crate::writing::{write_ending, write_usage};
 use basil_types::clock::Clock;
 use basil_types::links::Links;
 use basil_types::memory::NoMemory;
 use basil_types::sink::Sink;
 use basil_types::source::Source;
 use batch_text::finding::findings_are_real;
+use command_ends::ending::Ending;
+use command_ends::status::Status;
+use command_ends::writing::{write_ending, write_usage};
 use schedule_replay::laws::{breaks_are_real, reports_are_safe};
 use std::alloc::Global;
 
@@ -426,7 +426,7 @@ pub fn run<S: Source, K: Sink, L: Links, C: Clock>(
     // the rules end it, it handled all, or, where a read or write of it failed, some from the front; each at the
     // clock's next moment, by the replica's rule of answer. The links' count rose by at least as many as those that
     // ended so, or stands at its last value. It wrote each answer, but for the end of the last where a write failed,
-    // and in the end how many envelopes it handled.
+    // and in the end how many envelopes it handled: of its key's leaves it used at most as many.
     ensures node_served { (call : NodeCall) (s : Station) (n : Node) →
         node_of (map string_bytes arguments.now) ≡ Some call → result ≡ Status.Done →
         IfSome (S.left source.old) (λ bytes.

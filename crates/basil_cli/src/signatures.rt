@@ -7,12 +7,12 @@ ghost use Rattle.basil_cli.specs.Signatures as signatures;
 ghost use Rattle.basil_cli.specs.Commands.{IsLeaf, numbers_in};
 ghost use Rattle.basil_cli.specs.Signatures.{keys_made, signed, verified, hss_keys_made, hss_signed, hss_verified};
 ghost use Rattle.basil_cli.specs.Signatures.{tree_named};
-ghost use Rattle.basil_cli.specs.Parts.{outcome_is};
+ghost use Rattle.command_ends.specs.Endings.{outcome_is};
 
 use crate::command::{Claim, HssMaterial, KeyMaterial, SigningLeaf};
-use crate::ending::Ending;
 use basil_types::bytes::Bytes;
 use basil_types::memory::NoMemory;
+use command_ends::ending::Ending;
 use hss_sign::{HssFault, HssKey, hss_verify as verify_levels};
 use lms_sign::LmsKey;
 use std::alloc::Global;

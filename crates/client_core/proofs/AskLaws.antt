@@ -4,7 +4,7 @@ use Rattle.std.specs.Prelude.{IfErr, IfOk, Result, Ok, Err}
 use Rattle.certificates.specs.declared.fault.FrameFault.{FrameFault}
 use Rattle.keyring.specs.Signing.{Signing}
 use Rattle.client_core.specs.declared.ask.AskFault.TheVariants.{Call, Frame}
-use Rattle.client_core.specs.declared.fault.CallFault.{CallFault}
+use Rattle.client_steps.specs.declared.fault.CallFault.{CallFault}
 use Rattle.client_core.specs.declared.held.Held.{Held}
 use Rattle.client_core.specs.declared.work.ClientPlan.{ClientPlan}
 use Rattle.client_core.specs.Asks.{IsPlannedAsk, by_call, by_frame, is_call_fault}

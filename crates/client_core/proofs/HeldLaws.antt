@@ -11,8 +11,8 @@ use Rattle.client_core.specs.declared.asking.Asking.{Asking}
 use Rattle.client_core.specs.declared.held.Formed.{Formed}
 use Rattle.client_core.specs.declared.held.Held.{Held}
 use Rattle.client_core.specs.declared.held.Slot.{Slot}
-use Rattle.client_core.specs.declared.fault.CallFault.{CallFault}
-use Rattle.client_core.specs.declared.steps.ReadStep.{ReadStep}
+use Rattle.client_steps.specs.declared.fault.CallFault.{CallFault}
+use Rattle.client_steps.specs.declared.steps.ReadStep.{ReadStep}
 use Rattle.client_core.specs.Steps.{by_step}
 use Rattle.node_steps.specs.Refusing.{unless}
 use Rattle.client_core.specs.Calls.{begun_slot, begin_done, by_slot, call_read, call_write, read_at, read_done, write_fault, write_done}

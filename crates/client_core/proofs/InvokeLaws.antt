@@ -12,7 +12,7 @@ use Rattle.node_steps.specs.Refusing.{unless, when}
 use Rattle.client_recover.specs.Counting.{replies_of}
 use Rattle.client_recover.specs.Pursuits.{invoke_message, outcome, to_log_shard}
 use Rattle.client_recover.specs.Taken.{PursuitValue}
-use Rattle.client_core.specs.declared.fault.CallFault.TheVariants.{NothingLogged}
+use Rattle.client_steps.specs.declared.fault.CallFault.TheVariants.{NothingLogged}
 use Rattle.client_core.specs.declared.held.Held.{Held}
 use Rattle.client_core.specs.declared.work.ClientPlan.{ClientPlan}
 use Rattle.client_core.specs.declared.work.Work.TheVariants.{Nothing}

@@ -4,12 +4,10 @@ mod ShowingLaws
 mod StepLaws
 mod HeldLaws
 mod FindingLaws
-mod AddressLaws
 mod PlanLaws
 mod ReadingLaws
 mod PreparingLaws
 mod RecoverLaws
-mod SendingLaws
 mod SettleLaws
 mod InvokeLaws
 mod StandingLaws

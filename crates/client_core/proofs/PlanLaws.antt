@@ -1,11 +1,14 @@
 -- What a plan of a work does, and what it needs.
 use Rattle.std.proofs.Common.{◌≡◌, ◌∙◌, ◌+◌, ℕ, List, [], ◌++◌, length, map, refl, sym, ap, subst}
 use Rattle.std.specs.Prelude.{Option}
+use Rattle.basil_types.specs.declared.outbox.Envelope.{Envelope}
 use Rattle.basil_types.specs.declared.outbox.Outbox.{Outbox}
+use Rattle.basil_types.specs.declared.party.Party.{Party}
 use Rattle.basil_types.specs.Words.{words_of}
 use Rattle.keyring.specs.Signing.{Signing}
 use Rattle.node_steps.specs.Framed.{framed}
 use Rattle.node_steps.specs.Pendings.{bytes_sent}
+use Rattle.client_steps.specs.Addressing.{enveloped}
 use Rattle.client_core.specs.declared.held.Held.{Held}
 use Rattle.client_core.specs.declared.work.ClientPlan.{ClientPlan}
 use Rattle.client_core.specs.declared.work.Work.{Work}
@@ -83,3 +86,9 @@ words_counted (Take slot starts) = refl
 
 pub sent_words : (w : Work) (old new : List (List ℕ)) → new ≡ old ++ words_by w → old ≡ [] → length new ≡ word_count w
 sent_words w old new is none = ap length is ∙ ap (λ l. length (l ++ words_by w)) none ∙ words_counted w
+
+-- what is sent to these parties alone
+pub sent_alone : (out new : List Envelope) (frame spelled : List ℕ) (parties whom : List Party)
+    → new ≡ out ++ map (enveloped frame) parties → out ≡ [] → frame ≡ spelled → parties ≡ whom → new ≡ map (enveloped spelled) whom
+sent_alone out new frame spelled parties whom is none same to =
+    is ∙ ap (λ l. l ++ map (enveloped frame) parties) none ∙ ap (λ f. map (enveloped f) parties) same ∙ ap (map (enveloped spelled)) to

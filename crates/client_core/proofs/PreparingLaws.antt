@@ -6,6 +6,7 @@ use Rattle.basil_types.specs.Setting.{Setting}
 use Rattle.basil_types.specs.Transaction.{TransactionValue, long_text, id}
 use Rattle.basil_types.specs.Words.{TransactionWords, words_of}
 use Rattle.basil_types.specs.declared.party.Party.{Party}
+use Rattle.frame_views.specs.Spelling.{spelling}
 use Rattle.frame_views.specs.Values.{St1}
 use Rattle.frame_writing.specs.Unsigned.{EndsSigned, unsigned_st1}
 use Rattle.node_steps.specs.Framed.{framed}
@@ -14,14 +15,14 @@ use Rattle.node_steps.specs.Pens.{after_one}
 use Rattle.node_steps.specs.declared.pending.Unsigned.{Unsigned}
 use Rattle.client_recover.specs.Pursuits.{to_involved}
 use Rattle.client_core.specs.declared.asking.Asking.{Asking}
-use Rattle.client_core.specs.declared.fault.CallFault.{CallFault}
+use Rattle.client_steps.specs.declared.fault.CallFault.{CallFault}
 use Rattle.client_core.specs.declared.held.Held.{Held}
 use Rattle.client_core.specs.declared.held.Slot.{Slot}
 use Rattle.client_core.specs.Calls.{by_slot, call_prepare, formed, prepare_done, prepare_fault}
 use Rattle.client_recover.specs.Taken.{PursuitValue}
 use Rattle.node_steps.specs.Refusing.{unless}
 use Rattle.client_core.proofs.ShowingLaws.{slots_at}
-use Rattle.client_core.specs.Addressing.{parties_in, enveloped, fronted}
+use Rattle.client_steps.specs.Addressing.{parties_in, enveloped, fronted}
 use Rattle.client_core.specs.Clients.{AskedRead, ClientSelf, ClientValue, SlotValue}
 use Rattle.client_core.specs.Keeping.{part_kept}
 use Rattle.client_core.specs.Kept.{kept_read, shown_read}
@@ -29,7 +30,6 @@ use Rattle.client_core.specs.Preparing.{pursue_done}
 use Rattle.client_core.specs.Showing.{KeepsReads, ShowsFormed, ShowsHeld, ShowsSlot, slot_value}
 use Rattle.client_core.specs.Slots.{as_read}
 use Rattle.client_core.specs.Works.{Changes, pursues}
-use Rattle.client_core.proofs.AddressLaws.{involved_framed}
 
 -- ---- the parts
 
@@ -56,13 +56,15 @@ pub pursue_sends : (c : Setting) (t : TransactionValue) (signature : List ℕ) (
     → EndsSigned (St1 (record { transaction = t; signature = signature }))
     (unsigned_st1 (record { transaction = t; signature = signature })) signature
     → map front_of us ≡ map (fronted (unsigned_st1 (record { transaction = t; signature = [] }))) (parties_in c t)
+    → map framed (to_involved c t (St1 (record { transaction = t; signature = signature })))
+    ≡ map (enveloped (spelling (St1 (record { transaction = t; signature = signature })))) (parties_in c t)
     → map (sealed signature) us ≡ map framed (to_involved c t (St1 (record { transaction = t; signature = signature })))
-pursue_sends c t signature us ends fronts =
+pursue_sends c t signature us ends fronts reach =
     each_sealed signature us
     ∙ ap (map (seal_front signature)) fronts
     ∙ each_fronted signature (unsigned_st1 (record { transaction = t; signature = [] })) (parties_in c t)
     ∙ ap (λ b. map (enveloped b) (parties_in c t)) (sym ends)
-    ∙ sym (involved_framed c t (St1 (record { transaction = t; signature = signature })))
+    ∙ sym reach
 
 pub pursue_changes : (me : ClientSelf) (v : ClientValue) (i : ℕ) (s : SlotValue) (t : TransactionValue) (words : List ℕ)
     → slice_get v.slots i ≡ Some s → words ≡ words_of (TransactionWords (id t))

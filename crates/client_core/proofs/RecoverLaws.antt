@@ -11,7 +11,7 @@ use Rattle.node_steps.specs.Framed.{framed}
 use Rattle.node_steps.specs.Refusing.{unless}
 use Rattle.client_recover.specs.Owned.{unstarted}
 use Rattle.client_recover.specs.Taken.{PursuitValue}
-use Rattle.client_core.specs.declared.fault.CallFault.TheVariants.{BadTransaction}
+use Rattle.client_steps.specs.declared.fault.CallFault.TheVariants.{BadTransaction}
 use Rattle.client_core.specs.declared.held.Formed.{Formed}
 use Rattle.client_core.specs.declared.held.Held.{Held}
 use Rattle.client_core.specs.declared.held.Slot.{Slot}

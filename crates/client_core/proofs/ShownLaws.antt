@@ -12,8 +12,8 @@ use Rattle.keyring.specs.Signing.{Signing}
 use Rattle.node_steps.specs.Pens.{PenValue, after_one}
 use Rattle.node_steps.specs.Refusing.{unless}
 use Rattle.txn_meta.specs.Form.{form_fault}
-use Rattle.client_core.specs.declared.fault.CallFault.{CallFault}
-use Rattle.client_core.specs.declared.fault.CallFault.TheVariants.{BadTransaction}
+use Rattle.client_steps.specs.declared.fault.CallFault.{CallFault}
+use Rattle.client_steps.specs.declared.fault.CallFault.TheVariants.{BadTransaction}
 use Rattle.client_core.specs.declared.held.Held.{Held}
 use Rattle.client_core.specs.declared.work.ClientPlan.{ClientPlan}
 use Rattle.client_core.specs.Asks.{by_call, by_frame}

@@ -5,15 +5,16 @@ use Rattle.std.specs.Str.{bytes_eq}
 use Rattle.basil_types.specs.Built.{or_else, key_fits, write_fits}
 use Rattle.basil_types.specs.declared.transaction.parts.WritePart.{WritePart}
 use Rattle.client_core.specs.declared.asking.Asking.{Asking}
-use Rattle.client_core.specs.declared.fault.CallFault.{CallFault}
-use Rattle.client_core.specs.declared.fault.CallFault.TheVariants.{NotOpen, TooMany, SizeOut, ReadPending, Empty, Exhausted}
+use Rattle.client_steps.specs.declared.fault.CallFault.{CallFault}
+use Rattle.client_steps.specs.declared.fault.CallFault.TheVariants.{NotOpen, TooMany, SizeOut, ReadPending, Empty, Exhausted}
 use Rattle.client_core.specs.declared.held.Slot.{Slot}
 use Rattle.client_core.specs.Calls.{read_at, read_done, is_written, write_fault}
 use Rattle.client_core.specs.Clients.{AskedRead, ClientSelf, ClientValue, ClientDone, quiet}
 use Rattle.client_core.specs.Kept.{KeptRead, kept_read, shown_read}
 use Rattle.client_core.specs.Showing.{KeepsReads, ShowsFormed, slot_value}
 use Rattle.client_core.specs.Slots.{asked, is_of, is_chosen}
-use Rattle.client_core.specs.Steps.{step_of, by_step, fault_of}
+use Rattle.client_core.specs.Steps.{by_step}
+use Rattle.client_steps.specs.Steps.{step_of, fault_of}
 use Rattle.basil_types.specs.Setting.{Setting}
 use Rattle.client_core.proofs.KeepingLaws.{chosen_law}
 use Rattle.client_core.proofs.ShowingLaws.{formed_same, asked_same}

@@ -23,14 +23,14 @@ use Rattle.node_steps.specs.Refusing.{unless}
 use Rattle.client_core.specs.declared.held.Formed.{Formed}
 use Rattle.client_core.specs.declared.held.Held.{Held}
 use Rattle.client_core.specs.declared.held.Slot.{Slot}
-use Rattle.client_core.specs.declared.sending.Sending.{Sending}
+use Rattle.client_steps.specs.declared.sending.Sending.{Sending}
 use Rattle.client_core.specs.declared.work.ClientPlan.{ClientPlan}
 use Rattle.client_core.specs.declared.work.Work.TheVariants.{Take}
 use Rattle.client_core.specs.Calls.{pursuit_done}
 use Rattle.client_core.specs.Clients.{ClientSelf, SlotValue, ClientValue}
 use Rattle.client_core.specs.Frames.{HeldValue, held_at, held_at_slot, held_with, on_vote, on_log_reply, on_writeback, taken_by}
 use Rattle.client_core.specs.Receiving.{HoldsBack, IsPlannedFrame, IsTake}
-use Rattle.client_core.specs.Sending.{IsSending}
+use Rattle.client_steps.specs.Sending.{IsSending}
 use Rattle.client_core.specs.Showing.{ShowsFormed, ShowsHeld, ShowsPursuit, ShowsSlot, slot_value, KeepsReads}
 use Rattle.client_core.specs.Slots.{is_named, slot_of_id}
 use Rattle.client_core.specs.Taking.{by_taken, on_named, on_pursuit, taken_of, WillStand}

@@ -21,11 +21,11 @@ use Rattle.node_steps.specs.Pens.{after_one}
 use Rattle.node_steps.specs.Refusing.{when, unless}
 use Rattle.txn_meta.specs.Form.{form_fault}
 use Rattle.txn_meta.specs.Places.{shard_of}
-use Rattle.client_core.specs.declared.fault.CallFault.{CallFault}
-use Rattle.client_core.specs.declared.fault.CallFault.TheVariants.{TimeNotAbove, NotOpen, TooMany}
-use Rattle.client_core.specs.declared.fault.CallFault.TheVariants.{SizeOut, ReadPending, Empty}
-use Rattle.client_core.specs.declared.fault.CallFault.TheVariants.{Exhausted, NotPrepared}
-use Rattle.client_core.specs.declared.fault.CallFault.TheVariants.{NothingLogged, BadTransaction}
+use Rattle.client_steps.specs.declared.fault.CallFault.{CallFault}
+use Rattle.client_steps.specs.declared.fault.CallFault.TheVariants.{TimeNotAbove, NotOpen, TooMany}
+use Rattle.client_steps.specs.declared.fault.CallFault.TheVariants.{SizeOut, ReadPending, Empty}
+use Rattle.client_steps.specs.declared.fault.CallFault.TheVariants.{Exhausted, NotPrepared}
+use Rattle.client_steps.specs.declared.fault.CallFault.TheVariants.{NothingLogged, BadTransaction}
 use Rattle.client_core.specs.Clients.{ClientSelf, AskedRead, SlotValue, ClientValue, ClientDone, quiet}
 use Rattle.client_core.specs.Slots.{asked, put_read, put_write, is_chosen, as_read, slot_of_id, with_slot, with_pursuit}
 

@@ -4,8 +4,8 @@ use Rattle.basil_types.specs.declared.outbox.Outbox.{Outbox}
 use Rattle.basil_types.specs.Words.{words_of}
 use Rattle.node_steps.specs.Framed.{framed}
 use Rattle.node_steps.specs.Pens.{PenValue}
-use Rattle.client_core.specs.declared.fault.CallFault.{CallFault}
-use Rattle.client_core.specs.declared.fault.CallFault.TheVariants.{NoMemory}
+use Rattle.client_steps.specs.declared.fault.CallFault.{CallFault}
+use Rattle.client_steps.specs.declared.fault.CallFault.TheVariants.{NoMemory}
 use Rattle.client_core.specs.declared.held.Held.{Held}
 use Rattle.client_core.specs.declared.work.ClientPlan.{ClientPlan}
 use Rattle.client_core.specs.Clients.{ClientDone, ClientValue}

@@ -8,7 +8,6 @@ pub mod Keeping
 pub mod Placing
 pub mod Showing
 pub mod Steps
-pub mod Addressing
 pub mod Works
 pub mod Done
 pub mod Preparing
@@ -17,7 +16,6 @@ pub mod Seats
 pub mod Clusters
 pub mod Finding
 pub mod Recovering
-pub mod Sending
 pub mod Invoking
 pub mod Asks
 pub mod Replying

@@ -8,8 +8,8 @@ use Rattle.client_recover.specs.Pursuits.{to_involved, signed_part}
 use Rattle.frame_views.specs.Values.{St1}
 use Rattle.node_steps.specs.Pens.{after_one}
 use Rattle.node_steps.specs.Refusing.{when}
-use Rattle.client_core.specs.declared.fault.CallFault.{CallFault}
-use Rattle.client_core.specs.declared.fault.CallFault.TheVariants.{Empty, Exhausted}
+use Rattle.client_steps.specs.declared.fault.CallFault.{CallFault}
+use Rattle.client_steps.specs.declared.fault.CallFault.TheVariants.{Empty, Exhausted}
 use Rattle.client_core.specs.Clients.{ClientSelf, ClientValue, SlotValue, ClientDone}
 use Rattle.client_core.specs.Slots.{with_slot, with_pursuit}
 

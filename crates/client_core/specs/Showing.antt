@@ -4,8 +4,8 @@ use Rattle.client_core.specs.declared.asking.Asking.{Asking}
 use Rattle.client_core.specs.declared.held.Formed.{Formed}
 use Rattle.client_core.specs.declared.held.Held.{Held}
 use Rattle.client_core.specs.declared.held.Slot.{Slot}
-use Rattle.client_core.specs.declared.fault.CallFault.{CallFault}
-use Rattle.client_core.specs.declared.fault.CallFault.TheVariants.{NoMemory}
+use Rattle.client_steps.specs.declared.fault.CallFault.{CallFault}
+use Rattle.client_steps.specs.declared.fault.CallFault.TheVariants.{NoMemory}
 use Rattle.client_core.specs.Clients.{AskedRead, SlotValue, ClientValue}
 use Rattle.client_core.specs.Kept.{kept_read, shown_read}
 use Rattle.client_recover.specs.declared.pursuit.Pursuit.{Pursuit}
@@ -61,8 +61,3 @@ SameHeld old new =
 abbrev pub Answers : {A B : Type 0} → Result A CallFault → Result B CallFault → B → Type 0
 Answers (Ok x) answer done = answer ≡ Ok done
 Answers (Err e) answer done = e ≢ NoMemory → answer ≡ Err e
-
--- Ok exactly where there is no fault, and otherwise that one, or memory is wanting
-abbrev pub RefusesCall : Result (Unit {0}) CallFault → Option CallFault → Type 0
-RefusesCall (Ok x) fault = fault ≡ None
-RefusesCall (Err e) fault = e ≢ NoMemory → fault ≡ Some e

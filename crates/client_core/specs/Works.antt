@@ -13,8 +13,8 @@ use Rattle.node_steps.specs.Framed.{framed}
 use Rattle.node_steps.specs.Pendings.{bytes_in, bytes_sent, sealed_all, CanSign}
 use Rattle.node_steps.specs.Pens.{PenValue, after_one}
 use Rattle.client_core.specs.declared.asking.Asking.{Asking}
-use Rattle.client_core.specs.declared.fault.CallFault.{CallFault}
-use Rattle.client_core.specs.declared.fault.CallFault.TheVariants.{NoMemory}
+use Rattle.client_steps.specs.declared.fault.CallFault.{CallFault}
+use Rattle.client_steps.specs.declared.fault.CallFault.TheVariants.{NoMemory}
 use Rattle.client_core.specs.declared.held.Held.{Held}
 use Rattle.client_core.specs.declared.held.Slot.{Slot}
 use Rattle.client_core.specs.declared.work.ClientPlan.{ClientPlan}

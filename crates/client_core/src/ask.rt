@@ -1,8 +1,8 @@
 //! What a client can be asked to plan.
 
-use crate::fault::CallFault;
 use basil_types::transaction::Transaction;
 use certificates::FrameFault;
+use client_steps::fault::CallFault;
 
 /// What a client is asked to plan: a call, or the answer to a frame.
 #[derive(Clone, Copy)]

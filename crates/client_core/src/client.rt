@@ -18,7 +18,6 @@ ghost use Rattle.client_core.specs.Works.{WillDo};
 ghost use Rattle.frame_views.specs.Fitting.{IsSignature};
 ghost use Rattle.node_steps.specs.Pens.{pen_value};
 
-use crate::fault::CallFault;
 use crate::held::Held;
 use crate::preparing::plan_prepare;
 use crate::reading::plan_read;
@@ -31,6 +30,7 @@ use basil_types::memory::NoMemory;
 use basil_types::outbox::Outbox;
 use basil_types::transaction::Transaction;
 use certificates::FrameFault;
+use client_steps::fault::CallFault;
 use keyring::signer::Signer;
 use keyring::verifier::Verifier;
 use node_steps::appending::append;

@@ -8,7 +8,6 @@ ghost use Rattle.client_core.specs.Slots as slots;
 ghost use Rattle.client_core.specs.Slots.{most_slots};
 
 use crate::asking::Asking;
-use crate::fault::CallFault;
 use crate::ordered::{put_in, put_reserved};
 use crate::state::ReadState;
 use basil_types::bytes::Bytes;
@@ -17,6 +16,7 @@ use basil_types::memory::NoMemory;
 use basil_types::transaction::Transaction;
 use basil_types::transaction::parts::WritePart;
 use client_recover::Pursuit;
+use client_steps::fault::CallFault;
 use std::alloc::Global;
 
 /// A formed transaction: its pursuit, whether its second stage has started, and whether the last frame that the pursuit

@@ -12,15 +12,15 @@ ghost use Rattle.client_recover.specs.Standing.{StandsFor};
 ghost use Rattle.client_recover.specs.Taken.{PursuitValue};
 ghost use Rattle.keyring.specs.Signing.{Signing};
 
-use crate::fault::CallFault;
 use crate::held::{Formed, Held};
 use crate::reading::plan_nothing;
 use crate::seat::Seat;
-use crate::sending::log_shard_frames;
 use crate::work::{ClientPlan, Work};
 use basil_types::memory::NoMemory;
 use basil_types::outbox::Outbox;
 use client_recover::Pursuit;
+use client_steps::fault::CallFault;
+use client_steps::sending::log_shard_frames;
 use std::alloc::Global;
 
 /// The messages that invoke the fallback, or want of memory. None exactly where no log reply is held.

@@ -1,13 +1,11 @@
 //! A client: its calls, and its answer to every kind of frame (Basil, sections 4 and 5).
 #![tactic(auto)]
 
-mod address;
 mod ask;
 mod asking;
 mod begun;
 mod client;
 mod commit;
-pub mod fault;
 mod finding;
 mod formed;
 mod held;
@@ -24,7 +22,6 @@ mod replies;
 mod reply_plans;
 mod replying;
 mod seat;
-mod sending;
 mod settling;
 mod state;
 mod steps;
@@ -35,6 +32,6 @@ mod work;
 pub use ask::{Ask, AskFault};
 pub use certificates::FrameFault;
 pub use client::Client;
-pub use fault::CallFault;
+pub use client_steps::fault::CallFault;
 pub use state::ReadState;
 pub use work::ClientPlan;

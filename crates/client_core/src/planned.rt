@@ -15,7 +15,6 @@ ghost use Rattle.node_steps.specs.Pens.{pen_value};
 use crate::ask::{Ask, AskFault};
 use crate::client::Client;
 use crate::commit::{let_go, perform};
-use crate::fault::CallFault;
 use crate::invoking::plan_invoke;
 use crate::preparing::plan_prepare;
 use crate::reading::plan_read;
@@ -25,6 +24,7 @@ use crate::settling::plan_settle;
 use crate::work::ClientPlan;
 use basil_types::outbox::Outbox;
 use certificates::FrameFault;
+use client_steps::fault::CallFault;
 use keyring::signer::Signer;
 use keyring::verifier::Verifier;
 

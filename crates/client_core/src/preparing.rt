@@ -8,14 +8,15 @@ ghost use Rattle.basil_types.specs.Transaction as transactions;
 ghost use Rattle.basil_types.specs.Transaction.{TransactionValue};
 ghost use Rattle.basil_types.specs.Words.{TransactionWords, words_of};
 ghost use Rattle.certificates.specs.Accepted.{Accepted};
-ghost use Rattle.client_core.specs.Addressing.{parties_in, fronted};
+ghost use Rattle.client_steps.specs.Addressing.{parties_in, fronted};
+ghost use Rattle.client_steps.specs.Refusals.{RefusesCall};
 ghost use Rattle.client_core.specs.Calls.{call_prepare, prepare_fault};
 ghost use Rattle.client_core.specs.Clients.{AskedRead, ClientSelf, ClientValue, SlotValue};
 ghost use Rattle.client_core.specs.Keeping.{part_kept};
 ghost use Rattle.client_core.specs.Kept.{shown_read};
 ghost use Rattle.client_core.specs.Preparing.{pursue_done, rest_fault};
 ghost use Rattle.client_core.specs.Seats.{self_at};
-ghost use Rattle.client_core.specs.Showing.{KeepsReads, RefusesCall, ShowsFormed, ShowsHeld, slot_value};
+ghost use Rattle.client_core.specs.Showing.{KeepsReads, ShowsFormed, ShowsHeld, slot_value};
 ghost use Rattle.client_core.specs.Slots.{as_read};
 ghost use Rattle.client_core.specs.Works.{CanPerform, IsPlanned, WillDo};
 ghost use Rattle.client_recover.specs.Taken.{PursuitValue};
@@ -25,9 +26,7 @@ ghost use Rattle.node_steps.specs.Pendings.{front_of, HasRoomFor, IsReady};
 ghost use Rattle.node_steps.specs.Pens.{pen_value};
 ghost use Rattle.txn_meta.specs.Form.{form_fault};
 
-use crate::address::{involved_parties, unsigned_to};
 use crate::asking::Asking;
-use crate::fault::CallFault;
 use crate::held::{Held, Slot};
 use crate::seat::Seat;
 use crate::work::{ClientPlan, Work};
@@ -36,6 +35,8 @@ use basil_types::memory::NoMemory;
 use basil_types::transaction::Transaction;
 use basil_types::transaction::parts::ReadPart;
 use basil_types::words::Words;
+use client_steps::address::{frames_reach_shards, involved_parties, unsigned_to};
+use client_steps::fault::CallFault;
 use frame_views::frames::St1View;
 use frame_writing::{put_unsigned_st1, signatures_end_frames};
 use keyring::signer::Signer;
@@ -180,6 +181,7 @@ fn plan_pursue(
     let mut out = outbox(seat.alloc);
     make_room(&mut out, pending.frames.len(), 1)?;
     signatures_end_frames();
+    frames_reach_shards();
     let work = Work::Pursue {
         slot,
         formed,

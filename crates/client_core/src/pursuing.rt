@@ -12,13 +12,13 @@ ghost use Rattle.frame_values.specs.Owned.{certificate_value};
 ghost use Rattle.frame_views.specs.Fitting.{FitsCertificate, IsSignature, widest};
 
 use crate::client::Client;
-use crate::fault::CallFault;
 use crate::invoking::plan_invoke;
 use crate::recovering::plan_recover;
 use crate::settling::plan_settle;
 use basil_types::outbox::Outbox;
 use basil_types::party::Decision;
 use basil_types::transaction::Transaction;
+use client_steps::fault::CallFault;
 use frame_values::owned::Certificate;
 use keyring::signer::Signer;
 use keyring::verifier::Verifier;

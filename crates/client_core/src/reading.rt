@@ -15,15 +15,15 @@ ghost use Rattle.keyring.specs.Signing.{Signing};
 ghost use Rattle.node_steps.specs.Framed.{framed};
 ghost use Rattle.txn_meta.specs.Places as places;
 
-use crate::address::{send_to, shard_parties};
 use crate::asking::Asking;
-use crate::fault::CallFault;
 use crate::held::Held;
 use crate::seat::Seat;
-use crate::steps::ReadStep;
 use crate::work::{ClientPlan, Work};
 use basil_types::memory::NoMemory;
 use basil_types::outbox::Outbox;
+use client_steps::address::{frames_reach_shards, send_to, shard_parties};
+use client_steps::fault::CallFault;
+use client_steps::steps::ReadStep;
 use frame_views::frames::ReadView;
 use frame_writing::put_read;
 use node_steps::pending::outbox;
@@ -44,6 +44,7 @@ fn ask_frames(seat: &Seat, time: u64, key: &[u8]) -> Result<Outbox, NoMemory>
     let parties = shard_parties(seat.alloc, &seat.cluster, shard)?;
     let mut out = outbox(seat.alloc);
     send_to(seat.alloc, parties.as_slice(), frame.as_slice(), &mut out)?;
+    frames_reach_shards();
     Ok(out)
 }
 

@@ -17,8 +17,6 @@ ghost use Rattle.frame_views.specs.Values.{Recover};
 ghost use Rattle.keyring.specs.Signing.{Signing};
 ghost use Rattle.node_steps.specs.Framed.{framed};
 
-use crate::address::{involved_parties, send_to};
-use crate::fault::CallFault;
 use crate::held::{Formed, Held, MOST_SLOTS, Slot};
 use crate::reading::plan_nothing;
 use crate::seat::Seat;
@@ -29,6 +27,8 @@ use basil_types::memory::NoMemory;
 use basil_types::outbox::Outbox;
 use basil_types::transaction::Transaction;
 use client_recover::Pursuit;
+use client_steps::address::{frames_reach_shards, involved_parties, send_to};
+use client_steps::fault::CallFault;
 use frame_views::frames::RecoverView;
 use frame_writing::put_recover;
 use node_steps::pending::outbox;
@@ -82,6 +82,7 @@ fn recover_frames(seat: &Seat, t: &Transaction, signature: &[u8]) -> Result<Outb
     let parties = involved_parties(seat.alloc, &seat.cluster, t.view())?;
     let mut out = outbox(seat.alloc);
     send_to(seat.alloc, parties.as_slice(), frame.as_slice(), &mut out)?;
+    frames_reach_shards();
     Ok(out)
 }
 

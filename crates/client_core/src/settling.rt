@@ -11,13 +11,14 @@ ghost use Rattle.client_recover.specs.Pursuits as pursuits;
 ghost use Rattle.client_recover.specs.Taken.{PursuitValue};
 ghost use Rattle.keyring.specs.Signing.{Signing};
 
-use crate::fault::CallFault;
 use crate::held::{Formed, Held};
 use crate::reading::plan_nothing;
 use crate::seat::Seat;
-use crate::sending::second_frames;
 use crate::work::{ClientPlan, Work};
 use basil_types::memory::NoMemory;
+use client_steps::fault::CallFault;
+use client_steps::sending::second_frames;
+use client_steps::stages::is_over;
 
 impl Formed {
     /// Whether no second stage starts any more: it is decided, or its second stage has started.
@@ -25,7 +26,7 @@ impl Formed {
         ensures { (p : PursuitValue) → ShowsPursuit self.now p →
             result ≡ (is_some (pursuits.outcome self.now.pursuit.cluster p) || p.second) }
     {
-        self.has_outcome() || self.second
+        is_over(self.has_outcome(), self.second)
     }
 }
 

@@ -1,7 +1,7 @@
 //! What a read or a write does to an open transaction, or why it is refused.
 
-ghost use Rattle.std.specs.Prelude.{◌≡◌, ◌≤◌, ◌||◌, ◌&&◌, true, ℕ, Bool, Option, List, Some};
-ghost use Rattle.std.specs.Prelude.{None, is_some, length, nat_le, not, find, option_map, []};
+ghost use Rattle.std.specs.Prelude.{◌≡◌, ◌||◌, ◌&&◌, true, ℕ, Option, List};
+ghost use Rattle.std.specs.Prelude.{is_some, length, nat_le, not, find, option_map};
 ghost use Rattle.std.specs.List.{list_any};
 ghost use Rattle.std.specs.Str.{bytes_eq};
 ghost use Rattle.basil_types.specs.Limits.{most_keys};
@@ -11,85 +11,19 @@ ghost use Rattle.client_core.specs.declared.asking.Asking.{Asking};
 ghost use Rattle.client_core.specs.Calls as calls;
 ghost use Rattle.client_core.specs.Calls.{read_at, read_done};
 ghost use Rattle.client_core.specs.Clients.{AskedRead, ClientSelf, ClientValue, quiet};
-ghost use Rattle.client_core.specs.Showing.{KeepsReads, ShowsFormed, slot_value, RefusesCall};
-ghost use Rattle.client_core.specs.Steps as steps;
+ghost use Rattle.client_core.specs.Showing.{KeepsReads, ShowsFormed, slot_value};
 ghost use Rattle.client_core.specs.Steps.{by_step};
 ghost use Rattle.client_recover.specs.Taken.{PursuitValue};
+ghost use Rattle.client_steps.specs.Refusals.{RefusesCall};
 
 use crate::asking::Asking;
-use crate::fault::CallFault;
 use crate::held::Slot;
-use basil_types::bytes::Bytes;
 use basil_types::cluster::Cluster;
 use basil_types::limits::MOST_KEYS;
+use client_steps::fault::CallFault;
+use client_steps::stages::refuse_pending;
+use client_steps::steps::{ReadStep, fault_of, key_fits, step_of, write_fits};
 use std::alloc::Global;
-
-/// What a read of a key does.
-#[derive(Drop)]
-pub(crate) enum ReadStep {
-    Refused(CallFault),
-    /// The key was written or asked for.
-    Known,
-    Asks,
-}
-
-/// What a read does: of a transaction that is formed, of a key that is known, of a full list, of a key of a good size.
-fn step_of(formed: bool, known: bool, full: bool, fits: bool) -> ReadStep
-    ensures exact { result ≡ steps.step_of formed known full fits }
-    ensures asks { result ≡ ReadStep.Asks → fits ≡ true }
-{
-    if formed {
-        ReadStep::Refused(CallFault::NotOpen)
-    } else if known {
-        ReadStep::Known
-    } else if full {
-        ReadStep::Refused(CallFault::TooMany)
-    } else if fits {
-        ReadStep::Asks
-    } else {
-        ReadStep::Refused(CallFault::SizeOut)
-    }
-}
-
-/// The first fault of a write: of a transaction that is formed, to a key beyond a full list, or out of size.
-fn fault_of(formed: bool, full: bool, fits: bool) -> Option<CallFault>
-    ensures { result ≡ steps.fault_of formed full fits }
-{
-    if formed {
-        Some(CallFault::NotOpen)
-    } else if full {
-        Some(CallFault::TooMany)
-    } else if fits {
-        None
-    } else {
-        Some(CallFault::SizeOut)
-    }
-}
-
-/// Whether a key has 1 to 64 bytes.
-fn key_fits(key: &[u8]) -> bool
-    ensures { result ≡ built_of.key_fits key.now }
-{
-    1 <= key.len() && key.len() <= 64
-}
-
-/// Whether a value has at most 256 bytes, and none where the write deletes.
-fn value_fits(value: &[u8], deletes: bool) -> bool
-    ensures { result ≡ built_of.value_fits (record { key = []; value = value.now; deletes = deletes }) }
-{
-    if deletes {
-        value.len() == 0
-    } else {
-        value.len() <= 256
-    }
-}
-
-/// Whether a write is of a good size.
-fn write_fits(key: &[u8], value: &[u8], deletes: bool) -> bool
-    ensures { result ≡ built_of.write_fits (record { key = key.now; value = value.now; deletes = deletes }) }
-{
-    key_fits(key) && value_fits(value, deletes)
-}
 
 impl Slot {
     /// Whether this key was written or asked for.
@@ -148,11 +82,8 @@ impl Slot {
             RefusesCall result (calls.pending cluster.now (slot_value self.now reads p)) }
     {
         match self.first_pending(cluster) {
-            Some(asked) => {
-                let key = Bytes::copy_of(alloc, asked.key.as_slice())?;
-                Err(CallFault::ReadPending(key))
-            }
-            None => Ok(()),
+            Some(asked) => refuse_pending(alloc, Some(asked.key.as_slice())),
+            None => refuse_pending(alloc, None),
         }
     }
 }

@@ -17,9 +17,9 @@ ghost use Rattle.keyring.specs.Signing.{Signing};
 
 use crate::held::{Formed, Held};
 use crate::seat::Seat;
-use crate::sending::{Sending, send_taken};
 use crate::work::{ClientPlan, Work};
 use certificates::FrameFault;
+use client_steps::sending::{Sending, send_taken};
 use frame_views::frames::MessageView;
 use keyring::verifier::Verifier;
 

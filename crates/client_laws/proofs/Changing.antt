@@ -31,7 +31,7 @@ use Rattle.node_steps.specs.Lists.{by_key, put}
 use Rattle.node_steps.specs.Refusing.{unless, when}
 use Rattle.txn_meta.specs.Form.{form_fault}
 use Rattle.txn_meta.specs.Places.{involved}
-use Rattle.client_core.specs.declared.fault.CallFault.TheVariants.{BadTransaction, NotOpen, TimeNotAbove}
+use Rattle.client_steps.specs.declared.fault.CallFault.TheVariants.{BadTransaction, NotOpen, TimeNotAbove}
 use Rattle.client_core.specs.Answers.{on_message, on_read_frame}
 use Rattle.client_core.specs.Calls.{begin_done, by_slot, invoke_by, invoke_done, invoke_fault, is_written, prepare_done, prepare_fault}
 use Rattle.client_core.specs.Calls.{pursuit_done}

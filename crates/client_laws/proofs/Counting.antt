@@ -12,7 +12,7 @@ use Rattle.basil_types.specs.Words.{SignedWords, TransactionWords}
 use Rattle.client_recover.specs.Taken.{PursuitValue}
 use Rattle.node_steps.specs.Pens.{PenValue}
 use Rattle.node_steps.specs.Refusing.{when}
-use Rattle.client_core.specs.declared.fault.CallFault.TheVariants.{Empty, Exhausted, NotOpen}
+use Rattle.client_steps.specs.declared.fault.CallFault.TheVariants.{Empty, Exhausted, NotOpen}
 use Rattle.client_core.specs.Calls.{begun_slot, pending, recovered_slot}
 use Rattle.client_core.specs.Clients.{ClientDone, ClientSelf, ClientValue, SlotValue, empty_client}
 use Rattle.client_core.specs.Slots.{is_named, with_pursuit}

@@ -15,7 +15,7 @@ use Rattle.client_recover.specs.Taken.{PursuitValue, TakenValue, DecidedValue, L
 use Rattle.node_steps.specs.Envelopes.{EnvelopeValue}
 use Rattle.node_steps.specs.Refusing.{when}
 use Rattle.txn_meta.specs.Places.{log_shard}
-use Rattle.client_core.specs.declared.fault.CallFault.TheVariants.{NotOpen}
+use Rattle.client_steps.specs.declared.fault.CallFault.TheVariants.{NotOpen}
 use Rattle.client_core.specs.Calls.{prepare_fault}
 use Rattle.client_core.specs.Clients.{ClientDone, ClientSelf, ClientValue, SlotValue}
 use Rattle.client_laws.specs.Steps.{Step, step}

@@ -22,7 +22,7 @@ use Rattle.frame_views.specs.Frames.{IsFrame, frame_in}
 use Rattle.frame_views.specs.Values as values
 use Rattle.frame_views.specs.Values.{ReadReplyValue}
 use Rattle.node_steps.specs.Refusing.{when}
-use Rattle.client_core.specs.declared.fault.CallFault.TheVariants.{Empty, Exhausted, NotOpen, ReadPending}
+use Rattle.client_steps.specs.declared.fault.CallFault.TheVariants.{Empty, Exhausted, NotOpen, ReadPending}
 use Rattle.client_core.specs.Calls.{begun_slot, formed, pending, recovered_slot}
 use Rattle.client_core.specs.Clients.{AskedRead, ClientDone, ClientSelf, ClientValue, SlotValue, empty_client}
 use Rattle.client_recover.specs.Owned.{unstarted}

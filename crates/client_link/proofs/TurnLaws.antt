@@ -7,8 +7,8 @@ use Rattle.basil_types.specs.declared.transaction.parts.WritePart.{WritePart}
 use Rattle.basil_types.specs.Links.{LinkState}
 use Rattle.client_core.specs.Shown.{own, ShowsClient}
 use Rattle.client_core.specs.declared.client.Client.{Client}
-use Rattle.client_core.specs.declared.fault.CallFault.{CallFault}
-use Rattle.client_core.specs.declared.fault.CallFault.TheVariants as calls
+use Rattle.client_steps.specs.declared.fault.CallFault.{CallFault}
+use Rattle.client_steps.specs.declared.fault.CallFault.TheVariants as calls
 use Rattle.basil_types.specs.Transaction.{TransactionValue}
 use Rattle.client_core.specs.Calls.{begin_done, by_slot, call_begin, call_invoke, call_prepare, call_recover, call_write}
 use Rattle.client_core.specs.Calls.{recovered_at, write_done, write_fault}

@@ -5,8 +5,8 @@ use Rattle.basil_types.specs.declared.outbox.Envelope.{Envelope}
 use Rattle.basil_types.specs.Links.{LinkState}
 use Rattle.basil_types.specs.Setting.{Setting}
 use Rattle.client_core.specs.Shown.{ShowsClient, own}
-use Rattle.client_core.specs.declared.fault.CallFault.{CallFault}
-use Rattle.client_core.specs.declared.fault.CallFault.TheVariants as calls
+use Rattle.client_steps.specs.declared.fault.CallFault.{CallFault}
+use Rattle.client_steps.specs.declared.fault.CallFault.TheVariants as calls
 use Rattle.client_core.specs.Clients.{ClientDone, ClientSelf, ClientValue}
 use Rattle.client_core.specs.declared.client.Client.{Client}
 use Rattle.cluster_file.specs.Listing.{Listing, address_in}

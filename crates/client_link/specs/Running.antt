@@ -4,8 +4,8 @@ use Rattle.std.specs.Prelude.{◌≡◌, ℕ, ◌+◌, List, [], ◌∷◌, ◌+
 use Rattle.std.specs.Prelude.{Result, Ok, Err, option_and_then, slice_get, if◌then◌else◌}
 use Rattle.std.specs.Option.{option_map_or}
 use Rattle.basil_types.specs.Links.{LinkState}
-use Rattle.client_core.specs.declared.fault.CallFault.{CallFault}
-use Rattle.client_core.specs.declared.fault.CallFault.TheVariants as calls
+use Rattle.client_steps.specs.declared.fault.CallFault.{CallFault}
+use Rattle.client_steps.specs.declared.fault.CallFault.TheVariants as calls
 use Rattle.client_core.specs.Calls.{call_begin, call_invoke, call_prepare, call_read, call_recover, call_settle}
 use Rattle.client_core.specs.Calls.{call_write, recovered_at}
 use Rattle.client_core.specs.Clients.{ClientDone, ClientSelf, ClientValue, SlotValue, quiet}

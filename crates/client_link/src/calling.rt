@@ -3,7 +3,7 @@
 ghost use Rattle.std.specs.Prelude.{◌≡◌, ◌<◌, ◌≤◌, ◌∷◌, [], Option, Result, length};
 ghost use Rattle.basil_types.specs.Links.{LinkState};
 ghost use Rattle.client_core.specs.Shown.{own, ShowsClient};
-ghost use Rattle.client_core.specs.declared.fault.CallFault.{CallFault};
+ghost use Rattle.client_steps.specs.declared.fault.CallFault.{CallFault};
 ghost use Rattle.client_core.specs.Clients.{ClientDone, ClientValue};
 ghost use Rattle.client_core.specs.Done.{KeepsSlots};
 ghost use Rattle.client_link.specs.Having.{ComesTo, HasCalled, HasTurned, IsTalk, fault_told};

@@ -1,6 +1,6 @@
 //! Why a transaction isn't carried through.
 
-ghost use Rattle.client_core.specs.declared.fault.CallFault.{CallFault};
+ghost use Rattle.client_steps.specs.declared.fault.CallFault.{CallFault};
 
 use basil_types::memory::NoMemory;
 use client_core::CallFault;

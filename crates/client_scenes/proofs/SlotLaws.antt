@@ -15,8 +15,8 @@ use Rattle.client_reads.specs.Replies.{reply_fault}
 use Rattle.client_recover.specs.Faults.{vote_fault, log_fault, writeback_fault}
 use Rattle.client_core.specs.declared.ask.Ask.{Ask}
 use Rattle.client_core.specs.declared.ask.Ask.TheVariants as asks
-use Rattle.client_core.specs.declared.fault.CallFault.{CallFault}
-use Rattle.client_core.specs.declared.fault.CallFault.TheVariants.{NotOpen, BadTransaction, TimeNotAbove}
+use Rattle.client_steps.specs.declared.fault.CallFault.{CallFault}
+use Rattle.client_steps.specs.declared.fault.CallFault.TheVariants.{NotOpen, BadTransaction, TimeNotAbove}
 use Rattle.client_core.specs.declared.held.Held.{Held}
 use Rattle.client_core.specs.Answers.{on_frame, on_message, on_read_frame}
 use Rattle.client_core.specs.Asks.{CanBeAsked, answer_to, by_call, by_frame, slot_of}

@@ -9,8 +9,8 @@ use Rattle.client_core.specs.declared.ask.Ask.{Ask}
 use Rattle.client_core.specs.declared.ask.Ask.TheVariants as asks
 use Rattle.client_core.specs.declared.ask.AskFault.{AskFault}
 use Rattle.client_core.specs.declared.ask.AskFault.TheVariants.{Call, Frame}
-use Rattle.client_core.specs.declared.fault.CallFault.{CallFault}
-use Rattle.client_core.specs.declared.fault.CallFault.TheVariants as calls
+use Rattle.client_steps.specs.declared.fault.CallFault.{CallFault}
+use Rattle.client_steps.specs.declared.fault.CallFault.TheVariants as calls
 use Rattle.frame_views.specs.Fitting.{IsSignature}
 use Rattle.keyring.specs.declared.verifier.Verifier as verifiers
 use Rattle.keyring.specs.declared.signer.Signer as signers

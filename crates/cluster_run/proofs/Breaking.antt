@@ -1,6 +1,6 @@
 -- A breach that ends a run is real.
 use Rattle.node_steps.specs.Refusing.{unless_refused}
-use Rattle.client_core.specs.declared.fault.CallFault.TheVariants as call
+use Rattle.client_steps.specs.declared.fault.CallFault.TheVariants as call
 use Rattle.cluster_run.proofs.Members.{any_of}
 use Rattle.std.proofs.Common.{◌≡◌, ℕ, Bool, true, false, cond, not, ◌&&◌, ◌||◌, List, [], ◌∷◌, ◌++◌, Option, Some, None, refl, sym, ap}
 use Rattle.std.proofs.Common.{subst, ◌∙◌, inl, inr, append-nil, append_assoc}
@@ -20,7 +20,7 @@ use Rattle.basil_types.specs.Version.{genesis}
 use Rattle.basil_types.specs.Transaction.{TransactionValue, id, canonical}
 use Rattle.basil_types.specs.Words.{SignedWords}
 use Rattle.certificates.specs.Accepted.{accepts}
-use Rattle.client_core.specs.declared.fault.CallFault.{CallFault}
+use Rattle.client_steps.specs.declared.fault.CallFault.{CallFault}
 use Rattle.client_core.specs.Answers.{on_frame}
 use Rattle.client_core.specs.Calls.{call_begin, call_read, call_write, call_prepare, call_settle, call_recover, call_invoke}
 use Rattle.client_core.specs.Clients.{ClientValue, ClientDone}

@@ -19,8 +19,8 @@ use Rattle.certificates.specs.Deciding.{HasGoodForm, Proves}
 use Rattle.certificates.specs.Refusals.{decision_of, refusal}
 use Rattle.basil_types.specs.declared.party.Decision.{Decision}
 use Rattle.basil_types.specs.declared.party.Decision.TheVariants.{Commit, Abort}
-use Rattle.client_core.specs.declared.fault.CallFault.{CallFault}
-use Rattle.client_core.specs.declared.fault.CallFault.TheVariants.{NotOpen, SizeOut}
+use Rattle.client_steps.specs.declared.fault.CallFault.{CallFault}
+use Rattle.client_steps.specs.declared.fault.CallFault.TheVariants.{NotOpen, SizeOut}
 use Rattle.basil_types.specs.Built.{key_fits, write_fits}
 use Rattle.client_core.specs.Answers.{on_frame}
 use Rattle.client_core.specs.Calls.{call_begin, call_read, call_write, call_prepare}

@@ -13,7 +13,7 @@ use Rattle.client_core.specs.Calls.{prepare_done, settle_by, recover_held, recov
 use Rattle.client_core.specs.Calls.{formed}
 use Rattle.client_core.specs.Clients.{ClientSelf, ClientValue, ClientDone, SlotValue, AskedRead, quiet}
 use Rattle.client_recover.specs.Taken.{PursuitValue, TakenValue}
-use Rattle.client_core.specs.declared.fault.CallFault.{CallFault}
+use Rattle.client_steps.specs.declared.fault.CallFault.{CallFault}
 use Rattle.client_core.specs.Frames as frames
 use Rattle.client_core.specs.Frames.{HeldValue, taken_by, reply_by, reply_at, reply_to_time, on_read_reply, reply_taken}
 use Rattle.certificates.specs.declared.fault.FrameFault.{FrameFault}
@@ -108,7 +108,7 @@ read_words : (me : ClientSelf) (c : ClientValue) (place : ℕ) (key : List ℕ) 
     ≡ Ok d → W d
 read_words me c place key s d h = by (is_some s.pursuit) (calls.is_written key s || is_some (Rattle.client_core.specs.Slots.asked key s)) h
   where
-    by : (a b : Bool) → cond a (Err Rattle.client_core.specs.declared.fault.CallFault.TheVariants.NotOpen)
+    by : (a b : Bool) → cond a (Err Rattle.client_steps.specs.declared.fault.CallFault.TheVariants.NotOpen)
         (cond b (Ok (quiet c)) (refusing.unless (calls.read_fault s key) (read_done me c place s key))) ≡ Ok d → W d
     by true b h = absurd cc
     by false true h = done_is {E = CallFault} (quiet c) d (Ok (quiet c)) refl h no_words

@@ -9,8 +9,8 @@ use Rattle.basil_types.specs.declared.version.Version.{Version}
 use Rattle.basil_types.specs.declared.transaction.parts.WritePart.{WritePart}
 use Rattle.basil_types.specs.Transaction.{id}
 use Rattle.basil_types.specs.Version.{genesis}
-use Rattle.client_core.specs.declared.fault.CallFault.TheVariants as call
-use Rattle.client_core.specs.declared.fault.CallFault.{CallFault}
+use Rattle.client_steps.specs.declared.fault.CallFault.TheVariants as call
+use Rattle.client_steps.specs.declared.fault.CallFault.{CallFault}
 use Rattle.client_core.specs.Calls.{call_begin, call_read, call_write, formed, call_prepare, call_settle, call_recover, call_invoke}
 use Rattle.client_core.specs.Clients.{ClientValue, ClientDone, SlotValue}
 use Rattle.client_core.specs.Slots.{slot_of_id}

@@ -24,8 +24,8 @@ use Rattle.client_core.specs.Calls.{formed}
 use Rattle.client_core.specs.Clients.{ClientSelf, ClientValue, ClientDone, SlotValue, AskedRead, quiet}
 use Rattle.client_recover.specs.Owned.{unstarted}
 use Rattle.client_recover.specs.Taken.{PursuitValue, TakenValue}
-use Rattle.client_core.specs.declared.fault.CallFault.{CallFault}
-use Rattle.client_core.specs.declared.fault.CallFault.TheVariants as callfault
+use Rattle.client_steps.specs.declared.fault.CallFault.{CallFault}
+use Rattle.client_steps.specs.declared.fault.CallFault.TheVariants as callfault
 use Rattle.client_core.specs.Frames.{HeldValue, held_at, held_with, taken_by, with_reply, reply_by, reply_at, reply_to_time, on_read_reply}
 use Rattle.client_core.specs.Frames.{reply_taken, held_at_slot, read_asked}
 use Rattle.client_recover.specs.Pursuits.{PursuitDone, start_second, still, settle, tell, go_on, took, take_frame, outcome}

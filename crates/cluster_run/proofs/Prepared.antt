@@ -23,7 +23,7 @@ use Rattle.basil_types.specs.Version.{genesis}
 use Rattle.basil_types.specs.Words.{TransactionWords, words_of}
 use Rattle.client_core.specs.Calls.{by_slot, pending, prepare_fault, prepare_done, formed}
 use Rattle.client_core.specs.Clients.{ClientSelf, ClientValue, ClientDone, SlotValue, AskedRead}
-use Rattle.client_core.specs.declared.fault.CallFault.TheVariants as callfault
+use Rattle.client_steps.specs.declared.fault.CallFault.TheVariants as callfault
 use Rattle.client_recover.specs.Pursuits.{to_shard, to_involved}
 use Rattle.client_recover.specs.Counting.{all_replicas}
 use Rattle.client_core.specs.Slots.{key_asked, as_read, choice_of}

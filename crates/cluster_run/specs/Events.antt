@@ -17,8 +17,8 @@ use Rattle.basil_types.specs.declared.version.Version.{Version}
 use Rattle.basil_types.specs.Version.{genesis}
 use Rattle.basil_types.specs.Transaction.{id, version_of, key_of_read}
 use Rattle.basil_types.specs.Words.{TransactionWords}
-use Rattle.client_core.specs.declared.fault.CallFault.{CallFault}
-use Rattle.client_core.specs.declared.fault.CallFault.TheVariants.{NotOpen, TooMany, SizeOut, Empty, NotPrepared}
+use Rattle.client_steps.specs.declared.fault.CallFault.{CallFault}
+use Rattle.client_steps.specs.declared.fault.CallFault.TheVariants.{NotOpen, TooMany, SizeOut, Empty, NotPrepared}
 use Rattle.client_core.specs.Calls.{call_begin, call_read, call_write}
 use Rattle.client_core.specs.Calls.{call_prepare, call_settle, call_recover, call_invoke}
 use Rattle.client_core.specs.Clients.{ClientValue, ClientDone, SlotValue}

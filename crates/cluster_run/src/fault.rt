@@ -1,7 +1,7 @@
 //! What an event's refusal says.
 
 use basil_types::party::Party;
-use client_core::fault::CallFault;
+use client_core::CallFault;
 use premise_watch::broken::Broken;
 
 /// Why an event is refused; of a breach, the run ends.

@@ -11,8 +11,8 @@ use Rattle.basil_types.specs.declared.transaction.parts.WritePart.{WritePart}
 use Rattle.basil_types.specs.declared.version.Version.{Version}
 use Rattle.client_core.specs.Calls.{begin_done, by_slot, call_begin, call_read, call_write, write_done, write_fault}
 use Rattle.client_core.specs.Clients.{ClientDone, ClientValue, SlotValue, quiet}
-use Rattle.client_core.specs.declared.fault.CallFault.{CallFault}
-use Rattle.client_core.specs.declared.fault.CallFault.TheVariants as calls
+use Rattle.client_steps.specs.declared.fault.CallFault.{CallFault}
+use Rattle.client_steps.specs.declared.fault.CallFault.TheVariants as calls
 use Rattle.keyring.specs.declared.verifier.Verifier as verifiers
 use Rattle.keyring.specs.declared.signer.Signer as signers
 use Rattle.message_pool.specs.Posts.{PoolValue, pool_bytes}

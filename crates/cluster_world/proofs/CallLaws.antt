@@ -11,7 +11,7 @@ use Rattle.client_core.specs.declared.ask.Ask.{Ask}
 use Rattle.client_core.specs.Clients.{ClientDone, ClientValue}
 use Rattle.client_core.specs.declared.ask.AskFault.{AskFault}
 use Rattle.client_core.specs.declared.ask.AskFault.TheVariants.{Call}
-use Rattle.client_core.specs.declared.fault.CallFault.{CallFault}
+use Rattle.client_steps.specs.declared.fault.CallFault.{CallFault}
 use Rattle.keyring.specs.declared.verifier.Verifier as verifiers
 use Rattle.keyring.specs.declared.signer.Signer as signers
 use Rattle.message_pool.specs.Posts.{PoolValue, pool_bytes}

@@ -10,7 +10,7 @@ use Rattle.basil_types.specs.declared.outbox.Envelope.{Envelope}
 use Rattle.basil_types.specs.declared.party.Party.{Party}
 use Rattle.basil_types.specs.declared.party.Party.TheVariants.{Client}
 use Rattle.basil_types.specs.Transaction.{TransactionValue}
-use Rattle.client_core.specs.declared.fault.CallFault.{CallFault}
+use Rattle.client_steps.specs.declared.fault.CallFault.{CallFault}
 use Rattle.cluster_run.specs.declared.fault.WorldFault.{WorldFault}
 use Rattle.cluster_run.specs.declared.fault.WorldFault.TheVariants as worlds
 use Rattle.cluster_run.specs.Events.{Prepare, happens, prepare_fault, prepares_at, prepares_lie, prepares_own, set_begun}

@@ -14,8 +14,8 @@ use Rattle.client_core.specs.Clients.{ClientDone, ClientValue, SlotValue}
 use Rattle.client_core.specs.declared.ask.AskFault.{AskFault}
 use Rattle.client_core.specs.declared.ask.Ask.{Ask}
 use Rattle.client_core.specs.declared.ask.Ask.TheVariants as asks
-use Rattle.client_core.specs.declared.fault.CallFault.{CallFault}
-use Rattle.client_core.specs.declared.fault.CallFault.TheVariants as calls
+use Rattle.client_steps.specs.declared.fault.CallFault.{CallFault}
+use Rattle.client_steps.specs.declared.fault.CallFault.TheVariants as calls
 use Rattle.client_core.specs.Slots as slots
 use Rattle.client_core.specs.Slots.{slot_of_id}
 use Rattle.client_recover.specs.Pursuits.{signed_part}

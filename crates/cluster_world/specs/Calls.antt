@@ -1,6 +1,6 @@
 -- A refused call.
-use Rattle.client_core.specs.declared.fault.CallFault.{CallFault}
-use Rattle.client_core.specs.declared.fault.CallFault.TheVariants as calls
+use Rattle.client_steps.specs.declared.fault.CallFault.{CallFault}
+use Rattle.client_steps.specs.declared.fault.CallFault.TheVariants as calls
 use Rattle.cluster_run.specs.declared.fault.WorldFault.TheVariants as worlds
 use Rattle.cluster_world.specs.declared.fault.StepFault.{StepFault}
 use Rattle.cluster_world.specs.declared.fault.StepFault.TheVariants as faults

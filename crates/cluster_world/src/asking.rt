@@ -4,7 +4,7 @@ ghost use Rattle.std.specs.Prelude.{◌≡◌, ◌<◌, ℕ, suc, true, None, So
 ghost use Rattle.client_core.specs.Asks.{answer_to, by_call, is_call, is_call_fault};
 ghost use Rattle.client_core.specs.Clients.{ClientDone, ClientValue};
 ghost use Rattle.client_core.specs.declared.ask.AskFault.TheVariants as asks;
-ghost use Rattle.client_core.specs.declared.fault.CallFault.{CallFault};
+ghost use Rattle.client_steps.specs.declared.fault.CallFault.{CallFault};
 ghost use Rattle.cluster_nodes.specs.Asking.{HasSignature, IsOfKind};
 ghost use Rattle.cluster_run.specs.Events as events;
 ghost use Rattle.cluster_run.specs.Parts.{client_self};

@@ -15,7 +15,7 @@ use Rattle.certificates.specs.declared.fault.FrameFault.{FrameFault}
 use Rattle.client_core.specs.Answers.{on_frame}
 use Rattle.client_core.specs.Calls.{call_begin, call_read, call_write, call_prepare, call_settle, call_recover, call_invoke}
 use Rattle.client_core.specs.Clients.{ClientValue, ClientDone}
-use Rattle.client_core.specs.declared.fault.CallFault.{CallFault}
+use Rattle.client_steps.specs.declared.fault.CallFault.{CallFault}
 use Rattle.client_core.specs.Slots.{slot_of_id}
 use Rattle.client_recover.specs.Pursuits.{to_involved}
 use Rattle.frame_views.specs.declared.fault.BadFrame.{BadFrame}

@@ -9,4 +9,5 @@ pub mod WaitingLaws
 pub mod TalkingLaws
 pub mod ClosingLaws
 pub mod ServeLaws
+pub mod SpendingLaws
 pub mod AskingLaws

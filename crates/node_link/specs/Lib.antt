@@ -7,3 +7,4 @@ pub mod Asking
 pub mod Faults
 pub mod Serving
 pub mod Connections
+pub mod Spending

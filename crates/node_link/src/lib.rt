@@ -9,6 +9,7 @@ mod connection;
 mod envelope;
 pub mod fault;
 mod found;
+pub mod laws;
 mod node;
 pub mod reader;
 mod turns;

@@ -1,20 +1,24 @@
 -- What holds of a seat's station, and of a node that didn't begin.
-use Rattle.std.proofs.Common.{◌≡◌, ℕ, ◌+◌, List, false, Option, Some, None, Result, Ok, Err, refl, sym, ap, subst, ◌∙◌, inl, inr, arith}
+use Rattle.std.proofs.Common.{◌≡◌, ℕ, ◌+◌, ◌-◌, ◌≤◌, List, false, Option, Some, None, Result, Ok, Err, refl, sym, ap, subst, ◌∙◌}
+use Rattle.std.proofs.Common.{inl, inr, arith}
 use Rattle.std.specs.Prelude.{IfErr, OnOk}
 use Rattle.basil_types.specs.Links.{LinkState}
 use Rattle.basil_types.specs.Setting.{Setting}
 use Rattle.cluster_file.specs.Listing.{Listing, address_in}
 use Rattle.keyring.specs.declared.verifier.Verifier as verifiers
 use Rattle.keyring.specs.declared.signer.Signer as signers
+use Rattle.lms_sign.specs.Sets.{leaves_of}
 use Rattle.lms_sign.specs.Signing.{Key}
+use Rattle.node_steps.specs.Pens.{pen_value}
 use Rattle.node_link.specs.Asking.{RoseBy}
 use Rattle.node_link.specs.Connections.{Between, Finished, HasListened, IsNode, Node, ServesParts, ServesUntil, Stopped}
 use Rattle.node_link.specs.Connections.{failed_outside, listening}
 use Rattle.node_link.specs.declared.fault.ServeFault.{ServeFault}
 use Rattle.node_link.specs.declared.fault.ServeFault.TheVariants as stops
+use Rattle.node_link.specs.Spending.{SignsWithinFrames}
 use Rattle.replica_core.specs.declared.replica.Replica.{Replica}
 use Rattle.party_seat.specs.Keys.{key_in}
-use Rattle.replica_core.specs.Replicas.{ReplicaSelf}
+use Rattle.replica_core.specs.Replicas.{ReplicaSelf, BookValue, empty_book}
 use Rattle.replica_core.specs.Shown.{ShowsBook, own}
 use Rattle.party_seat.specs.Faults.{seat_fault_of, serve_fault_of}
 use Rattle.party_seat.specs.Serving.{Begins, HasFinished, HasStopped, Refuses, is_seatless, stop_of}
@@ -36,11 +40,21 @@ module _ (l : Listing) (seat : NodeSeat) (address : List ℕ) (listed : address_
   cluster_in (Ok seated) = seated.me.home.cluster
   cluster_in (Err fault) = l.cluster
 
+  abbrev book_in : Result Seated SeatFault → BookValue
+  book_in (Ok seated) = seated.book
+  book_in (Err fault) = empty_book (pen_value 0 0)
+
   -- it is in the file's cluster
   cluster_is : (seated : Seated) (key : Result Key SeatFault) → seated_by l seat key ≡ Ok seated →
       l.cluster ≡ seated.me.home.cluster
   cluster_is seated (Ok key) e = ap cluster_in e
   cluster_is seated (Err fault) e = absurd cc
+
+  -- and it hasn't signed anything
+  fresh_is : (seated : Seated) (key : Result Key SeatFault) → seated_by l seat key ≡ Ok seated →
+      (left : ℕ) × (seated.book ≡ empty_book (pen_value 0 left))
+  fresh_is seated (Ok key) e = (leaves_of key.tree.set - key.next, sym (ap book_in e))
+  fresh_is seated (Err fault) e = absurd cc
 
   pub there : (given : Result Seated SeatFault) → self_in l seat ≡ given → (seated : Seated) → given ≡ Ok seated →
       (s : Station) × (station_in l seat ≡ Ok s)
@@ -58,6 +72,7 @@ module _ (l : Listing) (seat : NodeSeat) (address : List ℕ) (listed : address_
         book = sits.book;
         cluster_is = f ∙ cluster_is sits.seated (key_in l (party_of seat) seat.seed seat.leaf) sits.is;
         address_is = refl;
+        fresh = fresh_is sits.seated (key_in l (party_of seat) seat.seed seat.leaf) sits.is;
       })
 
 -- ---- a node that serves at its station
@@ -84,11 +99,16 @@ module _ {V S : Type 0} {v : verifiers.Ghosts V} {g : signers.Ghosts S} (first n
   seated_so So h =
       subst (λ (me : ReplicaSelf). So s.seated.me.home.cluster me) at.me (subst (λ (c : Setting). So c (own first)) at.cluster_is h)
 
-  pub has_finished : (count : ℕ) → (IsNode first ticks told 0 n →
+  pub has_finished : SignsWithinFrames → (count : ℕ) → (IsNode first ticks told 0 n →
       Finished new later after count cluster (own first) connections (listening address n) before now) →
       HasFinished s connections n later after count before now
-  has_finished count so =
+  has_finished few count so =
       let f = so is_node in
+      let left = at.fresh.0 in
+      let most : f.new.book.pen.spent ≤ 0 + f.new.frames =
+      few cluster (own first) (pen_value 0 left) connections f.failed (listening address n) f.new (begins.book ∙ at.fresh.1)
+      (sym begins.outside.frames) f.served in
+      let counted = f.is.frames in
       record {
         new = f.new;
         failed = f.failed;
@@ -97,6 +117,7 @@ module _ {V S : Type 0} {v : verifiers.Ghosts V} {g : signers.Ghosts S} (first n
             (seated_so (λ c me. ServesParts connections f.failed c me (listening address n) f.new) f.served);
         is = record { moments = f.is.moments; links = f.is.links; frames = f.is.frames };
         risen = f.risen;
+        leaves = omega (arith, most, counted);
       }
 
   pub has_stopped : (fault : ServeFault) (told_as : NodeFault) → told_as ≡ serve_fault_of fault → (IsNode first ticks told 0 n →

@@ -1,5 +1,5 @@
 -- A node by its file.
-use Rattle.std.specs.Prelude.{◌≡◌, ⊤, ℕ, ◌+◌, List, Bool, true, false, Option, Some, None, Result, Ok, Err}
+use Rattle.std.specs.Prelude.{◌≡◌, ⊤, ℕ, ◌+◌, ◌≤◌, List, Bool, true, false, Option, Some, None, Result, Ok, Err}
 use Rattle.basil_types.specs.Links.{LinkState}
 use Rattle.node_link.specs.Asking.{RoseBy}
 use Rattle.node_link.specs.Connections.{Node, HasListened, ServesParts, ServesUntil, failed_outside, listening}
@@ -33,7 +33,8 @@ abbrev pub ServesAt : Station → (connections failed : ℕ) → (old new : Node
 ServesAt s connections failed old new =
     ServesParts connections failed s.seated.me.home.cluster s.seated.me (listening s.address old) new
 
--- so many connections were served, and the links' count rose by at least as many as were cut
+-- so many connections were served, the links' count rose by at least as many as were cut, and at most as many leaves of
+-- the key were used as the replica was handed frames
 pub record HasFinished (s : Station) (connections : ℕ) (old : Node) (ticks : Option (List ℕ)) (told : Option LinkState)
     (count before now : ℕ) : Type 0 where
   pub new : Node
@@ -41,6 +42,7 @@ pub record HasFinished (s : Station) (connections : ℕ) (old : Node) (ticks : O
   pub served : ServesAt s connections failed old new
   pub is : IsOutside ticks told count new
   pub risen : RoseBy failed before now
+  pub leaves : new.book.pen.spent ≤ count
 
 -- why a node stopped before they were, if it did
 abbrev pub stop_of : Result ℕ NodeFault → Option ServeFault

@@ -78,3 +78,4 @@ pub record StandsAt {V S : Type 0} {v : verifiers.Ghosts V} {g : signers.Ghosts 
   pub book : ShowsBook replica s.seated.book
   pub cluster_is : cluster ≡ s.seated.me.home.cluster
   pub address_is : address ≡ s.address
+  pub fresh : (left : ℕ) × (s.seated.book ≡ empty_book (pen_value 0 left))

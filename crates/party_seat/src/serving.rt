@@ -17,6 +17,7 @@ use basil_types::party::Party;
 use cluster_file::ClusterFile;
 use keyring::signer::Signer;
 use keyring::verifier::Verifier;
+use node_link::laws::signs_within_frames;
 use node_link::serve;
 use replica_core::Replica;
 use std::alloc::Global;
@@ -47,6 +48,7 @@ fn serve_at<V: Verifier, S: Signer, L: Links, C: Clock>(
     ensures fault { result ≡ Err NodeFault.LinkFault → Rose (L.faults links.old) (L.faults links.new) }
     ensures faults { L.faults links.old ≤ L.faults links.new }
 {
+    signs_within_frames();
     match serve(alloc, replica, cluster, address, links, clock, connections) {
         Ok(frames) => Ok(frames),
         Err(fault) => Err(NodeFault::from(fault)),
@@ -55,7 +57,7 @@ fn serve_at<V: Verifier, S: Signer, L: Links, C: Clock>(
 
 /// Serves the replica of a seat of the file: it listens at the file's address and accepts so many connections, at most
 /// 1,000,000, one after another, as `node_link::serve` does. Answers how many frames the replica was handed, those that
-/// it refused too.
+/// it refused too; it used at most as many leaves of its key.
 ///
 /// - `WrongKey` where the file doesn't list the replica, or its seed doesn't give the listed public key.
 /// - `WrongLeaf` where the first leaf is beyond the leaves of its tree, tested after the key.

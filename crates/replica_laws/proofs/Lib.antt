@@ -5,5 +5,6 @@ mod Going
 mod Releasing
 mod Handling
 mod Placing
+mod Counting
 mod AtOnce
 mod AtRelease

@@ -48,6 +48,12 @@ PlacesNeverRepeat =
     (me : ReplicaSelf) (book : BookValue) (hs : List Handed) →
     Spends book (book_after me book hs) (length (signed_in me book hs))
 
+-- from the empty book on at most as many words are signed as frames are handed, though an outcome may sign many votes
+abbrev pub SignsNoMoreThanHanded : Type 0
+SignsNoMoreThanHanded =
+    (me : ReplicaSelf) (pen : PenValue) (hs : List Handed) →
+    length (signed_in me (empty_book pen) hs) ≤ length hs
+
 -- ---- what is known
 
 -- what is known of a transaction stays: its text, its vote once it is given, its outcome once there is one

@@ -2,6 +2,7 @@
 
 ghost use Rattle.replica_laws.specs.Placing.{WordsTakePlaces};
 ghost use Rattle.replica_laws.specs.Steps.{PlacesNeverRepeat, NothingIsForgotten, OneVoteEach, OneDecisionPerView};
+ghost use Rattle.replica_laws.specs.Steps.{SignsNoMoreThanHanded};
 
 use txn_table::laws::{ids_tell_places, released_votes_ascend};
 
@@ -19,6 +20,14 @@ pub fn words_take_places()
     ensures { WordsTakePlaces }
 {
     ids_tell_places();
+    released_votes_ascend();
+}
+
+/// From the empty book on at most as many words are signed as frames are handed: each vote that an outcome releases was
+/// asked for by a frame that signed nothing.
+pub fn signs_no_more_than_handed()
+    ensures { SignsNoMoreThanHanded }
+{
     released_votes_ascend();
 }
 

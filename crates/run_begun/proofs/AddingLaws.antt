@@ -4,7 +4,7 @@ use Rattle.std.specs.Prelude.{◌&&◌, ◌==◌, is_some, length, nat_lt, optio
 use Rattle.std.specs.Option.{option_map_or}
 use Rattle.basil_types.specs.Limits.{most_keys}
 use Rattle.basil_types.specs.Built.{key_fits, or_else, write_fits}
-use Rattle.client_core.specs.declared.fault.CallFault.TheVariants.{NotOpen, TooMany, SizeOut, Empty}
+use Rattle.client_steps.specs.declared.fault.CallFault.TheVariants.{NotOpen, TooMany, SizeOut, Empty}
 use Rattle.client_core.specs.Calls.{call_write}
 use Rattle.client_core.specs.Slots.{put_write}
 use Rattle.cluster_run.specs.declared.fault.WorldFault.{WorldFault}

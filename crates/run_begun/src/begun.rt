@@ -18,7 +18,7 @@ use basil_types::memory::NoMemory;
 use basil_types::transaction::parts::{ReadPart, WritePart};
 use basil_types::transaction::{BuildFault, Transaction};
 use basil_types::version::Version;
-use client_core::fault::CallFault;
+use client_core::CallFault;
 use client_core::ordered::put_in;
 use std::alloc::Global;
 use std::marker::Model;

@@ -1,10 +1,10 @@
 -- What the run came to is written.
 use Rattle.std.proofs.Common.{rules, inl, inr}
 use Rattle.basil_types.specs.Causes.{Rose, TookAll, TookPrefix}
-use Rattle.basil_cli.specs.Answers.{counted}
+use Rattle.command_ends.specs.Answers.{counted}
 use Rattle.basil_cli.specs.Clients.{client_station}
-use Rattle.basil_cli.specs.Outcome.{read_fault_text}
-use Rattle.basil_cli.specs.Parts.{outcome_is}
+use Rattle.command_ends.specs.Outcome.{read_fault_text}
+use Rattle.command_ends.specs.Endings.{outcome_is}
 use Rattle.basil_cli.proofs.ClientLaws.{client_refused_any, client_told}
 use Rattle.basil_cli.proofs.NodeLaws.{some_both, some_map}
 use Rattle.basil_cli.proofs.client.run_client.Goals as goal

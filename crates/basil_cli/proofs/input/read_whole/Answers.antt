@@ -1,5 +1,5 @@
 use Rattle.std.proofs.Common.{rules, ◌≡◌, ◌++◌, ◌<◌, ◌≤◌, length, take}
-use Rattle.basil_cli.specs.Outcome.{is_too_long, longest_input}
+use Rattle.command_ends.specs.Outcome.{is_too_long, longest_input}
 use Rattle.basil_cli.specs.Reading.{longest_piece}
 use Rattle.basil_cli.proofs.Stopping.{consumes-more, enough_through, short, stops_behind, stops_failed, stops_there, too-long}
 use Rattle.basil_cli.proofs.input.read_whole.Goals as goal

@@ -1,6 +1,6 @@
 use Rattle.std.proofs.Common.{◌≡◌, ◌≤◌, length}
 use Rattle.std.specs.Io.KnownBytes.{Consumes}
-use Rattle.basil_cli.specs.Outcome.{longest_input}
+use Rattle.command_ends.specs.Outcome.{longest_input}
 use Rattle.basil_cli.proofs.input.read_whole.Given as goal
 
 abbrev pub invariant-turns : goal.invariant-turns

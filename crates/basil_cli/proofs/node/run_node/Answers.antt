@@ -2,10 +2,10 @@
 use Rattle.std.proofs.Common.{rules, ◌≡◌, Some, None, Err, inl, inr}
 use Rattle.basil_types.specs.Causes.{Rose, TookAll, TookPrefix}
 use Rattle.node_link.specs.declared.fault.ServeFault.TheVariants as stops
-use Rattle.basil_cli.specs.Answers.{counted}
+use Rattle.command_ends.specs.Answers.{counted}
 use Rattle.basil_cli.specs.Nodes.{station_of}
-use Rattle.basil_cli.specs.Outcome.{link_fault_text, read_fault_text}
-use Rattle.basil_cli.specs.Parts.{outcome_is}
+use Rattle.command_ends.specs.Outcome.{link_fault_text, read_fault_text}
+use Rattle.command_ends.specs.Endings.{outcome_is}
 use Rattle.basil_cli.specs.declared.input.InputFail.TheVariants as input
 use Rattle.basil_cli.proofs.NodeLaws.{node_told, ok_map, refused_any, some_both, some_map, stopped_as, stopped_told, weaker_link}
 use Rattle.basil_cli.proofs.NodeLaws.{weaker_same, wrote, wrote_at, wrote_served}

@@ -2,7 +2,7 @@ use Rattle.std.proofs.Common.{ap, ◌∙◌}
 use Rattle.basil_types.specs.Shown.{transaction_of}
 use Rattle.frame_views.specs.Shown.{certificate_of}
 use Rattle.keyring_lms.specs.Replay.{replay_accepts}
-use Rattle.basil_cli.specs.Outcome.{Refused}
+use Rattle.command_ends.specs.Outcome.{Refused}
 use Rattle.basil_cli.proofs.NeedLaws.{needs_no_key}
 use Rattle.basil_cli.proofs.proving.judge_by_replay.Goals as goal
 

@@ -1,7 +1,8 @@
 use Rattle.std.proofs.Common.{rules, ◌≡◌, false, true}
 use Rattle.std.specs.Prelude.{IfSome}
 use Rattle.basil_cli.specs.Commands.{reads}
-use Rattle.basil_cli.specs.Parts.{IsWhole, outcome_is}
+use Rattle.command_ends.specs.Endings.{outcome_is}
+use Rattle.basil_cli.specs.Parts.{IsWhole}
 use Rattle.basil_cli.specs.declared.input.Whole.TheVariants as whole
 use Rattle.basil_cli.proofs.Arguments.{long_as, unread_all}
 use Rattle.basil_cli.proofs.SourceLaws.{long_ended}

@@ -2,11 +2,11 @@
 use Rattle.std.proofs.Common.{rules, ◌≡◌, Some, None, Ok, map, string_bytes, refl, subst}
 use Rattle.std.specs.Prelude.{IfErr, IfSome}
 use Rattle.party_seat.specs.Serving.{Begins, HasStopped, serves_at}
-use Rattle.basil_cli.specs.Answers.{Answers, counted}
+use Rattle.command_ends.specs.Answers.{Answers, counted}
 use Rattle.basil_cli.specs.Clients.{ToldRun, client_of, client_station}
 use Rattle.basil_cli.specs.Commands.{command_of}
 use Rattle.basil_cli.specs.Nodes.{WroteAt, WroteServed, node_of, station_of, stop_told}
-use Rattle.basil_cli.specs.Outcome.{is_too_long}
+use Rattle.command_ends.specs.Outcome.{is_too_long}
 use Rattle.basil_cli.specs.declared.client.ClientCall.{ClientCall}
 use Rattle.basil_cli.specs.declared.node.NodeCall.{NodeCall}
 use Rattle.basil_cli.proofs.Arguments.{untaken_arguments}

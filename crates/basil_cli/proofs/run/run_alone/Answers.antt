@@ -1,6 +1,6 @@
 use Rattle.std.proofs.Common.{rules, ◌≡◌, Option, Some, map, string_bytes, subst, sym}
 use Rattle.std.specs.Prelude.{IfSome}
-use Rattle.basil_cli.specs.Answers.{Answers, IsTold, counted}
+use Rattle.command_ends.specs.Answers.{Answers, IsTold, counted}
 use Rattle.basil_cli.specs.Commands.{command_of}
 use Rattle.basil_cli.specs.Linked.{ByArguments, OfBytes}
 use Rattle.basil_cli.specs.Output.{outcome_with}

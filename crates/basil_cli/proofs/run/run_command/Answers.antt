@@ -1,8 +1,8 @@
 use Rattle.std.proofs.Common.{rules, inl, inr}
 use Rattle.basil_types.specs.Causes.{Rose, TookPrefix}
-use Rattle.basil_cli.specs.Answers.{counted}
-use Rattle.basil_cli.specs.Outcome.{link_fault_text, read_fault_text}
-use Rattle.basil_cli.specs.declared.status.Status.TheVariants as ends
+use Rattle.command_ends.specs.Answers.{counted}
+use Rattle.command_ends.specs.Outcome.{link_fault_text, read_fault_text}
+use Rattle.command_ends.specs.declared.status.Status.TheVariants as ends
 use Rattle.basil_cli.proofs.Arguments.{ending_answers, ending_told, fault_answers}
 use Rattle.basil_cli.proofs.run.run_command.Goals as goal
 

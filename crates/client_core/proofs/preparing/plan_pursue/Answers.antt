@@ -27,6 +27,7 @@ returns-clause-planned c = λ me held v s h at cluster.
     (ap (λ (l : List Envelope). l ++ sealed_all signature p) none
     ∙ pursue_sends c.args.seat.now.cluster t signature p.frames.items
     (c.signatures_end_frames.ensures.first_stages (record { transaction = t; signature = signature })) c.in_ok-pending.ensures.fronts
+    (c.frames_reach_shards.ensures.involved c.args.seat.now.cluster t (first signature))
     ∙ ap (λ (k : Setting). map framed (to_involved k t (first signature))) (sym cluster)
     ∙ ap (λ (w : List ℕ). map framed (to_involved me.cluster t (first (me.signing.gives v.pen.spent w)))) words)
 

@@ -1,7 +1,7 @@
 use Rattle.client_core.specs.Clients.{quiet}
 use Rattle.client_core.specs.Calls.{read_done}
 use Rattle.client_core.specs.Seats.{self_at}
-use Rattle.client_core.specs.declared.steps.ReadStep.TheVariants.{Refused, Known, Asks}
+use Rattle.client_steps.specs.declared.steps.ReadStep.TheVariants.{Refused, Known, Asks}
 use Rattle.client_core.proofs.HeldLaws.{got, read_answers}
 use Rattle.client_core.proofs.PlanLaws.{nothing_ready}
 use Rattle.client_core.proofs.ReadingLaws.{nothing_done}

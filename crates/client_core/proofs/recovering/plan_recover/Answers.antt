@@ -4,7 +4,7 @@ use Rattle.basil_types.specs.Transaction.{id}
 use Rattle.node_steps.specs.Refusing.{unless}
 use Rattle.txn_meta.specs.Form.{form_fault}
 use Rattle.txn_meta.specs.declared.form.FormFault.{FormFault}
-use Rattle.client_core.specs.declared.fault.CallFault.TheVariants.{BadTransaction}
+use Rattle.client_steps.specs.declared.fault.CallFault.TheVariants.{BadTransaction}
 use Rattle.client_core.specs.Calls.{recover_by}
 use Rattle.client_core.specs.Recovering.{again_done, hold_done}
 use Rattle.client_core.specs.Seats.{self_at}

@@ -6,7 +6,7 @@ use Rattle.node_steps.specs.Framed.{framed}
 use Rattle.client_recover.specs.Certifying.{settled}
 use Rattle.client_recover.specs.Pursuits.{outcome, second_stage, to_log_shard}
 use Rattle.client_core.specs.declared.work.Work.TheVariants.{Start}
-use Rattle.client_core.specs.Sending.{SendsSecond}
+use Rattle.client_steps.specs.Sending.{SendsSecond}
 use Rattle.client_core.proofs.PlanLaws.{nothing_ready, ready_at}
 use Rattle.client_core.proofs.SettleLaws.{settle_none, settle_over, settle_starts, start_planned, still_planned}
 use Rattle.client_core.proofs.ShowingLaws.{shown_stands}

@@ -1,6 +1,6 @@
 -- Where nothing is logged nothing happens.
 use Rattle.std.proofs.Common.{rules, ◌≡◌, refl, ap, ◌∙◌, Err}
-use Rattle.client_core.specs.declared.fault.CallFault.TheVariants as calls
+use Rattle.client_steps.specs.declared.fault.CallFault.TheVariants as calls
 use Rattle.client_core.specs.Seats.{self_at}
 use Rattle.client_link.proofs.TurnLaws.{called_still, not_wanting, unlogged}
 use Rattle.client_link.proofs.closing.invoke_logged.Goals as goal

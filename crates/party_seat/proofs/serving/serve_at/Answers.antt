@@ -8,11 +8,12 @@ returns-in-Ok-clause-all g c = search rules
 
 pub returns-in-Ok-clause-some : goal.returns-in-Ok-clause-some
 returns-in-Ok-clause-some g c s n at begins =
-    has_finished _ _ _ _ s at _ _ _ _ _ n begins _ _ _ (λ h. c.in-Ok.ensures.some n h)
+    has_finished _ _ _ _ s at _ _ _ _ _ n begins _ _ c.signs_within_frames.ensures _ (λ h. c.in-Ok.ensures.some n h)
 
 pub returns-in-Ok-clause-stands : goal.returns-in-Ok-clause-stands
 returns-in-Ok-clause-stands g c s n at begins =
-    stops_done s _ n _ _ _ _ _ (has_finished _ _ _ _ s at _ _ _ _ _ n begins _ _ _ (λ h. c.in-Ok.ensures.some n h))
+    stops_done s _ n _ _ _ _ _
+    (has_finished _ _ _ _ s at _ _ _ _ _ n begins _ _ c.signs_within_frames.ensures _ (λ h. c.in-Ok.ensures.some n h))
 
 pub returns-in-Err-clause-stands : goal.returns-in-Err-clause-stands
 returns-in-Err-clause-stands g c s n at begins =

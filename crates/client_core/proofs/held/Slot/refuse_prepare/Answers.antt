@@ -1,7 +1,8 @@
 use Rattle.std.proofs.Common.{rules, ◌≡◌, ◌∙◌, false, refl, sym, ap, subst}
 use Rattle.std.specs.Prelude.{is_some, ◌==◌}
 use Rattle.client_core.specs.Calls.{pending}
-use Rattle.client_core.specs.Showing.{RefusesCall, slot_value}
+use Rattle.client_core.specs.Showing.{slot_value}
+use Rattle.client_steps.specs.Refusals.{RefusesCall}
 use Rattle.client_core.proofs.ShowingLaws.{formed_same}
 use Rattle.client_core.proofs.StepLaws.{chain_same, nothing_law}
 use Rattle.client_core.proofs.held.Slot.refuse_prepare.Goals as goal

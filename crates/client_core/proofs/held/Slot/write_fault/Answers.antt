@@ -1,5 +1,5 @@
 use Rattle.std.proofs.Common.{◌∙◌, ap}
-use Rattle.client_core.specs.Steps.{fault_of}
+use Rattle.client_steps.specs.Steps.{fault_of}
 use Rattle.client_core.proofs.StepLaws.{write_law}
 use Rattle.client_core.proofs.held.Slot.write_fault.Goals as goal
 

@@ -1,8 +1,0 @@
-use Rattle.std.proofs.Common.{rules}
-use Rattle.basil_cli.proofs.writing.write_ending.Goals as goal
-
-pub returns-in-Ok-write-clause-answers : goal.returns-in-Ok-write-clause-answers
-returns-in-Ok-write-clause-answers g c = search rules
-
-pub returns-in-Ok-write-clause-complete : goal.returns-in-Ok-write-clause-complete
-returns-in-Ok-write-clause-complete g c = search rules

@@ -1,0 +1,2 @@
+mod AddressLaws
+mod SendingLaws

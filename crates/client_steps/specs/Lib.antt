@@ -1,0 +1,4 @@
+pub mod Steps
+pub mod Refusals
+pub mod Addressing
+pub mod Sending
