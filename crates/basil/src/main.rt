@@ -2,18 +2,11 @@
 //! to the top call.
 #![tactic(auto)]
 
-mod clock;
-mod input;
-mod output;
-mod sockets;
-#[cfg(test)]
-mod tests;
-
 use basil_cli::run::run;
-use clock::SystemClock;
-use input::Input;
-use output::Output;
-use sockets::SocketLinks;
+use machine_adapters::clock::SystemClock;
+use machine_adapters::input::Input;
+use machine_adapters::output::Output;
+use machine_adapters::sockets::SocketLinks;
 use std::process::ExitCode;
 use std::{env, io};
 

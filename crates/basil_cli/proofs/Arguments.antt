@@ -6,21 +6,22 @@ use Rattle.std.specs.Prelude.{IfOk, IfSome}
 use Rattle.basil_types.specs.Links.{LinkState}
 use Rattle.schedule_replay.proofs.RoadLaws.{carries_as, carries_none}
 use Rattle.command_ends.specs.Answers.{Answers, Counts, IsTold}
-use Rattle.basil_cli.specs.Commands.{reads, runs, arguments_carried}
-use Rattle.basil_cli.specs.Linked.{ByArguments, OfBytes}
+use Rattle.command_input.specs.Commands.{reads, runs, arguments_carried}
+use Rattle.basil_cli.specs.Linked.{ByArguments}
+use Rattle.command_input.specs.Reading.{OfBytes, IsReadThrough, StopsSoon}
 use Rattle.command_ends.specs.Outcome.{Outcome, TooLong, Usage, is_too_long, longest_input, unless_too_long}
 use Rattle.basil_cli.specs.Output.{outcome_with, output_of}
 use Rattle.command_ends.specs.Endings.{outcome_is}
-use Rattle.basil_cli.specs.Reading.{IsReadThrough, StopsSoon, StopsSoonFor, is_enough}
-use Rattle.basil_cli.specs.declared.command.Command.{Command}
-use Rattle.basil_cli.specs.declared.command.Command.TheVariants.{Replay, Generate, Load, Keys, Sign, Verify, HssKeys, HssSign, HssVerify}
-use Rattle.basil_cli.specs.declared.command.Command.TheVariants.{Batch, Unbatch, Check, Confirm, Audit}
+use Rattle.basil_cli.specs.Reading.{StopsSoonFor, is_enough}
+use Rattle.command_input.specs.declared.command.Command.{Command}
+use Rattle.command_input.specs.declared.command.Command.TheVariants.{Replay, Generate, Load, Keys, Sign, Verify}
+use Rattle.command_input.specs.declared.command.Command.TheVariants.{HssKeys, HssSign, HssVerify, Batch, Unbatch, Check, Confirm, Audit}
 use Rattle.command_ends.specs.declared.ending.Ending.{Ending}
-use Rattle.basil_cli.specs.declared.input.InputFail.{InputFail}
+use Rattle.command_input.specs.declared.input.InputFail.{InputFail}
 use Rattle.command_ends.specs.declared.status.Status.{Status}
 use Rattle.command_ends.specs.declared.status.Status.TheVariants as ends
-use Rattle.basil_cli.proofs.SourceLaws.{of_any, of_map}
-use Rattle.basil_cli.proofs.Stopping.{untaken_for}
+use Rattle.command_input.proofs.SourceLaws.{of_any, of_map}
+use Rattle.command_input.proofs.Stopping.{untaken}
 
 -- another command than that of a schedule
 pub runs_not : (command : Command) → ((carried : Bool) → command ≡ Replay carried → ⊥) → runs command ≡ false
@@ -183,6 +184,17 @@ module _ (o : Option Command) (a : Option LinkState) (left : Option (List ℕ)) 
 
   pub wanting_told : OfBytes left (λ bytes. ByArguments o a a (λ coming. IsTold ends.NoMemory (outcome_with o coming bytes)))
   wanting_told = of_all o a left (λ bytes coming. IsTold ends.NoMemory (outcome_with o coming bytes)) (λ bytes coming. inr refl)
+
+-- ---- where nothing was taken of the source
+
+pub untaken_all : (command : Command) (left : Option (List ℕ)) →
+    IfSome left (λ bytes. (coming : List (List ℕ)) → StopsSoon (is_enough command coming) bytes left)
+untaken_all command None = tt
+untaken_all command (Some bytes) = λ coming. untaken (is_enough command coming) (Some bytes)
+
+pub untaken_for : (command : Option Command) (coming : List (List ℕ)) (bytes : List ℕ) → StopsSoonFor command coming bytes (Some bytes)
+untaken_for None coming bytes = tt
+untaken_for (Some command) coming bytes = untaken (is_enough command coming) (Some bytes)
 
 -- where nothing was taken of the source either
 pub untaken_arguments : (o : Option Command) (a : Option LinkState) (left : Option (List ℕ)) →

@@ -6,16 +6,17 @@ use Rattle.batch_text.specs.Findings.{FindingsAreReal}
 use Rattle.batch_text.specs.Texts.{kept_in}
 use Rattle.batch_text.specs.declared.reading.Kept.{Kept}
 use Rattle.command_ends.specs.Answers.{Answers, Counts, Tells}
-use Rattle.basil_cli.specs.Batches.{ToldReally, unbatched, unbatched_with}
-use Rattle.basil_cli.specs.Linked.{ByArguments, OfBytes}
+use Rattle.signature_commands.specs.Batches.{ToldReally, unbatched, unbatched_with}
+use Rattle.basil_cli.specs.Linked.{ByArguments}
+use Rattle.command_input.specs.Reading.{OfBytes}
 use Rattle.command_ends.specs.Outcome.{TooLong, is_too_long, unless_too_long}
 use Rattle.basil_cli.specs.Output.{output_of}
-use Rattle.basil_cli.specs.declared.command.Claim.{Claim}
-use Rattle.basil_cli.specs.declared.command.Command.{Command}
-use Rattle.basil_cli.specs.declared.command.Command.TheVariants.{Unbatch}
+use Rattle.command_input.specs.declared.command.Claim.{Claim}
+use Rattle.command_input.specs.declared.command.Command.{Command}
+use Rattle.command_input.specs.declared.command.Command.TheVariants.{Unbatch}
 use Rattle.command_ends.specs.declared.status.Status.{Status}
 use Rattle.command_ends.specs.declared.status.Status.TheVariants as ends
-use Rattle.basil_cli.proofs.SourceLaws.{of_map}
+use Rattle.command_input.proofs.SourceLaws.{of_map}
 
 -- the statuses that tell a finding, but for a refusal
 abbrev pub TellsFinding : Status → Type 0

@@ -14,14 +14,17 @@ use Rattle.schedule_replay.specs.declared.fault.ReplayFault.{ReplayFault}
 use Rattle.schedule_replay.specs.declared.fault.ReplayFault.TheVariants as fault
 use Rattle.command_ends.specs.Answers.{Answers, Counts, Tells, TookFault, TookSome}
 use Rattle.basil_cli.specs.ScheduleEnds.{IsBrokenEnd, LoadedInPart, LoadedSafely, WroteSafely, WroteSome}
-use Rattle.basil_cli.specs.Commands.{reads}
-use Rattle.basil_cli.proofs.SourceLaws.{of_map}
-use Rattle.basil_cli.specs.Linked.{ByRoads, ByArguments, OfBytes}
+use Rattle.command_input.specs.Commands.{reads}
+use Rattle.command_input.proofs.SourceLaws.{of_map}
+use Rattle.schedule_commands.specs.Roads.{ByRoads}
+use Rattle.basil_cli.specs.Linked.{ByArguments}
+use Rattle.command_input.specs.Reading.{OfBytes}
 use Rattle.command_ends.specs.Outcome.{text_of}
-use Rattle.basil_cli.specs.Output.{load_text, loaded, output_of, replayed}
-use Rattle.basil_cli.specs.declared.command.Command.{Command}
-use Rattle.basil_cli.specs.declared.command.Command.TheVariants.{Replay, Load}
-use Rattle.basil_cli.specs.declared.command.LoadSize.{LoadSize}
+use Rattle.schedule_commands.specs.Schedules.{load_text, loaded, replayed}
+use Rattle.basil_cli.specs.Output.{output_of}
+use Rattle.command_input.specs.declared.command.Command.{Command}
+use Rattle.command_input.specs.declared.command.Command.TheVariants.{Replay, Load}
+use Rattle.command_input.specs.declared.command.LoadSize.{LoadSize}
 use Rattle.command_ends.specs.declared.status.Status.{Status}
 use Rattle.command_ends.specs.declared.status.Status.TheVariants as ends
 

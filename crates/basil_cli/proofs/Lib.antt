@@ -1,12 +1,5 @@
-pub mod LineEnds
-pub mod Settling
-pub mod Stopping
-pub mod Behind
-pub mod NeedLaws
-pub mod Ends
-pub mod Counts
-pub mod SourceLaws
+pub mod Wholes
 pub mod Arguments
-pub mod NodeLaws
-pub mod ClientLaws
+pub mod PartyArguments
 pub mod BatchEnds
+pub mod Ends

@@ -1,16 +1,4 @@
-pub mod Ranges
-pub mod Commands
-pub mod Signatures
-pub mod Batches
-pub mod Checking
-pub mod Files
-pub mod Confirming
-pub mod Signers
 pub mod Output
-pub mod ScheduleEnds
 pub mod Reading
-pub mod Parts
-pub mod Behind
 pub mod Linked
-pub mod Nodes
-pub mod Clients
+pub mod ScheduleEnds

@@ -11,8 +11,8 @@ use Rattle.schedule_replay.specs.Totals.{totals}
 use Rattle.schedule_replay.specs.declared.fault.ReplayFault.{ReplayFault}
 use Rattle.schedule_replay.specs.declared.fault.ReplayFault.TheVariants as fault
 use Rattle.command_ends.specs.Outcome.{Broken, text_of}
-use Rattle.basil_cli.specs.Output.{load_text}
-use Rattle.basil_cli.specs.declared.command.LoadSize.{LoadSize}
+use Rattle.schedule_commands.specs.Schedules.{load_text}
+use Rattle.command_input.specs.declared.command.LoadSize.{LoadSize}
 
 -- what was written is the report of a run by the schedule's lines with at most f faulty replicas of each shard; no
 -- transaction has both certificates there, and each committed transaction of a correct client read, per key, what the

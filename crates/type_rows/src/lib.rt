@@ -1,4 +1,4 @@
-//! Tests of types and forms, of a pool of messages, and of disks and their journals, as tables.
+//! Tests of types and forms, of a pool of messages, of disks and their journals, and of the adapters to this machine.
 #![tactic(auto)]
 
 #[cfg(test)]
@@ -13,6 +13,8 @@ mod ids;
 mod journals;
 #[cfg(test)]
 mod links;
+#[cfg(test)]
+mod machine;
 #[cfg(test)]
 mod outside;
 #[cfg(test)]

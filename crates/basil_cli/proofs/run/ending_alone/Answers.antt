@@ -1,12 +1,11 @@
 use Rattle.std.proofs.Common.{rules, ◌≡◌, false, true}
 use Rattle.std.specs.Prelude.{IfSome}
-use Rattle.basil_cli.specs.Commands.{reads}
+use Rattle.command_input.specs.Commands.{reads}
 use Rattle.command_ends.specs.Endings.{outcome_is}
-use Rattle.basil_cli.specs.Parts.{IsWhole}
-use Rattle.basil_cli.specs.declared.input.Whole.TheVariants as whole
-use Rattle.basil_cli.proofs.Arguments.{long_as, unread_all}
-use Rattle.basil_cli.proofs.SourceLaws.{long_ended}
-use Rattle.basil_cli.proofs.Stopping.{untaken_all}
+use Rattle.command_input.specs.Inputs.{IsWhole}
+use Rattle.command_input.specs.declared.input.Whole.TheVariants as whole
+use Rattle.basil_cli.proofs.Arguments.{long_as, unread_all, untaken_all}
+use Rattle.basil_cli.proofs.Wholes.{long_ended}
 use Rattle.basil_cli.proofs.run.ending_alone.Goals as goal
 
 pub returns-in_err-ending_of-clause-soon : goal.returns-in_err-ending_of-clause-soon

@@ -1,6 +1,6 @@
 use Rattle.schedule_replay.proofs.RoadLaws.{unused_by}
-use Rattle.basil_cli.specs.Commands.{is_carried}
-use Rattle.basil_cli.specs.Parts.{is_link_fail}
+use Rattle.command_input.specs.Commands.{is_carried}
+use Rattle.command_input.specs.Inputs.{is_link_fail}
 use Rattle.basil_cli.proofs.Arguments.{ended_alone, runs_not, soon_alone, through_alone}
 use Rattle.basil_cli.proofs.run.ending_for.Goals as goal
 

@@ -3,16 +3,18 @@ use Rattle.std.proofs.Common.{rules, ◌≡◌, Some, None, Ok, map, string_byte
 use Rattle.std.specs.Prelude.{IfErr, IfSome}
 use Rattle.party_seat.specs.Serving.{Begins, HasStopped, serves_at}
 use Rattle.command_ends.specs.Answers.{Answers, counted}
-use Rattle.basil_cli.specs.Clients.{ToldRun, client_of, client_station}
-use Rattle.basil_cli.specs.Commands.{command_of}
-use Rattle.basil_cli.specs.Nodes.{WroteAt, WroteServed, node_of, station_of, stop_told}
+use Rattle.party_commands.specs.Clients.{ToldRun, client_of, client_station}
+use Rattle.command_input.specs.Commands.{command_of}
+use Rattle.party_commands.specs.Nodes.{WroteAt, WroteServed, node_of, station_of, stop_told}
 use Rattle.command_ends.specs.Outcome.{is_too_long}
-use Rattle.basil_cli.specs.declared.client.ClientCall.{ClientCall}
-use Rattle.basil_cli.specs.declared.node.NodeCall.{NodeCall}
+use Rattle.party_commands.specs.declared.client.ClientCall.{ClientCall}
+use Rattle.party_commands.specs.declared.node.NodeCall.{NodeCall}
 use Rattle.basil_cli.proofs.Arguments.{untaken_arguments}
-use Rattle.basil_cli.proofs.ClientLaws.{client_is_none, client_refused_any, client_wanting, no_such, node_no_client, same_client}
-use Rattle.basil_cli.proofs.NodeLaws.{node_is_none, node_wanting, not_begun, not_read, refused_any, same_call, some_any}
-use Rattle.basil_cli.proofs.Stopping.{untaken}
+use Rattle.basil_cli.proofs.PartyArguments.{client_is_none, client_wanting, no_such, node_is_none, node_no_client, node_wanting}
+use Rattle.basil_cli.proofs.PartyArguments.{not_read, same_call, same_client}
+use Rattle.party_commands.proofs.ClientLaws.{client_refused_any}
+use Rattle.party_commands.proofs.NodeLaws.{not_begun, refused_any, some_any}
+use Rattle.command_input.proofs.Stopping.{untaken}
 use Rattle.basil_cli.proofs.run.run.Goals as goal
 
 pub returns-in-Ok-Some-Node-clause-safe : goal.returns-in-Ok-Some-Node-clause-safe

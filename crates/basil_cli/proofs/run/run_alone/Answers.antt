@@ -1,11 +1,12 @@
 use Rattle.std.proofs.Common.{rules, ◌≡◌, Option, Some, map, string_bytes, subst, sym}
 use Rattle.std.specs.Prelude.{IfSome}
 use Rattle.command_ends.specs.Answers.{Answers, IsTold, counted}
-use Rattle.basil_cli.specs.Commands.{command_of}
-use Rattle.basil_cli.specs.Linked.{ByArguments, OfBytes}
+use Rattle.command_input.specs.Commands.{command_of}
+use Rattle.basil_cli.specs.Linked.{ByArguments}
+use Rattle.command_input.specs.Reading.{OfBytes}
 use Rattle.basil_cli.specs.Output.{outcome_with}
 use Rattle.basil_cli.specs.Reading.{IsReadFor, StopsSoonFor}
-use Rattle.basil_cli.specs.declared.command.Command.{Command}
+use Rattle.command_input.specs.declared.command.Command.{Command}
 use Rattle.basil_cli.proofs.Ends.{broken_ends, load_breaks, load_ends, load_in_part, safe_ends, safe_in_part}
 use Rattle.basil_cli.proofs.Arguments.{untaken_arguments}
 use Rattle.basil_cli.proofs.BatchEnds.{unbatch_ends}

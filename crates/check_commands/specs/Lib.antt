@@ -1,0 +1,4 @@
+pub mod Checking
+pub mod Confirming
+pub mod Signers
+pub mod Auditing

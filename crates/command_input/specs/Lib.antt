@@ -1,0 +1,5 @@
+pub mod Ranges
+pub mod Commands
+pub mod Files
+pub mod Reading
+pub mod Inputs

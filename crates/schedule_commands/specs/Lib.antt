@@ -1,0 +1,4 @@
+pub mod TextLines
+pub mod Schedules
+pub mod Roads
+pub mod Behind
