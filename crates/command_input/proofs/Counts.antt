@@ -38,9 +38,6 @@ pub in_bound : (least bound : ℕ) (argument : Token) (n : ℕ) → number_in le
 unfolding number_in
 in_bound least bound argument n e = most least bound (number argument) n e
 
-pub count_fits : (argument : Token) (n : ℕ) → number_in 1 2000 argument ≡ Ok n → Fits w32 n
-count_fits argument n e = let small : n ≤ 2000 = in_bound 1 2000 argument n e in omega (arith, small)
-
 pub byte_fits : (argument : Token) (n : ℕ) → number_in 0 255 argument ≡ Ok n → Fits w8 n
 byte_fits argument n e = let small : n ≤ 255 = in_bound 0 255 argument n e in omega (arith, small)
 
