@@ -6,9 +6,9 @@ use Rattle.audit_text.specs.declared.finding.Finding.{Finding}
 use Rattle.audit_text.specs.declared.finding.Finding.TheVariants as finding
 use Rattle.basil_types.specs.Version.{genesis, same_version}
 use Rattle.basil_types.specs.declared.version.Version.{Version}
-use Rattle.schedule_text.specs.Refusals.{Refusal}
+use Rattle.line_fields.specs.Refusals.{Refusal}
 use Rattle.schedule_text.specs.Spelling.{key_token}
-use Rattle.schedule_text.specs.Tokens.{Token}
+use Rattle.line_fields.specs.Tokens.{Token}
 use Rattle.serial_audit.specs.Verdicts.{verdict_of}
 use Rattle.serial_audit.specs.declared.audit.Verdict.{Verdict}
 use Rattle.serial_audit.specs.declared.audit.Verdict.TheVariants as verdict

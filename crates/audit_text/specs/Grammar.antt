@@ -3,16 +3,16 @@ use Rattle.std.specs.Prelude.{ℕ, Bool, false, codes, bytes_eq, List, [], ◌�
 use Rattle.std.specs.Prelude.{length, nat_lt, if◌then◌else◌, Result, Ok, Err}
 use Rattle.audit_text.specs.declared.line.AuditLine.{AuditLine}
 use Rattle.audit_text.specs.declared.line.AuditLine.TheVariants.{Skipped, Tx, Read, Write, Delete}
-use Rattle.schedule_text.specs.Complaints.{made2, made3, reason_of}
-use Rattle.schedule_text.specs.Fields.{name, number, client, key, writer, value}
-use Rattle.schedule_text.specs.Limits.{longest_line}
+use Rattle.line_fields.specs.Complaints.{made2, made3, reason_of}
+use Rattle.line_fields.specs.Fields.{name, number, client, key, writer, value}
+use Rattle.line_fields.specs.Limits.{longest_line, numbered}
 use Rattle.schedule_text.specs.Lines.{fields}
-use Rattle.schedule_text.specs.Reading.{is_skipped, numbered}
-use Rattle.schedule_text.specs.Tokens.{Token, tokens, two_of, three_of}
-use Rattle.schedule_text.specs.declared.complaint.Complaint.{Complaint}
-use Rattle.schedule_text.specs.declared.complaint.Complaint.TheVariants.{Misspelt, OutOfSize}
-use Rattle.schedule_text.specs.declared.reason.Reason.{Reason}
-use Rattle.schedule_text.specs.declared.reason.Reason.TheVariants as reasons
+use Rattle.schedule_text.specs.Reading.{is_skipped}
+use Rattle.line_fields.specs.Tokens.{Token, tokens, two_of, three_of}
+use Rattle.line_fields.specs.declared.complaint.Complaint.{Complaint}
+use Rattle.line_fields.specs.declared.complaint.Complaint.TheVariants.{Misspelt, OutOfSize}
+use Rattle.line_fields.specs.declared.reason.Reason.{Reason}
+use Rattle.line_fields.specs.declared.reason.Reason.TheVariants as reasons
 
 -- `tx NAME TIME C`
 unfoldable pub tx : List Token → Result AuditLine Complaint

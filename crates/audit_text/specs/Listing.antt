@@ -11,10 +11,10 @@ use Rattle.audit_text.specs.declared.line.AuditLine.TheVariants.{Skipped, Tx, Re
 use Rattle.basil_types.specs.Transaction.{TransactionValue, version_of}
 use Rattle.basil_types.specs.Version.{genesis}
 use Rattle.basil_types.specs.declared.version.Version.{Version}
-use Rattle.schedule_text.specs.Refusals.{Refusal, on_line}
-use Rattle.schedule_text.specs.TextLines.{lines_of}
-use Rattle.schedule_text.specs.declared.reason.Reason.{Reason}
-use Rattle.schedule_text.specs.declared.reason.Reason.TheVariants.{WrongName, RefusedCall}
+use Rattle.line_fields.specs.Refusals.{Refusal, on_line}
+use Rattle.line_fields.specs.TextLines.{lines_of}
+use Rattle.line_fields.specs.declared.reason.Reason.{Reason}
+use Rattle.line_fields.specs.declared.reason.Reason.TheVariants.{WrongName, RefusedCall}
 
 -- names, each with the version of its transaction, in the order of the `tx` lines
 abbrev pub Names : Type 0

@@ -7,8 +7,8 @@ use Rattle.audit_text.specs.declared.stop.Failure.{Failure}
 use Rattle.audit_text.specs.declared.stop.Failure.TheVariants as failure
 use Rattle.audit_text.specs.declared.line.AuditLine.{AuditLine}
 use Rattle.basil_types.specs.declared.version.Version.{Version}
-use Rattle.schedule_text.specs.Refusals.{Refusal}
-use Rattle.schedule_text.specs.declared.reason.Reason.{Reason}
+use Rattle.line_fields.specs.Refusals.{Refusal}
+use Rattle.line_fields.specs.declared.reason.Reason.{Reason}
 
 -- what a line's value did, where this is what it should do
 abbrev pub Did : Result (Unit {0}) Stop → ListingValue → Result ListingValue Reason → Type 0

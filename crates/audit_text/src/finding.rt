@@ -11,7 +11,7 @@ use crate::stop::Failure;
 use basil_types::bytes::Bytes;
 use basil_types::memory::NoMemory;
 use basil_types::version::Version;
-use schedule_text::reason::Reason;
+use line_fields::reason::Reason;
 use schedule_text::writing::spell_key;
 use serial_audit::audit::{Verdict, audit};
 use std::alloc::Global;

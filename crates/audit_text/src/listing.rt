@@ -7,7 +7,7 @@ ghost use Rattle.audit_text.specs.Listing.{listed, begun, changed, draft_named, 
 ghost use Rattle.audit_text.specs.Grammar.{line_at};
 ghost use Rattle.audit_text.specs.Drafts as drafts;
 ghost use Rattle.audit_text.specs.Parts.{Did, Ran, Lists};
-ghost use Rattle.schedule_text.specs.TextLines.{lines_of};
+ghost use Rattle.line_fields.specs.TextLines.{lines_of};
 
 use crate::draft::Draft;
 use crate::line::AuditLine;
@@ -18,8 +18,8 @@ use basil_types::bytes::Bytes;
 use basil_types::memory::NoMemory;
 use basil_types::transaction::Transaction;
 use basil_types::version::Version;
-use schedule_text::lines::next_line;
-use schedule_text::reason::Reason;
+use line_fields::lines::next_line;
+use line_fields::reason::Reason;
 use std::alloc::Global;
 use std::marker::Model;
 use txn_meta::form::version_of;

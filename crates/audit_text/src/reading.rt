@@ -4,18 +4,19 @@ ghost use Rattle.std.specs.Prelude.{◌≡◌, ◌≢◌, IfOk, IfErr, OnErr, Ok
 ghost use Rattle.audit_text.specs.Grammar as grammar;
 ghost use Rattle.audit_text.specs.Grammar.{by_token, said, line_value, line_at};
 ghost use Rattle.audit_text.specs.Parts.{Reads};
-ghost use Rattle.schedule_text.specs.Tokens.{tokens, tokens_after};
+ghost use Rattle.line_fields.specs.Tokens.{tokens, tokens_after};
 
 use crate::line::AuditLine;
 use crate::stop::Stop;
 use basil_types::memory::NoMemory;
-use schedule_text::complaint::{Complaint, read_all3, read_both};
-use schedule_text::fields::escapes::{read_key, read_value};
-use schedule_text::fields::names::{read_name, read_writer};
-use schedule_text::fields::numbers::{read_client, read_number};
-use schedule_text::fields::spellings::is_text;
-use schedule_text::reading::{LONGEST_LINE, is_skipped, read_numbered};
-use schedule_text::tokens::{cut, three, two};
+use line_fields::complaint::{Complaint, read_all3, read_both};
+use line_fields::fields::escapes::{read_key, read_value};
+use line_fields::fields::names::{read_name, read_writer};
+use line_fields::fields::numbers::{read_client, read_number};
+use line_fields::fields::spellings::is_text;
+use line_fields::limits::{LONGEST_LINE, read_numbered};
+use line_fields::tokens::{cut, three, two};
+use schedule_text::reading::is_skipped;
 use std::alloc::Global;
 
 #[tactic(auto, unfolding(crate::specs::Grammar::tx))]

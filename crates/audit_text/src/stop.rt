@@ -1,7 +1,7 @@
 //! Why a text isn't read further.
 
 use basil_types::memory::NoMemory;
-use schedule_text::reason::Reason;
+use line_fields::reason::Reason;
 use std::alloc::AllocFailed;
 
 /// Why a line isn't taken.

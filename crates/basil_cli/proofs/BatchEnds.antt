@@ -1,6 +1,6 @@
 -- What holds of the end of `unbatch`.
 use Rattle.std.proofs.Common.{◌≡◌, ◌⊎◌, ℕ, List, [], Bool, true, false, Option, Some, Result, Ok, Err, inl, inr, refl, subst}
-use Rattle.schedule_text.specs.Refusals.{Refusal}
+use Rattle.line_fields.specs.Refusals.{Refusal}
 use Rattle.basil_types.specs.Links.{LinkState}
 use Rattle.batch_text.specs.Findings.{FindingsAreReal}
 use Rattle.batch_text.specs.Texts.{kept_in}

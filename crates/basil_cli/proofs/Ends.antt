@@ -10,8 +10,8 @@ use Rattle.schedule_replay.specs.Outcomes.{outcome_on, replay_of}
 use Rattle.schedule_replay.specs.Replays.{ReplayValue}
 use Rattle.schedule_replay.specs.Reports.{report}
 use Rattle.schedule_replay.specs.Roads.{Direct, Road, road_with}
-use Rattle.schedule_replay.specs.declared.fault.ReplayFault.{ReplayFault}
-use Rattle.schedule_replay.specs.declared.fault.ReplayFault.TheVariants as fault
+use Rattle.report_lines.specs.declared.fault.ReplayFault.{ReplayFault}
+use Rattle.report_lines.specs.declared.fault.ReplayFault.TheVariants as fault
 use Rattle.command_ends.specs.Answers.{Answers, Counts, Tells, TookFault, TookSome}
 use Rattle.basil_cli.specs.ScheduleEnds.{IsBrokenEnd, LoadedInPart, LoadedSafely, WroteSafely, WroteSome}
 use Rattle.command_input.specs.Commands.{reads}

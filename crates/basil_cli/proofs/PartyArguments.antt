@@ -17,7 +17,7 @@ use Rattle.party_commands.specs.declared.client.ClientTask.{ClientTask}
 use Rattle.party_commands.specs.declared.client.ClientTask.TheVariants.{Transact, Form, Recover, Certify}
 use Rattle.party_commands.specs.declared.node.NodeCall.{NodeCall}
 use Rattle.party_seat.specs.declared.client.ClientSeat.{ClientSeat}
-use Rattle.schedule_text.specs.Tokens.{Token}
+use Rattle.line_fields.specs.Tokens.{Token}
 
 -- ---- those of a node
 

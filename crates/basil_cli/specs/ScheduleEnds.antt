@@ -8,8 +8,8 @@ use Rattle.schedule_replay.specs.Replays.{ReplayValue}
 use Rattle.schedule_replay.specs.Reports.{report}
 use Rattle.schedule_replay.specs.Roads.{Direct, Road}
 use Rattle.schedule_replay.specs.Totals.{totals}
-use Rattle.schedule_replay.specs.declared.fault.ReplayFault.{ReplayFault}
-use Rattle.schedule_replay.specs.declared.fault.ReplayFault.TheVariants as fault
+use Rattle.report_lines.specs.declared.fault.ReplayFault.{ReplayFault}
+use Rattle.report_lines.specs.declared.fault.ReplayFault.TheVariants as fault
 use Rattle.command_ends.specs.Outcome.{Broken, text_of}
 use Rattle.schedule_commands.specs.Schedules.{load_text}
 use Rattle.command_input.specs.declared.command.LoadSize.{LoadSize}

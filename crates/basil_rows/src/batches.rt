@@ -4,7 +4,7 @@ use crate::signatures::{Case, IDENT, SEED, answer, are_written};
 use crate::support::is_answer;
 use basil_cli::status::Status;
 use hex::FromHex;
-use schedule_text::reason::Reason;
+use line_fields::reason::Reason;
 use sha2::{Digest, Sha256};
 use std::alloc::Global;
 use std::test::Fail;

@@ -4,7 +4,7 @@ use crate::replayed::{JOURNAL_HEADER, ONE_WRITE, REPLAYED, Replayed, STOPPED, WI
 use crate::support::{HEADER, is_answer, joined, loopback, run_arguments};
 use basil_cli::status::Status;
 use basil_types::memory::NoMemory;
-use schedule_text::reason::Reason;
+use line_fields::reason::Reason;
 use std::alloc::Global;
 use std::process::Abort;
 use std::test::Fail;

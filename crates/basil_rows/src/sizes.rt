@@ -3,7 +3,7 @@
 use crate::support::{HEADER, is_answer, joined, replay, run_arguments};
 use basil_cli::status::Status;
 use basil_types::memory::NoMemory;
-use schedule_text::reason::Reason;
+use line_fields::reason::Reason;
 use std::alloc::{AllocError, Global};
 use std::process::Abort;
 use std::test::Fail;

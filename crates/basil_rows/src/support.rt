@@ -52,6 +52,26 @@ fn run_owned<L: Links>(
     answer_of(alloc, status, sink.bytes())
 }
 
+/// A source of these bytes, in pieces of this length, of which these reads fail.
+fn source_of(
+    alloc: Global,
+    input: &[u8],
+    piece: usize,
+    failing: &[u64],
+) -> Result<MemSource, NoMemory>
+    requires { 0 < piece }
+{
+    let bytes = Vec::from_slice(alloc, input)?;
+    let failing = Vec::from_slice(alloc, failing)?;
+    Ok(MemSource::new(bytes, piece, failing))
+}
+
+/// A sink of which these writes fail.
+fn sink_of(alloc: Global, failing: &[u64]) -> Result<MemSink, NoMemory> {
+    let failing = Vec::from_slice(alloc, failing)?;
+    MemSink::new(alloc, 100_000, failing)
+}
+
 /// Runs one argument, and more where given, over a source that gives these bytes in pieces of this length, and over
 /// these links; the listed reads and writes fail.
 fn run_over<L: Links>(
@@ -66,11 +86,8 @@ fn run_over<L: Links>(
     requires { 0 < piece }
 {
     let given = given_arguments(alloc, arguments)?;
-    let bytes = Vec::from_slice(alloc, input)?;
-    let failing_reads = Vec::from_slice(alloc, failing_reads)?;
-    let failing_writes = Vec::from_slice(alloc, failing_writes)?;
-    let sink = MemSink::new(alloc, 100_000, failing_writes)?;
-    let source = MemSource::new(bytes, piece, failing_reads);
+    let source = source_of(alloc, input, piece, failing_reads)?;
+    let sink = sink_of(alloc, failing_writes)?;
     run_owned(alloc, &given, source, sink, links)
 }
 

@@ -4,10 +4,10 @@ use Rattle.std.proofs.Common.{subst, arith}
 use Rattle.std.proofs.lemmas.List.{length-append}
 use Rattle.batch_sign.specs.Batches.{add_fault}
 use Rattle.batch_sign.specs.declared.batch.BatchFault.{BatchFault}
-use Rattle.schedule_text.specs.Refusals.{Refusal, on_line}
-use Rattle.schedule_text.specs.Fields.{hex}
-use Rattle.schedule_text.specs.declared.complaint.Complaint.{Complaint}
-use Rattle.schedule_text.specs.declared.reason.Reason.{Reason}
+use Rattle.line_fields.specs.Refusals.{Refusal, on_line}
+use Rattle.line_fields.specs.Fields.{hex}
+use Rattle.line_fields.specs.declared.complaint.Complaint.{Complaint}
+use Rattle.line_fields.specs.declared.reason.Reason.{Reason}
 use Rattle.batch_text.specs.Texts.{batch_on, go_on, taken, with_lines, with_message}
 
 -- as many messages as those at least

@@ -1,6 +1,6 @@
 -- What a text led to.
 use Rattle.std.specs.Prelude.{◌≡◌, ℕ, List, Result, Ok, Err, ⊤}
-use Rattle.schedule_text.specs.Refusals.{Refusal}
+use Rattle.line_fields.specs.Refusals.{Refusal}
 use Rattle.batch_text.specs.declared.reading.BatchTextFault.{BatchTextFault}
 use Rattle.batch_text.specs.declared.reading.BatchTextFault.TheVariants.{BadLine, NoMemory}
 use Rattle.batch_text.specs.declared.reading.Kept.{Kept}

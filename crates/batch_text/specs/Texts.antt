@@ -5,12 +5,12 @@ use Rattle.hex.specs.Hex.{encode_lower}
 use Rattle.batch_sign.specs.Batches.{add_fault, longest_message}
 use Rattle.batch_sign.specs.Signatures.{Sealing, signature_of}
 use Rattle.batch_sign.specs.declared.batch.BatchFault.{BatchFault}
-use Rattle.schedule_text.specs.Refusals.{Refusal, on_line}
-use Rattle.schedule_text.specs.Fields.{hex}
-use Rattle.schedule_text.specs.TextLines.{lines_of}
-use Rattle.schedule_text.specs.declared.complaint.Complaint.{Complaint}
-use Rattle.schedule_text.specs.declared.reason.Reason.{Reason}
-use Rattle.schedule_text.specs.declared.reason.Reason.TheVariants.{NoHeader, Misspelt, OutOfSize}
+use Rattle.line_fields.specs.Refusals.{Refusal, on_line}
+use Rattle.line_fields.specs.Fields.{hex}
+use Rattle.line_fields.specs.TextLines.{lines_of}
+use Rattle.line_fields.specs.declared.complaint.Complaint.{Complaint}
+use Rattle.line_fields.specs.declared.reason.Reason.{Reason}
+use Rattle.line_fields.specs.declared.reason.Reason.TheVariants.{NoHeader, Misspelt, OutOfSize}
 use Rattle.batch_text.specs.declared.reading.Kept.{Kept}
 
 -- the message that a line has: reason 2 where it isn't hex, 8 where it is too long

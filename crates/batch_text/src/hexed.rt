@@ -1,18 +1,18 @@
 //! The messages on lines.
 
 ghost use Rattle.std.specs.Prelude.{◌+◌, ◌<◌, ◌^◌, length};
-ghost use Rattle.schedule_text.specs.Refusals.{on_line};
-ghost use Rattle.schedule_text.specs.Fields.{hex};
-ghost use Rattle.schedule_text.specs.TextLines.{lines_of};
+ghost use Rattle.line_fields.specs.Refusals.{on_line};
+ghost use Rattle.line_fields.specs.Fields.{hex};
+ghost use Rattle.line_fields.specs.TextLines.{lines_of};
 ghost use Rattle.batch_text.specs.Parts.{IsMessage, Ran};
 ghost use Rattle.batch_text.specs.Texts.{message_in, with_lines, with_message};
 
 use crate::reading::BatchTextFault;
 use basil_types::bytes::Bytes;
 use batch_sign::{Batch, BatchFault};
-use schedule_text::fields::frames::read_hex;
-use schedule_text::lines::next_line;
-use schedule_text::reason::Reason;
+use line_fields::fields::frames::read_hex;
+use line_fields::lines::next_line;
+use line_fields::reason::Reason;
 use std::alloc::Global;
 
 /// The most bytes of a message.

@@ -8,8 +8,8 @@ use crate::hexed::{add_lines, read_message};
 use basil_types::bytes::Bytes;
 use basil_types::memory::NoMemory;
 use batch_sign::Batch;
-use schedule_text::lines::first_line;
-use schedule_text::reason::Reason;
+use line_fields::lines::first_line;
+use line_fields::reason::Reason;
 use std::alloc::Global;
 
 /// Why a text isn't taken.

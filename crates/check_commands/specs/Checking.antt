@@ -17,21 +17,21 @@ use Rattle.frame_views.specs.declared.frames.views.WritebackView.{WritebackView}
 use Rattle.keyring.specs.Plain.{plain_accepts}
 use Rattle.keyring_lms.specs.Replay.{replay_accepts}
 use Rattle.lms_sign.specs.declared.sets.LmsSet.TheVariants as sets
-use Rattle.schedule_text.specs.Fields.{hex}
+use Rattle.line_fields.specs.Fields.{hex}
 use Rattle.batch_sign.specs.Signatures.{in_batch}
 use Rattle.schedule_text.specs.Reading.{line_at}
-use Rattle.schedule_text.specs.declared.complaint.Complaint.{Complaint}
-use Rattle.schedule_text.specs.declared.line.KeysKind.{KeysKind}
-use Rattle.schedule_text.specs.declared.line.KeysKind.TheVariants.{Plain, W4H5, W4H10, W8H5, W8H10, Batch}
+use Rattle.line_fields.specs.declared.complaint.Complaint.{Complaint}
+use Rattle.line_fields.specs.declared.keys_kind.KeysKind.{KeysKind}
+use Rattle.line_fields.specs.declared.keys_kind.KeysKind.TheVariants.{Plain, W4H5, W4H10, W8H5, W8H10, Batch}
 use Rattle.schedule_text.specs.declared.line.Line.{Line}
 use Rattle.schedule_text.specs.declared.line.Line.TheVariants.{Header}
 use Rattle.schedule_text.specs.declared.line.LineFault.{LineFault}
 use Rattle.client_text.specs.Reports.{decision_line}
 use Rattle.txn_meta.specs.Form.{form_fault}
 use Rattle.txn_meta.specs.declared.form.FormFault.{FormFault}
-use Rattle.schedule_text.specs.TextLines.{lines_of}
-use Rattle.schedule_text.specs.declared.reason.Reason.{Reason}
-use Rattle.schedule_text.specs.declared.reason.Reason.TheVariants.{NoHeader, Misspelt, OutOfSize}
+use Rattle.line_fields.specs.TextLines.{lines_of}
+use Rattle.line_fields.specs.declared.reason.Reason.{Reason}
+use Rattle.line_fields.specs.declared.reason.Reason.TheVariants.{NoHeader, Misspelt, OutOfSize}
 use Rattle.command_ends.specs.Outcome.{Outcome, BadLine, Written, Refused}
 use Rattle.check_commands.specs.declared.check.Ring.{Ring}
 use Rattle.check_commands.specs.declared.check.Ring.TheVariants as ring

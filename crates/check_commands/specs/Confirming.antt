@@ -4,8 +4,8 @@ use Rattle.cluster_file.specs.Listing.{Listing}
 use Rattle.cluster_file.specs.Text.{cluster_in}
 use Rattle.frame_views.specs.Values.{WritebackValue}
 use Rattle.keyring_lms.specs.Keys.{lms_accepts}
-use Rattle.schedule_text.specs.TextLines.{behind_line, line_in}
-use Rattle.schedule_text.specs.declared.reason.Reason.{Reason}
+use Rattle.line_fields.specs.TextLines.{behind_line, line_in}
+use Rattle.line_fields.specs.declared.reason.Reason.{Reason}
 use Rattle.check_commands.specs.Checking.{judged, writeback_on}
 use Rattle.command_input.specs.Files.{file_reason}
 use Rattle.command_ends.specs.Outcome.{Outcome, BadLine}

@@ -8,7 +8,7 @@ ghost use Rattle.txn_meta.specs.Form.{form_fault};
 ghost use Rattle.check_commands.specs.Checking as checking;
 ghost use Rattle.check_commands.specs.Checking.{accepted_by, proved_by, judged, judged_alone};
 ghost use Rattle.check_commands.specs.Checking.{framed, writeback_on, checked_under, headed, checked, Framed};
-ghost use Rattle.schedule_text.specs.TextLines.{lines_of};
+ghost use Rattle.line_fields.specs.TextLines.{lines_of};
 ghost use Rattle.command_ends.specs.Endings.{outcome_is};
 
 use crate::proving::{judge_by, judge_by_replay};
@@ -20,12 +20,13 @@ use command_ends::ending::Ending;
 use frame_views::certificates::CertificateView;
 use frame_views::frames::{MessageView, WritebackView};
 use keyring::plain::PlainKeys;
+use line_fields::fields::frames::read_hex;
+use line_fields::keys_kind::KeysKind;
+use line_fields::lines::first_line;
+use line_fields::reason::Reason;
 use lms_sign::LmsSet;
-use schedule_text::fields::frames::read_hex;
-use schedule_text::line::{KeysKind, Line, LineFault};
-use schedule_text::lines::first_line;
+use schedule_text::line::{Line, LineFault};
 use schedule_text::reading::read_line;
-use schedule_text::reason::Reason;
 use std::alloc::Global;
 use txn_meta::form::check_form;
 

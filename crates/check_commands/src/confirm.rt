@@ -17,9 +17,9 @@ use command_ends::ending::Ending;
 use command_input::files::file_reason;
 use frame_views::frames::WritebackView;
 use keyring_lms::LmsKeys;
-use schedule_text::fields::frames::read_hex;
-use schedule_text::lines::next_line;
-use schedule_text::reason::Reason;
+use line_fields::fields::frames::read_hex;
+use line_fields::lines::next_line;
+use line_fields::reason::Reason;
 use std::alloc::Global;
 use txn_meta::form::check_form;
 

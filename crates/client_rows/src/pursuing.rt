@@ -26,13 +26,13 @@ pub(crate) fn pursuit_of(
     alloc: Global,
     transaction: &[u8],
     cluster: &Cluster,
-) -> Result<Pursuit, Fail> {
+) -> Result<Box<Pursuit>, Fail> {
     let signature = Bytes::copy_of(alloc, b"signature")?;
     match TransactionView::read(transaction, 0) {
         Ok(t) => {
             let owned = t.try_owned(alloc)?;
             match check_form(owned.view()) {
-                Ok(()) => Ok(Pursuit::new(alloc, owned, signature, *cluster)),
+                Ok(()) => Ok(Box::new(alloc, Pursuit::new(alloc, owned, signature, *cluster))?),
                 Err(_) => Err(Fail::new("no good form")),
             }
         }
@@ -112,24 +112,48 @@ pub(crate) enum Asked {
     Back,
 }
 
-/// What a pursuit answers once it took the frames of these names, in order, with all that `follow` reads among them.
-fn answer(
+/// Takes the frames of these names, in order, with all that `follow` reads among them.
+fn follow_all(
+    alloc: Global,
+    pursuit: &mut Pursuit,
+    pursued: &Pursued<'_>,
+    tokens: &str,
+) -> Result<(), Fail> {
+    for token in tokens.split(' ') {
+        follow(alloc, pursuit, pursued, token)?;
+    }
+    Ok(())
+}
+
+fn second(alloc: Global, pursuit: &Pursuit) -> Result<String, Fail> {
+    told::asking(alloc, &pursuit.second()?)
+}
+
+fn invoke(alloc: Global, pursuit: &Pursuit) -> Result<String, Fail> {
+    told::asking(alloc, &pursuit.invoke()?)
+}
+
+/// What a pursuit answers.
+fn answer(alloc: Global, pursuit: &mut Pursuit, asked: Asked) -> Result<String, Fail> {
+    match asked {
+        Asked::Outcome => told::outcome(alloc, pursuit.outcome()),
+        Asked::Held => told::number(alloc, pursuit.held()),
+        Asked::Second => second(alloc, pursuit),
+        Asked::Invoke => invoke(alloc, pursuit),
+        Asked::Back => told::back(alloc, pursuit),
+    }
+}
+
+/// What a pursuit answers once it took the frames of these names.
+fn answer_behind(
     alloc: Global,
     pursuit: &mut Pursuit,
     pursued: &Pursued<'_>,
     tokens: &str,
     asked: Asked,
 ) -> Result<String, Fail> {
-    for token in tokens.split(' ') {
-        follow(alloc, pursuit, pursued, token)?;
-    }
-    match asked {
-        Asked::Outcome => told::outcome(alloc, pursuit.outcome()),
-        Asked::Held => Ok(format!(in alloc; "{}", pursuit.held())?),
-        Asked::Second => told::asking(alloc, &pursuit.second()?),
-        Asked::Invoke => told::asking(alloc, &pursuit.invoke()?),
-        Asked::Back => told::back(alloc, pursuit),
-    }
+    follow_all(alloc, pursuit, pursued, tokens)?;
+    answer(alloc, pursuit, asked)
 }
 
 /// What a new pursuit answers once it took the frames of these names. It is owned here alone, and let go in one place.
@@ -138,7 +162,7 @@ fn after(alloc: Global, shards: u8, tokens: &str, asked: Asked) -> Result<String
     let rival = fast_commit(alloc, READS_A, &[(shards.saturating_sub(1), 6)])?;
     let pursued = pursued(shards, &rival);
     let mut pursuit = pursuit_of(alloc, pursued.transaction, &cluster)?;
-    answer(alloc, &mut pursuit, &pursued, tokens, asked)
+    answer_behind(alloc, &mut pursuit, &pursued, tokens, asked)
 }
 
 /// Each row's answer is its last text: the shards of a cluster with f = 1, the frames that were taken, and the answer.

@@ -111,6 +111,11 @@ pub(crate) fn asking(alloc: Global, sent: &Option<Message>) -> Result<String, Fa
     Ok(text)
 }
 
+/// A number in decimal digits.
+pub(crate) fn number(alloc: Global, number: u32) -> Result<String, Fail> {
+    Ok(format!(in alloc; "{number}")?)
+}
+
 /// `2 fast commit 0:012345`, how many are held and the outcome, if there is one.
 fn state(
     alloc: Global,

@@ -71,14 +71,14 @@ fn owner_of(alloc: Global, number: u8) -> Result<Owner, Fail> {
 }
 
 /// The client of a scene; fails where no client has this number, or its key no such leaf.
-fn guest_of(alloc: Global, cluster: Cluster, owner: &Owner, leaf: u32) -> Result<Guest, Fail> {
+fn guest_of(alloc: Global, cluster: Cluster, owner: &Owner, leaf: u32) -> Result<Box<Guest>, Fail> {
     let number = owner.number;
     if number == 0 || number > 16 || leaf > 32 {
         return Err(Fail::new("no such client"));
     }
     let key = owner.tree.key(alloc, leaf)?;
     let pen = LmsPen::new(Party::Client { number }, key);
-    Ok(Guest::new(alloc, cluster, number, pen))
+    Ok(Box::new(alloc, Guest::new(alloc, cluster, number, pen))?)
 }
 
 /// A client with what its frames are read by, all that it sent, and the bytes of all its frames.
@@ -86,7 +86,7 @@ fn guest_of(alloc: Global, cluster: Cluster, owner: &Owner, leaf: u32) -> Result
 pub(crate) struct Stage<'a> {
     pub(crate) alloc: Global,
     pub(crate) reader: Reader<'a>,
-    pub(crate) guest: Guest,
+    pub(crate) guest: Box<Guest>,
     pub(crate) out: Outbox,
     pub(crate) sent: Vec<u8>,
 }

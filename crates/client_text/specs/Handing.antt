@@ -10,8 +10,8 @@ use Rattle.client_link.specs.Running.{formed_at}
 use Rattle.basil_types.specs.Limits.{signature_limit}
 use Rattle.frame_views.specs.Values.{SignedValue}
 use Rattle.hex.specs.Hex.{encode_lower}
-use Rattle.schedule_text.specs.Fields.{hex}
-use Rattle.schedule_text.specs.Tokens.{Token}
+use Rattle.line_fields.specs.Fields.{hex}
+use Rattle.line_fields.specs.Tokens.{Token}
 
 -- ---- told
 

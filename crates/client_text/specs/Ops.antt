@@ -5,8 +5,8 @@ use Rattle.std.specs.Result.{result_ok}
 use Rattle.std.specs.Str.{bytes_eq}
 use Rattle.client_link.specs.declared.op.Op.{Op}
 use Rattle.client_link.specs.declared.op.Op.TheVariants.{Read, Write}
-use Rattle.schedule_text.specs.Fields as fields
-use Rattle.schedule_text.specs.Tokens.{Token}
+use Rattle.line_fields.specs.Fields as fields
+use Rattle.line_fields.specs.Tokens.{Token}
 
 -- what stands before the first colon, and what behind it
 abbrev pub parted : Token → Option (Token × Token)

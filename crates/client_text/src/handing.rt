@@ -6,7 +6,7 @@ ghost use Rattle.client_core.specs.Shown.{ShowsClient};
 ghost use Rattle.client_core.specs.Clients.{ClientValue};
 ghost use Rattle.client_text.specs.Handing.{handed_over, if_signature, signed_line, signed_of, transaction_spelled};
 ghost use Rattle.hex.specs.Hex.{encode_lower};
-ghost use Rattle.schedule_text.specs.Fields.{hex};
+ghost use Rattle.line_fields.specs.Fields.{hex};
 
 use basil_types::bytes::Bytes;
 use basil_types::limits::SIGNATURE_LIMIT;
@@ -16,7 +16,7 @@ use client_core::Client;
 use client_link::Signed;
 use keyring::signer::Signer;
 use keyring::verifier::Verifier;
-use schedule_text::fields::frames::read_hex;
+use line_fields::fields::frames::read_hex;
 use std::alloc::Global;
 
 /// Appends bytes in lower-case hex, or memory is wanting.

@@ -5,7 +5,7 @@ ghost use Rattle.client_text.specs.Ops.{op_of, parted, read_of, write_parted};
 
 use basil_types::memory::NoMemory;
 use client_link::Op;
-use schedule_text::fields::escapes::{read_key, read_value};
+use line_fields::fields::escapes::{read_key, read_value};
 use std::alloc::Global;
 
 /// Where the first colon is.

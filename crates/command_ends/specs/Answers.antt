@@ -3,7 +3,7 @@ use Rattle.std.specs.Prelude.{◌≡◌, ◌⊎◌, ℕ, Bool, true, false, List
 use Rattle.std.specs.Prelude.{◌++◌, ◌∷◌, codes, decimal}
 use Rattle.basil_types.specs.Causes.{Rose, TookAll, TookPrefix}
 use Rattle.hss_sign.specs.Numbers.{refusal_number as hss_number}
-use Rattle.schedule_text.specs.Complaints.{reason_number}
+use Rattle.line_fields.specs.Complaints.{reason_number}
 use Rattle.command_ends.specs.Outcome.{Outcome, Usage, BadLine, Written, Broken, Refused, RefusedAt, Stray}
 use Rattle.command_ends.specs.Outcome.{Full, Undecided, TooLong, text_of, link_fault_text, read_fault_text}
 use Rattle.command_ends.specs.declared.status.Status.{Status}

@@ -8,9 +8,9 @@ use Rattle.hss_sign.specs.declared.verifying.HssRefusal.TheVariants.{SetType, Sh
 use Rattle.lms_sign.specs.Numbers.{refusal_number}
 use Rattle.premise_watch.specs.declared.broken.Broken as premise
 use Rattle.premise_watch.specs.declared.broken.Broken.TheVariants.{Forged, Collision}
-use Rattle.schedule_text.specs.Complaints.{reason_number}
+use Rattle.line_fields.specs.Complaints.{reason_number}
 use Rattle.schedule_text.specs.Spelling.{party_tokens}
-use Rattle.schedule_text.specs.declared.reason.Reason.{Reason}
+use Rattle.line_fields.specs.declared.reason.Reason.{Reason}
 
 pub data Outcome : Type 0 where
   -- the arguments are no command

@@ -2,8 +2,8 @@
 
 use basil_types::bytes::Bytes;
 use hss_sign::HssRefusal;
+use line_fields::reason::Reason;
 use premise_watch::broken::Broken;
-use schedule_text::reason::Reason;
 
 /// What a command leads to.
 #[derive(Drop)]

@@ -3,7 +3,7 @@
 ghost use Rattle.std.specs.Prelude.{◌≡◌, Some};
 ghost use Rattle.command_ends.specs.Answers.{status_number, status_text};
 
-use schedule_text::reason::Reason;
+use line_fields::reason::Reason;
 use std::fmt;
 
 /// How a command ended.

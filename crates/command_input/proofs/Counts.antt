@@ -2,10 +2,10 @@
 use Rattle.std.proofs.Common.{◌≡◌, ℕ, ◌≤◌, Bool, true, false, Fits, w8, w32, Result, Ok, Err, refl, arith}
 use Rattle.std.specs.Prelude.{◌&&◌, nat_le, if◌then◌else◌}
 use Rattle.std.proofs.lemmas.Grind.{common_steps}
-use Rattle.schedule_text.specs.Fields.{in_range, number, number_in}
-use Rattle.schedule_text.specs.Tokens.{Token}
-use Rattle.schedule_text.specs.declared.complaint.Complaint.{Complaint}
-use Rattle.schedule_text.specs.declared.complaint.Complaint.TheVariants.{OutOfRange}
+use Rattle.line_fields.specs.Fields.{in_range, number, number_in}
+use Rattle.line_fields.specs.Tokens.{Token}
+use Rattle.line_fields.specs.declared.complaint.Complaint.{Complaint}
+use Rattle.line_fields.specs.declared.complaint.Complaint.TheVariants.{OutOfRange}
 
 le-of : (m n : ℕ) → nat_le m n ≡ true → m ≤ n
 le-of m n e = grind (arith, common_steps)

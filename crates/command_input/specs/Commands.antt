@@ -6,9 +6,9 @@ use Rattle.hss_sign.specs.Keys.{material_of as key_of, numbers_of}
 use Rattle.lms_sign.specs.Sets.{leaves_of}
 use Rattle.lms_sign.specs.declared.sets.LmsSet.{LmsSet}
 use Rattle.lms_sign.specs.declared.sets.LmsSet.TheVariants.{W4H5, W4H10, W8H5, W8H10}
-use Rattle.schedule_text.specs.Fields.{hex, number, number_in}
-use Rattle.schedule_text.specs.Tokens.{Token}
-use Rattle.schedule_text.specs.declared.complaint.Complaint.{Complaint}
+use Rattle.line_fields.specs.Fields.{hex, number, number_in}
+use Rattle.line_fields.specs.Tokens.{Token}
+use Rattle.line_fields.specs.declared.complaint.Complaint.{Complaint}
 use Rattle.command_input.specs.Ranges.{seed_size, ident_size, most_drawn}
 use Rattle.command_input.specs.declared.command.Claim.{Claim}
 use Rattle.command_input.specs.declared.command.Command.{Command}

@@ -1,7 +1,7 @@
 -- The reason of a cluster's file that is refused.
 use Rattle.std.specs.Prelude.{◌==◌, ℕ, if◌then◌else◌}
-use Rattle.schedule_text.specs.declared.reason.Reason.{Reason}
-use Rattle.schedule_text.specs.declared.reason.Reason.TheVariants.{NoHeader, Misspelt, OutOfRange, OutOfSize}
+use Rattle.line_fields.specs.declared.reason.Reason.{Reason}
+use Rattle.line_fields.specs.declared.reason.Reason.TheVariants.{NoHeader, Misspelt, OutOfRange, OutOfSize}
 
 abbrev pub file_reason : ℕ → Reason
 file_reason number =

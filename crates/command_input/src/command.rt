@@ -1,7 +1,7 @@
 //! The commands, read from arguments.
 
 ghost use Rattle.std.specs.Prelude.{◌≡◌, ◌<◌, IfOk, IfSome, map, string_bytes};
-ghost use Rattle.schedule_text.specs.Fields.{hex, number_in};
+ghost use Rattle.line_fields.specs.Fields.{hex, number_in};
 ghost use Rattle.lms_sign.specs.Sets.{leaves_of};
 ghost use Rattle.command_input.specs.Ranges.{most_drawn, seed_size, ident_size};
 ghost use Rattle.command_input.specs.Commands as commands;
@@ -13,9 +13,9 @@ ghost use Rattle.command_input.specs.Commands.{size_of, unbatch_of, verify_of};
 
 use basil_types::bytes::Bytes;
 use basil_types::memory::NoMemory;
+use line_fields::fields::frames;
+use line_fields::fields::numbers::{read_number, read_number_in};
 use lms_sign::LmsSet;
-use schedule_text::fields::frames;
-use schedule_text::fields::numbers::{read_number, read_number_in};
 use std::alloc::Global;
 
 /// The most transactions of a load.

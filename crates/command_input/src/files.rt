@@ -4,7 +4,7 @@ ghost use Rattle.std.specs.Prelude.{◌≡◌};
 ghost use Rattle.command_input.specs.Files as files;
 
 use cluster_file::{NOT_A_FILE, REFUSED_CLUSTER, WRONG_PARTIES};
-use schedule_text::reason::Reason;
+use line_fields::reason::Reason;
 
 /// The reason of a file that is refused, by its number.
 pub fn file_reason(number: u8) -> Reason

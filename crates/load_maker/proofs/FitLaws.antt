@@ -9,7 +9,7 @@ use Rattle.rand_chacha.specs.ChaCha.{ChaCha}
 use Rattle.schedule_text.specs.declared.line.Line.{Line}
 use Rattle.schedule_text.specs.declared.line.Line.TheVariants.{Begin, Read, Round}
 use Rattle.schedule_text.specs.Fitting.{Fits, IsClient, SpellingIsRead}
-use Rattle.schedule_text.specs.Limits.{longest_line}
+use Rattle.line_fields.specs.Limits.{longest_line}
 use Rattle.schedule_text.specs.Spelling.{key_token, line_tokens, spelling, value_token}
 use Rattle.load_maker.specs.declared.draws.Draw.{Draw}
 use Rattle.load_maker.specs.Draws.{draw_from, draw_of, stream_at, word}

@@ -6,7 +6,7 @@ use Rattle.std.proofs.lemmas.List.Sums.{AllPass-from_list_all}
 use Rattle.std.specs.List.{All, list_all, slice_split}
 use Rattle.schedule_text.specs.declared.line.Line.{Line}
 use Rattle.schedule_text.specs.Spelling.{spelling}
-use Rattle.schedule_text.specs.TextLines.{but_empty_last}
+use Rattle.line_fields.specs.TextLines.{but_empty_last}
 use Rattle.load_maker.specs.Laws.{TextHasItsLines}
 use Rattle.load_maker.specs.Loads.{load_of, text_of}
 use Rattle.load_maker.proofs.FitLaws.{IsGood, load-good}

@@ -10,7 +10,7 @@ use Rattle.std.specs.Fmt.{decimal}
 use Rattle.std.specs.List.{flat_map, join_with_byte, list_all}
 use Rattle.std.specs.Prelude.{nat_le}
 use Rattle.std.specs.Str.Parse.{digits_value}
-use Rattle.schedule_text.specs.Fields.{is_digit, is_name_byte}
+use Rattle.line_fields.specs.Fields.{is_digit, is_name_byte}
 use Rattle.schedule_text.specs.Fitting.{HasBytes, IsName}
 use Rattle.schedule_text.specs.Spelling.{key_token, spelled_byte, value_token}
 use Rattle.load_maker.specs.Loads as Loads

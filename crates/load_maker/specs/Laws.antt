@@ -1,10 +1,10 @@
 -- What each line of a load, and its whole text, is read as.
 use Rattle.std.specs.Prelude.{◌≡◌, ℕ, ◌<◌, ◌≤◌, ◌^◌, map, Ok}
 use Rattle.std.specs.List.{All}
-use Rattle.schedule_text.specs.Limits.{most_lines}
+use Rattle.line_fields.specs.Limits.{most_lines}
 use Rattle.schedule_text.specs.Reading.{line_at}
 use Rattle.schedule_text.specs.Spelling.{spelling}
-use Rattle.schedule_text.specs.TextLines.{lines_of}
+use Rattle.line_fields.specs.TextLines.{lines_of}
 use Rattle.load_maker.specs.Loads.{load_of, text_of_load}
 
 -- its spelling is read as itself, as any line up to the millionth

@@ -1,7 +1,7 @@
 -- The schedule that a number and a count of transactions give.
 use Rattle.std.specs.Prelude.{ℕ, ◌==◌, List, [], ◌∷◌, ◌++◌, map, replicate, codes, decimal, false, if◌then◌else◌}
 use Rattle.std.specs.List.{flat_map, range_with_len}
-use Rattle.schedule_text.specs.declared.line.KeysKind.TheVariants.{Plain}
+use Rattle.line_fields.specs.declared.keys_kind.KeysKind.TheVariants.{Plain}
 use Rattle.schedule_text.specs.declared.line.Line.{Line}
 use Rattle.schedule_text.specs.declared.line.Line.TheVariants.{Header, Begin, Read, Write, Prepare, Settle, Round}
 use Rattle.schedule_text.specs.Spelling.{spelling}

@@ -9,7 +9,8 @@ use basil_types::bytes::Bytes;
 use basil_types::cluster::Cluster;
 use basil_types::memory::NoMemory;
 use itoa::Buffer;
-use schedule_text::line::{KeysKind, Line};
+use line_fields::keys_kind::KeysKind;
+use schedule_text::line::Line;
 use schedule_text::writing::write_line;
 use std::alloc::Global;
 

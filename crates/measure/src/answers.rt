@@ -1,6 +1,6 @@
 //! Frames for a client.
 
-use crate::made::signed_by;
+use crate::made::{boxed, joined, signed_by};
 use crate::steps::Handing;
 use basil_types::cluster::Cluster;
 use basil_types::memory::NoMemory;
@@ -13,7 +13,7 @@ use node_steps::pending::outbox;
 use std::alloc::Global;
 
 /// What a client is handed about a transaction.
-#[derive(Clone, Copy, PartialEq, Eq)]
+#[derive(Clone, Copy)]
 pub enum Answering {
     /// The votes to commit of every replica, of which the last one decides.
     Votes,
@@ -22,7 +22,7 @@ pub enum Answering {
 }
 
 /// What a client does behind a flood of log replies of one replica about one transaction, each of a view of its own.
-#[derive(Clone, Copy, PartialEq, Eq)]
+#[derive(Clone, Copy)]
 pub enum Later {
     /// It takes one log reply more.
     Log,
@@ -39,9 +39,12 @@ type PlainClient = Client<PlainKeys, PlainPen>;
 const CLIENT: u8 = 1;
 
 /// The client, before its first call.
-fn client(alloc: Global, cluster: Cluster) -> PlainClient {
+fn client(alloc: Global, cluster: Cluster) -> Result<Box<PlainClient>, NoMemory> {
     let pen = PlainPen::new(Party::Client { number: CLIENT });
-    Client::new(alloc, cluster, CLIENT, PlainKeys::new(&cluster), pen)
+    boxed(
+        alloc,
+        Client::new(alloc, cluster, CLIENT, PlainKeys::new(&cluster), pen),
+    )
 }
 
 /// A transaction that the client formed.
@@ -67,10 +70,7 @@ fn form(client: &mut PlainClient, out: &mut Outbox) -> Option<Formed> {
 
 /// The first bytes of a frame of a replica about a transaction, to commit it.
 fn head(alloc: Global, kind: u8, index: u8, id: &[u8; 32]) -> Result<Vec<u8>, NoMemory> {
-    let mut frame = Vec::from_slice(alloc, &[kind, 0, index])?;
-    frame.extend_from_slice(id)?;
-    frame.push(0)?;
-    Ok(frame)
+    joined(alloc, &[&[kind, 0, index], id, &[0]])
 }
 
 /// A replica's signature of these words, behind its length.
@@ -146,7 +146,7 @@ fn answer_one(
     answering: Answering,
     handing: Handing,
 ) -> Result<u64, NoMemory> {
-    let mut client = client(alloc, cluster);
+    let mut client = client(alloc, cluster)?;
     let mut out = outbox(alloc);
     match form(&mut client, &mut out) {
         Some(formed) => {
@@ -242,7 +242,7 @@ pub fn flood(
     let Ok(cluster) = Cluster::new(1, 1, 3, 100) else {
         return Ok(0);
     };
-    let mut client = client(alloc, cluster);
+    let mut client = client(alloc, cluster)?;
     let mut out = outbox(alloc);
     let Some(formed) = form(&mut client, &mut out) else {
         return Ok(0);

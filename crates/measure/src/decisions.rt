@@ -20,7 +20,7 @@ use std::alloc::Global;
 use txn_meta::form::check_form;
 
 /// What is done with a certificate.
-#[derive(Clone, Copy, PartialEq, Eq)]
+#[derive(Clone, Copy)]
 pub enum Proving {
     /// It is checked.
     Certificate,

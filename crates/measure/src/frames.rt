@@ -13,7 +13,7 @@ use frame_views::signed::signatures;
 use std::alloc::Global;
 
 /// A frame of each size.
-#[derive(Clone, Copy, PartialEq, Eq)]
+#[derive(Clone, Copy)]
 pub enum Size {
     /// A first stage of 53 bytes.
     Small,
@@ -24,7 +24,7 @@ pub enum Size {
 }
 
 /// What is done with a frame once it is checked.
-#[derive(Clone, Copy, PartialEq, Eq)]
+#[derive(Clone, Copy)]
 pub enum Reading {
     /// Nothing more.
     Check,
@@ -35,7 +35,7 @@ pub enum Reading {
 }
 
 /// Where a frame lies when it is read.
-#[derive(Clone, Copy, PartialEq, Eq)]
+#[derive(Clone, Copy)]
 pub enum Place {
     /// One frame is read again and again, so that it lies in the processor's caches.
     Caches,

@@ -12,7 +12,7 @@ use lms_sign::LmsSet;
 use std::alloc::Global;
 
 /// How the votes of a made frame are signed.
-#[derive(Clone, Copy, PartialEq, Eq)]
+#[derive(Clone, Copy)]
 pub enum Votes {
     /// By bytes that are no signature, as many as in the longest one of the program's keyrings.
     Filler,
@@ -24,6 +24,20 @@ pub enum Votes {
 
 /// The bytes of the longest signature.
 const LONGEST_SIGNATURE: usize = 2508;
+
+/// Keeps a value apart.
+pub(crate) fn boxed<T: Drop>(alloc: Global, value: T) -> Result<Box<T>, NoMemory> {
+    Ok(Box::new(alloc, value)?)
+}
+
+/// Bytes, one behind another.
+pub(crate) fn joined(alloc: Global, parts: &[&[u8]]) -> Result<Vec<u8>, NoMemory> {
+    let mut all = Vec::new(alloc);
+    for part in parts {
+        all.extend_from_slice(part)?;
+    }
+    Ok(all)
+}
 
 /// A transaction of time 10 and client 1 that writes one byte to a key of each of so many shards.
 fn transaction(alloc: Global, shards: u8) -> Result<Vec<u8>, NoMemory> {
@@ -96,11 +110,7 @@ pub(crate) fn put_shard(
 pub fn writeback(alloc: Global, cluster: &Cluster, votes: Votes) -> Result<Vec<u8>, NoMemory> {
     let transaction = transaction(alloc, cluster.shards)?;
     let id = id_of(&transaction);
-    let mut frame = Vec::from_slice(alloc, &[7])?;
-    frame.extend_from_slice(&transaction)?;
-    frame.push(1)?;
-    frame.extend_from_slice(&id)?;
-    frame.push(cluster.shards)?;
+    let mut frame = joined(alloc, &[&[7], &transaction, &[1], &id, &[cluster.shards]])?;
     for shard in 0..cluster.shards {
         put_shard(alloc, &mut frame, votes, shard, cluster.n(), &id)?;
     }
@@ -110,9 +120,5 @@ pub fn writeback(alloc: Global, cluster: &Cluster, votes: Votes) -> Result<Vec<u
 /// The frame of a first stage.
 pub fn first_stage(alloc: Global) -> Result<Vec<u8>, NoMemory> {
     let transaction = transaction(alloc, 1)?;
-    let mut frame = Vec::from_slice(alloc, &[3])?;
-    frame.extend_from_slice(&transaction)?;
-    frame.extend_from_slice(&[0, 32])?;
-    frame.extend_from_slice(&[7; 32])?;
-    Ok(frame)
+    joined(alloc, &[&[3], &transaction, &[0, 32], &[7; 32]])
 }

@@ -1,5 +1,6 @@
 //! Releases of the votes that wait for a transaction's outcome.
 
+use crate::made::{boxed, joined};
 use crate::steps::{
     CLIENT, Handing, NOW, REPLICA, first_stage, first_stage_of, transaction, writeback,
 };
@@ -20,17 +21,21 @@ fn dependent(alloc: Global, number: u32, on: u32) -> Result<Vec<u8>, NoMemory> {
     let read = id_of(&transaction(alloc, on)?);
     let time = u64::from(number) + 1;
     let read_time = u64::from(on) + 1;
-    let mut bytes = Vec::from_slice(alloc, &[1])?;
-    bytes.extend_from_slice(&time.to_be_bytes())?;
-    bytes.extend_from_slice(&[1, 1, 4])?;
-    bytes.extend_from_slice(&on.to_be_bytes())?;
-    bytes.extend_from_slice(&read_time.to_be_bytes())?;
-    bytes.push(1)?;
-    bytes.extend_from_slice(&read)?;
-    bytes.extend_from_slice(&[1, 1, 4])?;
-    bytes.extend_from_slice(&number.to_be_bytes())?;
-    bytes.extend_from_slice(&[0, 1, b'v'])?;
-    Ok(bytes)
+    joined(
+        alloc,
+        &[
+            &[1],
+            &time.to_be_bytes(),
+            &[1, 1, 4],
+            &on.to_be_bytes(),
+            &read_time.to_be_bytes(),
+            &[1],
+            &read,
+            &[1, 1, 4],
+            &number.to_be_bytes(),
+            &[0, 1, b'v'],
+        ],
+    )
 }
 
 /// Hands a frame to a replica, and gives how many messages it sends. None where it refuses.
@@ -146,7 +151,10 @@ pub fn releases(
         return Ok(0);
     };
     let keys = PlainKeys::new(&cluster);
-    let mut replica = Replica::new(alloc, cluster, 0, 0, keys, PlainPen::new(REPLICA));
+    let mut replica = boxed(
+        alloc,
+        Replica::new(alloc, cluster, 0, 0, keys, PlainPen::new(REPLICA)),
+    )?;
     release_often(
         alloc,
         &cluster,

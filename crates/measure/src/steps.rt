@@ -1,6 +1,6 @@
 //! Steps of a replica.
 
-use crate::made::{Votes, put_shard, signed_by};
+use crate::made::{Votes, boxed, joined, put_shard, signed_by};
 use basil_types::bytes::id_of;
 use basil_types::cluster::Cluster;
 use basil_types::memory::NoMemory;
@@ -16,7 +16,7 @@ use replica_core::Replica;
 use std::alloc::Global;
 
 /// What a replica is handed, each about a transaction of its own.
-#[derive(Clone, Copy, PartialEq, Eq)]
+#[derive(Clone, Copy)]
 pub enum Stepping {
     /// First stages of transactions that aren't known.
     FirstStage,
@@ -27,7 +27,7 @@ pub enum Stepping {
 }
 
 /// Whether frames are handed to a replica, or only made.
-#[derive(Clone, Copy, PartialEq, Eq)]
+#[derive(Clone, Copy)]
 pub enum Handing {
     Made,
     Handed,
@@ -45,12 +45,8 @@ pub(crate) const NOW: u64 = 1 << 40;
 /// The transaction of a number: it writes one byte to a key of its own.
 pub(crate) fn transaction(alloc: Global, number: u32) -> Result<Vec<u8>, NoMemory> {
     let time = u64::from(number) + 1;
-    let mut bytes = Vec::from_slice(alloc, &[1])?;
-    bytes.extend_from_slice(&time.to_be_bytes())?;
-    bytes.extend_from_slice(&[1, 0, 1, 4])?;
-    bytes.extend_from_slice(&number.to_be_bytes())?;
-    bytes.extend_from_slice(&[0, 1, b'v'])?;
-    Ok(bytes)
+    let (time, key) = (time.to_be_bytes(), number.to_be_bytes());
+    joined(alloc, &[&[1], &time, &[1, 0, 1, 4], &key, &[0, 1, b'v']])
 }
 
 /// The first stage of the transaction of these bytes.
@@ -62,11 +58,10 @@ pub(crate) fn first_stage_of<S: Signer>(
     let words = Words::transaction(&id_of(transaction));
     let signature = signed_by(alloc, pen, words.bytes())?;
     let length = u16::try_from(signature.len()).unwrap_or(u16::MAX);
-    let mut frame = Vec::from_slice(alloc, &[3])?;
-    frame.extend_from_slice(transaction)?;
-    frame.extend_from_slice(&length.to_be_bytes())?;
-    frame.extend_from_slice(&signature)?;
-    Ok(frame)
+    joined(
+        alloc,
+        &[&[3], transaction, &length.to_be_bytes(), &signature],
+    )
 }
 
 /// The first stage of the transaction of a number.
@@ -87,22 +82,17 @@ pub(crate) fn writeback(
 ) -> Result<Vec<u8>, NoMemory> {
     let transaction = transaction(alloc, number)?;
     let id = id_of(&transaction);
-    let mut frame = Vec::from_slice(alloc, &[7])?;
-    frame.extend_from_slice(&transaction)?;
-    frame.push(1)?;
-    frame.extend_from_slice(&id)?;
-    frame.push(1)?;
+    let mut frame = joined(alloc, &[&[7], &transaction, &[1], &id, &[1]])?;
     put_shard(alloc, &mut frame, Votes::Plain, 0, cluster.n(), &id)?;
     Ok(frame)
 }
 
 /// A read of the key of a number, above all transactions.
 fn read(alloc: Global, number: u32) -> Result<Vec<u8>, NoMemory> {
-    let mut frame = Vec::from_slice(alloc, &[1, 4])?;
-    frame.extend_from_slice(&number.to_be_bytes())?;
-    frame.extend_from_slice(&NOW.to_be_bytes())?;
-    frame.push(1)?;
-    Ok(frame)
+    joined(
+        alloc,
+        &[&[1, 4], &number.to_be_bytes(), &NOW.to_be_bytes(), &[1]],
+    )
 }
 
 /// A frame about the transaction of a number.
@@ -189,21 +179,22 @@ pub fn plain_steps(
         return Ok(0);
     };
     let keys = PlainKeys::new(&cluster);
-    let mut replica = Replica::new(alloc, cluster, 0, 0, keys, PlainPen::new(REPLICA));
+    let mut replica = boxed(
+        alloc,
+        Replica::new(alloc, cluster, 0, 0, keys, PlainPen::new(REPLICA)),
+    )?;
     let mut client = PlainPen::new(CLIENT);
-    match fill(alloc, &mut replica, &mut client, known) {
-        Ok(()) => step_often(
-            alloc,
-            &cluster,
-            &mut replica,
-            &mut client,
-            stepping,
-            handing,
-            known,
-            count,
-        ),
-        Err(wanting) => Err(wanting),
-    }
+    fill(alloc, &mut replica, &mut client, known)?;
+    step_often(
+        alloc,
+        &cluster,
+        &mut replica,
+        &mut client,
+        stepping,
+        handing,
+        known,
+        count,
+    )
 }
 
 /// Hands a replica of the replay's LMS keys of a set the first stages of so many transactions.
@@ -219,7 +210,7 @@ pub fn lms_steps(
     let keys = LmsKeys::replay(alloc, &cluster, set)?;
     let mut client = LmsPen::replay(alloc, CLIENT, set)?;
     let pen = LmsPen::replay(alloc, REPLICA, set)?;
-    let mut replica = Replica::new(alloc, cluster, 0, 0, keys, pen);
+    let mut replica = boxed(alloc, Replica::new(alloc, cluster, 0, 0, keys, pen))?;
     let stepping = Stepping::FirstStage;
     step_often(
         alloc,

@@ -13,7 +13,7 @@ use lms_sign::LmsSet;
 use std::alloc::Global;
 
 /// A work that is timed.
-#[derive(Clone, Copy, PartialEq, Eq)]
+#[derive(Clone, Copy)]
 pub enum Work {
     /// Reads so many short lines.
     ShortLines,

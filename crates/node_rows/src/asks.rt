@@ -2,9 +2,11 @@
 
 use basil_types::cluster::Cluster;
 use basil_types::links::MemLinks;
+use basil_types::outbox::Envelope;
 use basil_types::party::Party;
 use node_link::{ANSWER_ENVELOPES, ask};
 use std::alloc::Global;
+use std::collections::VecDeque;
 use std::test::Fail;
 
 /// Client 2 of a cluster of six replicas in each of two shards.
@@ -21,25 +23,40 @@ struct Taken {
     written: Vec<u8>,
 }
 
-/// What is taken where the next connection brings these bytes, and these calls of the links, from 1, fail.
-fn taken_of(alloc: Global, answer: &[u8], failing: &[u64]) -> Result<Taken, Fail> {
+/// Links whose next connection brings these bytes, and whose calls with these numbers, from 1, fail.
+fn links_of(alloc: Global, answer: &[u8], failing: &[u64]) -> Result<MemLinks, Fail> {
     let mut connections = Vec::new(alloc);
     connections.push(Vec::from_slice(alloc, answer)?)?;
     let failing = Vec::from_slice(alloc, failing)?;
-    let mut links = MemLinks::new(alloc, connections, Vec::new(alloc), failing);
-    let cluster = Cluster::new(1, 2, 2, 5)?;
-    let given = ask(alloc, cluster, &mut links, "there:1", ASKER, &[5, 6])?;
-    let count = given.len();
+    Ok(MemLinks::new(alloc, connections, Vec::new(alloc), failing))
+}
+
+/// The frames of envelopes, one behind another.
+fn frames_of(alloc: Global, given: &VecDeque<Envelope>) -> Result<Vec<u8>, Fail> {
     let mut frames = Vec::new(alloc);
-    for envelope in &given {
+    for envelope in given {
         frames.extend_from_slice(envelope.frame.as_slice())?;
     }
+    Ok(frames)
+}
+
+/// What client 2 takes of an answer over links.
+fn taken_over(alloc: Global, links: &mut MemLinks) -> Result<Taken, Fail> {
+    let cluster = Cluster::new(1, 2, 2, 5)?;
+    let given = ask(alloc, cluster, links, "there:1", ASKER, &[5, 6])?;
+    let frames = frames_of(alloc, &given)?;
     let written = Vec::from_slice(alloc, links.written())?;
     Ok(Taken {
         frames,
-        count,
+        count: given.len(),
         written,
     })
+}
+
+/// What is taken where the next connection brings these bytes, and these calls of the links, from 1, fail.
+fn taken_of(alloc: Global, answer: &[u8], failing: &[u64]) -> Result<Taken, Fail> {
+    let mut links = links_of(alloc, answer, failing)?;
+    taken_over(alloc, &mut links)
 }
 
 /// An answer, and the frames of the envelopes that are taken of it.

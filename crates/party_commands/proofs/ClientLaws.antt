@@ -26,7 +26,7 @@ use Rattle.keyring.specs.declared.verifier.Verifier as verifiers
 use Rattle.keyring.specs.declared.signer.Signer as signers
 use Rattle.party_seat.specs.Clients.{ClientSitsAt, client_in}
 use Rattle.party_seat.specs.declared.client.ClientSeat.{ClientSeat}
-use Rattle.schedule_text.specs.Tokens.{Token}
+use Rattle.line_fields.specs.Tokens.{Token}
 use Rattle.command_ends.specs.Answers.{IsTold, status_of}
 use Rattle.party_commands.specs.Clients.{CallRefused, ClientStation, IsClientTold, IsRunEnding, Open, RanTo, Reported, SitsInFile}
 use Rattle.party_commands.specs.Clients.{RunsTask, client_call_of, client_seated, client_seated_in}

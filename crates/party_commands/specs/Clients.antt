@@ -29,9 +29,9 @@ use Rattle.party_seat.specs.Clients.{SeatedClient, client_in}
 use Rattle.party_seat.specs.declared.client.ClientSeat.{ClientSeat}
 use Rattle.party_seat.specs.declared.fault.SeatFault.{SeatFault}
 use Rattle.party_seat.specs.declared.fault.SeatFault.TheVariants as seats
-use Rattle.schedule_text.specs.Fields.{number_in}
-use Rattle.schedule_text.specs.Tokens.{Token}
-use Rattle.schedule_text.specs.declared.reason.Reason.TheVariants.{RefusedCall}
+use Rattle.line_fields.specs.Fields.{number_in}
+use Rattle.line_fields.specs.Tokens.{Token}
+use Rattle.line_fields.specs.declared.reason.Reason.TheVariants.{RefusedCall}
 use Rattle.command_input.specs.Ranges.{seed_size, most_leaves}
 use Rattle.command_ends.specs.Answers.{Answers, Counts, IsTold}
 use Rattle.command_input.specs.Commands.{hex_of, said}

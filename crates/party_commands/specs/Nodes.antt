@@ -17,10 +17,10 @@ use Rattle.party_seat.specs.declared.fault.NodeFault.TheVariants as seats
 use Rattle.party_seat.specs.declared.fault.SeatFault.{SeatFault}
 use Rattle.party_seat.specs.declared.fault.SeatFault.TheVariants.{WrongKey, WrongLeaf, NoMemory}
 use Rattle.party_seat.specs.declared.station.NodeSeat.{NodeSeat}
-use Rattle.schedule_text.specs.Fields.{number_in}
-use Rattle.schedule_text.specs.Tokens.{Token}
-use Rattle.schedule_text.specs.declared.reason.Reason.{Reason}
-use Rattle.schedule_text.specs.declared.reason.Reason.TheVariants.{OutOfRange, WrongParty}
+use Rattle.line_fields.specs.Fields.{number_in}
+use Rattle.line_fields.specs.Tokens.{Token}
+use Rattle.line_fields.specs.declared.reason.Reason.{Reason}
+use Rattle.line_fields.specs.declared.reason.Reason.TheVariants.{OutOfRange, WrongParty}
 use Rattle.command_input.specs.Ranges.{seed_size, most_leaves}
 use Rattle.command_ends.specs.Answers.{IsTold}
 use Rattle.command_input.specs.Commands.{hex_of, said}

@@ -9,7 +9,7 @@ ghost use Rattle.basil_types.specs.Causes.{Rose};
 ghost use Rattle.basil_types.specs.Links.{LinkState};
 ghost use Rattle.cluster_file.specs.Text.{cluster_in};
 ghost use Rattle.party_seat.specs.Clients.{client_in};
-ghost use Rattle.schedule_text.specs.Fields.{number_in};
+ghost use Rattle.line_fields.specs.Fields.{number_in};
 ghost use Rattle.command_ends.specs.Answers.{Answers, counted, is_outcomes};
 ghost use Rattle.party_commands.specs.Clients as clients;
 ghost use Rattle.party_commands.specs.Clients.{ClientStation, IsClientTold, IsRunEnding, RanTo, SeatTold, SitsInFile};
@@ -45,9 +45,9 @@ use command_input::files::file_reason;
 use command_input::input::{InputFail, Whole, read_whole};
 use keyring::signer::Signer;
 use keyring::verifier::Verifier;
+use line_fields::fields::numbers::read_number_in;
+use line_fields::reason::Reason;
 use party_seat::{ClientSeat, SeatFault, client_of};
-use schedule_text::fields::numbers::read_number_in;
-use schedule_text::reason::Reason;
 use std::alloc::Global;
 
 /// What a client is to do.

@@ -7,7 +7,7 @@ ghost use Rattle.node_link.specs.Connections.{Node};
 ghost use Rattle.party_seat.specs.Limits.{most_connections};
 ghost use Rattle.party_seat.specs.Serving.{Begins, HasStopped, serves_at};
 ghost use Rattle.party_seat.specs.Stations.{Station, station_in};
-ghost use Rattle.schedule_text.specs.Fields.{number_in};
+ghost use Rattle.line_fields.specs.Fields.{number_in};
 ghost use Rattle.cluster_file.specs.Text.{cluster_in};
 ghost use Rattle.command_input.specs.Ranges.{most_leaves};
 ghost use Rattle.command_ends.specs.Answers.{Answers, counted, is_outcomes};
@@ -33,9 +33,9 @@ use command_ends::writing::write_ending;
 use command_input::command::read_seed;
 use command_input::files::file_reason;
 use command_input::input::{InputFail, Whole, read_whole};
+use line_fields::fields::numbers::read_number_in;
+use line_fields::reason::Reason;
 use party_seat::{NodeFault, NodeSeat, serve_seat};
-use schedule_text::fields::numbers::read_number_in;
-use schedule_text::reason::Reason;
 use std::alloc::Global;
 
 /// The leaves of the highest tree of a set: as many as a key can have used.

@@ -1,7 +1,7 @@
 -- The kinds of kits.
 use Rattle.lms_sign.specs.declared.sets.LmsSet.TheVariants as sets
-use Rattle.schedule_text.specs.declared.line.KeysKind.{KeysKind}
-use Rattle.schedule_text.specs.declared.line.KeysKind.TheVariants.{Plain, W4H5, W4H10, W8H5, W8H10, Batch}
+use Rattle.line_fields.specs.declared.keys_kind.KeysKind.{KeysKind}
+use Rattle.line_fields.specs.declared.keys_kind.KeysKind.TheVariants.{Plain, W4H5, W4H10, W8H5, W8H10, Batch}
 use Rattle.replay_kit.specs.declared.kind.KitKind.{KitKind}
 use Rattle.replay_kit.specs.declared.kind.KitKind.TheVariants as kinds
 

@@ -3,8 +3,8 @@
 ghost use Rattle.std.specs.Prelude.{◌≡◌};
 ghost use Rattle.replay_kit.specs.Kinds.{kind_of};
 
+use line_fields::keys_kind::KeysKind;
 use lms_sign::LmsSet;
-use schedule_text::line::KeysKind;
 
 /// The keys that a kit has.
 #[derive(Clone, Copy)]

@@ -17,11 +17,11 @@ use Rattle.schedule_replay.specs.Schedules.{Ends, Faults, IsAt, IsGoing, Took}
 use Rattle.schedule_replay.specs.declared.stages.Schedule.{Schedule}
 use Rattle.schedule_replay.specs.Shown.{Stands, is_link_fault, is_of_link}
 use Rattle.schedule_replay.specs.Stages.{Stage, Begins, Opens, Runs, ended, on_road, road_of, run_lines, stage_step}
-use Rattle.schedule_replay.specs.declared.fault.ReplayFault.{ReplayFault}
-use Rattle.schedule_replay.specs.declared.fault.ReplayFault.TheVariants.{BadInput, Broken, Full, LinkFault, WriteFault, NoMemory}
+use Rattle.report_lines.specs.declared.fault.ReplayFault.{ReplayFault}
+use Rattle.report_lines.specs.declared.fault.ReplayFault.TheVariants.{BadInput, Broken, Full, LinkFault, WriteFault, NoMemory}
 use Rattle.schedule_replay.specs.declared.replay.Replay.{Replay}
 use Rattle.schedule_replay.specs.Totals.{totals}
-use Rattle.schedule_text.specs.Limits.{longest_line}
+use Rattle.line_fields.specs.Limits.{longest_line}
 use Rattle.schedule_commands.specs.Behind.{CanDecide, CanEnd, Closes, HasRead, IsBehind, IsDecided, Reads, ReadsOn}
 use Rattle.schedule_commands.specs.Roads as links
 use Rattle.command_input.specs.Reading.{OfBytes, IsReadThrough, StopsSoon}

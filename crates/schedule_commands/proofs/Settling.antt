@@ -8,14 +8,14 @@ use Rattle.schedule_replay.specs.Lines.{later_reason}
 use Rattle.schedule_replay.specs.Outcomes.{outcome_on}
 use Rattle.schedule_replay.specs.Reports.{report}
 use Rattle.schedule_replay.specs.Stages.{Stage, Begins, Opens, Runs, ended, read_line, run_lines, stage_step}
-use Rattle.schedule_replay.specs.declared.fault.ReplayFault.{ReplayFault}
-use Rattle.schedule_replay.specs.declared.fault.ReplayFault.TheVariants.{BadInput}
-use Rattle.schedule_text.specs.Limits.{longest_line}
+use Rattle.report_lines.specs.declared.fault.ReplayFault.{ReplayFault}
+use Rattle.report_lines.specs.declared.fault.ReplayFault.TheVariants.{BadInput}
+use Rattle.line_fields.specs.Limits.{longest_line}
 use Rattle.schedule_text.specs.Reading.{is_skipped, line_at}
-use Rattle.schedule_text.specs.TextLines.{but_empty_last, lines_of}
+use Rattle.line_fields.specs.TextLines.{but_empty_last, lines_of}
 use Rattle.schedule_text.specs.declared.line.LineFault.TheVariants.{BadLine}
-use Rattle.schedule_text.specs.declared.reason.Reason.{Reason}
-use Rattle.schedule_text.specs.declared.reason.Reason.TheVariants.{NoHeader, OutOfSize}
+use Rattle.line_fields.specs.declared.reason.Reason.{Reason}
+use Rattle.line_fields.specs.declared.reason.Reason.TheVariants.{NoHeader, OutOfSize}
 use Rattle.command_input.proofs.Stopping.{NotYet}
 use Rattle.schedule_commands.specs.TextLines.{ended_lines, has_newline, is_settled, open_line, pieces_of}
 use Rattle.schedule_commands.proofs.LineEnds.{begun, grown, open_whole, pieces_ended, pieces_more, pieces_whole}

@@ -5,11 +5,11 @@ use Rattle.schedule_replay.specs.Replays.{ReplayValue}
 use Rattle.schedule_replay.specs.Roads.{Road, road_with}
 use Rattle.schedule_replay.specs.Schedules.{Ends, IsAt, IsGoing}
 use Rattle.schedule_replay.specs.Stages.{Stage, Begins, road_of, run_lines}
-use Rattle.schedule_replay.specs.declared.fault.ReplayFault.{ReplayFault}
-use Rattle.schedule_replay.specs.declared.fault.ReplayFault.TheVariants.{BadInput, Broken, Full}
-use Rattle.schedule_replay.specs.declared.fault.ReplayFault.TheVariants.{LinkFault, WriteFault, NoMemory}
+use Rattle.report_lines.specs.declared.fault.ReplayFault.{ReplayFault}
+use Rattle.report_lines.specs.declared.fault.ReplayFault.TheVariants.{BadInput, Broken, Full}
+use Rattle.report_lines.specs.declared.fault.ReplayFault.TheVariants.{LinkFault, WriteFault, NoMemory}
 use Rattle.schedule_replay.specs.declared.replay.Replay.{Replay}
-use Rattle.schedule_text.specs.Limits.{longest_line}
+use Rattle.line_fields.specs.Limits.{longest_line}
 use Rattle.schedule_commands.specs.TextLines.{ended_lines, has_newline, is_settled, open_line}
 use Rattle.schedule_commands.specs.declared.replay.Reading.{Reading}
 

@@ -5,8 +5,8 @@ use Rattle.command_input.specs.declared.command.LoadSize.{LoadSize}
 use Rattle.load_maker.specs.Loads.{text_of_load}
 use Rattle.schedule_replay.specs.Replays.{ReplayValue}
 use Rattle.schedule_replay.specs.Totals.{totals}
-use Rattle.schedule_replay.specs.declared.fault.ReplayFault.{ReplayFault}
-use Rattle.schedule_replay.specs.declared.fault.ReplayFault.TheVariants as fault
+use Rattle.report_lines.specs.declared.fault.ReplayFault.{ReplayFault}
+use Rattle.report_lines.specs.declared.fault.ReplayFault.TheVariants as fault
 
 -- a schedule leads to its report, or to one of three faults; to the others none leads
 abbrev pub replayed : Result (List ℕ) ReplayFault → Outcome

@@ -3,7 +3,7 @@ use Rattle.std.specs.Prelude.{ℕ, ◌-◌, ◌==◌, nat_lt, Bool, ◌||◌, Li
 use Rattle.std.specs.List.{list_any, slice_split}
 use Rattle.schedule_replay.specs.Roads.{Road}
 use Rattle.schedule_replay.specs.Stages.{Begins, run_lines}
-use Rattle.schedule_text.specs.Limits.{longest_line}
+use Rattle.line_fields.specs.Limits.{longest_line}
 
 -- whether a newline is among the bytes
 abbrev pub has_newline : List ℕ → Bool

@@ -24,11 +24,11 @@ use basil_types::source::Source;
 use command_ends::ending::Ending;
 use command_input::command::LoadSize;
 use command_input::input::{InputFail, PIECE};
+use line_fields::limits::LONGEST_LINE;
 use load_maker::load::schedule_of;
-use schedule_replay::fault::ReplayFault;
+use report_lines::fault::ReplayFault;
 use schedule_replay::replay::Replay;
 use schedule_replay::stages::Schedule;
-use schedule_text::reading::LONGEST_LINE;
 use std::alloc::Global;
 
 /// A schedule that is run as it is read.

@@ -11,7 +11,7 @@ use Rattle.cluster_run.specs.declared.fault.WorldFault.{WorldFault}
 use Rattle.cluster_run.specs.declared.fault.WorldFault.TheVariants as world
 use Rattle.node_steps.specs.Refusing.{unless_refused}
 use Rattle.schedule_text.specs.declared.line.Line.{Line}
-use Rattle.schedule_text.specs.declared.reason.Reason.{Reason}
+use Rattle.line_fields.specs.declared.reason.Reason.{Reason}
 use Rattle.schedule_replay.proofs.Deliveries.{IsTaken, delivered_in}
 use Rattle.schedule_replay.specs.Events.{deliver, deliver_all, frame_at, line_does, round_of, waiting}
 use Rattle.schedule_replay.specs.Lines.{answered, line_step, names_after}
@@ -23,7 +23,7 @@ use Rattle.schedule_replay.specs.Shown.{Did, Does, HasBegun, HasStopped, Stands,
 use Rattle.schedule_replay.specs.declared.course.Course.{Course}
 use Rattle.schedule_replay.specs.declared.fault.Halt.{Halt}
 use Rattle.schedule_replay.specs.declared.fault.Halt.TheVariants as halt
-use Rattle.schedule_replay.specs.declared.fault.ReplayFault.TheVariants.{BadInput}
+use Rattle.report_lines.specs.declared.fault.ReplayFault.TheVariants.{BadInput}
 
 -- a course shows what a replay comes to when these messages are delivered, with this road left
 pub record Reached (r : ReplayValue) (course : Course) (done : List ℕ) (road : Road) : Type 0 where

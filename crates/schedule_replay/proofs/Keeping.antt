@@ -23,8 +23,8 @@ use Rattle.schedule_replay.specs.Lines.{answered, line_step}
 use Rattle.schedule_replay.specs.Reasons.{reason_of}
 use Rattle.schedule_replay.specs.Replays.{Opening, ReplayValue, first_replay, journaled, led, setup_of}
 use Rattle.schedule_replay.specs.Roads.{Road, behind_one, handed}
-use Rattle.schedule_replay.specs.declared.fault.ReplayFault.{ReplayFault}
-use Rattle.schedule_replay.specs.declared.fault.ReplayFault.TheVariants.{BadInput}
+use Rattle.report_lines.specs.declared.fault.ReplayFault.{ReplayFault}
+use Rattle.report_lines.specs.declared.fault.ReplayFault.TheVariants.{BadInput}
 
 -- ---- what a step leaves
 

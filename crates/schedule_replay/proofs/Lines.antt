@@ -13,7 +13,7 @@ use Rattle.node_steps.specs.Refusing.{unless_refused}
 use Rattle.premise_watch.specs.declared.broken.Broken.{Broken}
 use Rattle.schedule_text.specs.Fitting.{Fits}
 use Rattle.schedule_text.specs.declared.line.Line.{Line}
-use Rattle.schedule_text.specs.declared.reason.Reason.{Reason}
+use Rattle.line_fields.specs.declared.reason.Reason.{Reason}
 use Rattle.schedule_text.specs.declared.line.Line.TheVariants.{Round, Stop}
 use Rattle.schedule_replay.proofs.Fitting.{event_fits}
 use Rattle.schedule_replay.proofs.Journaled.{event_breaks, event_goes, is_broken, stop_breaks, stop_goes}
@@ -25,8 +25,8 @@ use Rattle.schedule_replay.specs.Lines.{answered, line_step, names_after}
 use Rattle.schedule_replay.specs.Reasons.{reason_of}
 use Rattle.schedule_replay.specs.Replays.{NamesValue, ReplayValue, journaled, led}
 use Rattle.schedule_replay.specs.Roads.{Road, behind_one, handed}
-use Rattle.schedule_replay.specs.declared.fault.ReplayFault.{ReplayFault}
-use Rattle.schedule_replay.specs.declared.fault.ReplayFault.TheVariants as fault
+use Rattle.report_lines.specs.declared.fault.ReplayFault.{ReplayFault}
+use Rattle.report_lines.specs.declared.fault.ReplayFault.TheVariants as fault
 
 -- ---- replays
 

@@ -19,9 +19,9 @@ use Rattle.run_journals.specs.Journals.{journal_at}
 use Rattle.keyring_lms.specs.Replay.{is_party_of}
 use Rattle.schedule_text.specs.declared.line.Line.{Line}
 use Rattle.schedule_text.specs.declared.line.Line.TheVariants.{Claim, Stop}
-use Rattle.schedule_text.specs.declared.reason.Reason.{Reason}
-use Rattle.schedule_text.specs.declared.reason.Reason.TheVariants.{CannotBeFaulty, Misspelt, NoJournal, NoMessage, OutOfRange}
-use Rattle.schedule_text.specs.declared.reason.Reason.TheVariants.{WrongName, WrongParty}
+use Rattle.line_fields.specs.declared.reason.Reason.{Reason}
+use Rattle.line_fields.specs.declared.reason.Reason.TheVariants.{CannotBeFaulty, Misspelt, NoJournal, NoMessage, OutOfRange}
+use Rattle.line_fields.specs.declared.reason.Reason.TheVariants.{WrongName, WrongParty}
 use Rattle.schedule_replay.specs.Replays.{NamedValue, NamesValue, ReplayValue}
 
 there : {A B : Type 0} (f : A → B) (o : Option A) → is_some o ≡ is_some (option_map f o)

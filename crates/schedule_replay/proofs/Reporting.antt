@@ -21,7 +21,8 @@ use Rattle.schedule_replay.specs.declared.course.Course.{Course}
 use Rattle.schedule_replay.specs.Names.{keys_of}
 use Rattle.schedule_replay.specs.Naming.{name_at}
 use Rattle.schedule_replay.specs.Replays.{NamedValue, NamesValue, ReplayValue}
-use Rattle.schedule_replay.specs.Reports.{chosen_tokens, decided, end_line, fate_line, first_name, has_id}
+use Rattle.report_lines.specs.Lines.{end_line, fate_line}
+use Rattle.schedule_replay.specs.Reports.{chosen_tokens, decided, first_name, has_id}
 use Rattle.schedule_replay.specs.Reports.{key_lines, read_line, read_lines, report, tx_lines, writer_token}
 use Rattle.schedule_replay.specs.Shown.{Stands}
 use Rattle.schedule_replay.specs.Telling.{AddsPlace, AreFirst, FirstBelow, Placed, Tells, name_placed, place_of, transaction_lines}

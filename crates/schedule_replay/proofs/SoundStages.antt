@@ -20,9 +20,9 @@ use Rattle.premise_watch.specs.declared.broken.Broken.{Broken}
 use Rattle.replay_kit.specs.Values.{BatchKitsSign, lms_place, lms_value, plain_place}
 use Rattle.schedule_text.specs.Fitting.{Fits, GrammarIsRead}
 use Rattle.schedule_text.specs.Reading.{line_at}
-use Rattle.schedule_text.specs.TextLines.{lines_of}
-use Rattle.schedule_text.specs.declared.line.KeysKind.{KeysKind}
-use Rattle.schedule_text.specs.declared.line.KeysKind.TheVariants.{Plain, W4H5, W4H10, W8H5, W8H10, Batch}
+use Rattle.line_fields.specs.TextLines.{lines_of}
+use Rattle.line_fields.specs.declared.keys_kind.KeysKind.{KeysKind}
+use Rattle.line_fields.specs.declared.keys_kind.KeysKind.TheVariants.{Plain, W4H5, W4H10, W8H5, W8H10, Batch}
 use Rattle.schedule_text.specs.declared.line.Line.{Line}
 use Rattle.schedule_text.specs.declared.line.Line.TheVariants.{Header, Skipped, Faulty}
 use Rattle.schedule_text.specs.declared.line.LineFault.{LineFault}
@@ -39,12 +39,12 @@ use Rattle.schedule_replay.specs.Outcomes.{replay_on}
 use Rattle.schedule_replay.specs.Replays.{Opening, ReplayValue, first_replay}
 use Rattle.schedule_replay.specs.Reports.{report}
 use Rattle.schedule_replay.specs.Roads.{Road}
-use Rattle.schedule_text.specs.declared.reason.Reason.{Reason}
-use Rattle.schedule_text.specs.declared.reason.Reason.TheVariants.{OutOfRange, CannotBeFaulty}
+use Rattle.line_fields.specs.declared.reason.Reason.{Reason}
+use Rattle.line_fields.specs.declared.reason.Reason.TheVariants.{OutOfRange, CannotBeFaulty}
 use Rattle.schedule_replay.specs.Stages.{Stage, Begins, Opens, Runs, opened, first_line, bad_first}
 use Rattle.schedule_replay.specs.Stages.{faulty_reason, opening_line, read_line, stage_step, run_lines, ended}
-use Rattle.schedule_replay.specs.declared.fault.ReplayFault.{ReplayFault}
-use Rattle.schedule_replay.specs.declared.fault.ReplayFault.TheVariants as fault
+use Rattle.report_lines.specs.declared.fault.ReplayFault.{ReplayFault}
+use Rattle.report_lines.specs.declared.fault.ReplayFault.TheVariants as fault
 
 -- what the laws below tell
 pub record Laws : Type 0 where

@@ -17,9 +17,9 @@ use Rattle.premise_watch.specs.Parties.{can_join, is_among, joined}
 use Rattle.replay_kit.specs.Kinds.{kind_of}
 use Rattle.replay_kit.specs.Values.{replay_value}
 use Rattle.schedule_text.specs.Fitting.{GrammarIsRead}
-use Rattle.schedule_text.specs.Limits.{most_lines}
+use Rattle.line_fields.specs.Limits.{most_lines}
 use Rattle.schedule_text.specs.Reading.{line_at}
-use Rattle.schedule_text.specs.declared.line.KeysKind.{KeysKind}
+use Rattle.line_fields.specs.declared.keys_kind.KeysKind.{KeysKind}
 use Rattle.schedule_text.specs.declared.line.Line.{Line}
 use Rattle.schedule_text.specs.declared.line.Line.TheVariants.{Faulty, Skipped}
 use Rattle.schedule_text.specs.declared.line.LineFault.{LineFault}
@@ -31,12 +31,12 @@ use Rattle.schedule_replay.specs.Replays.{Opening, ReplayValue, along, first_rep
 use Rattle.schedule_replay.specs.Roads.{Road}
 use Rattle.schedule_replay.specs.Schedules.{Ends, IsAt, Joins, Took}
 use Rattle.schedule_replay.specs.Shown.{Did, Stands, opening_of}
-use Rattle.schedule_text.specs.declared.reason.Reason.{Reason}
+use Rattle.line_fields.specs.declared.reason.Reason.{Reason}
 use Rattle.schedule_replay.specs.Stages.{AreParties, Stage, Begins, Opens, Runs, ended, first_line, on_road}
 use Rattle.schedule_replay.specs.Stages.{opened, faulty_reason, opening_line, read_line, stage_step}
 use Rattle.schedule_replay.specs.declared.course.Course.{Course}
-use Rattle.schedule_replay.specs.declared.fault.ReplayFault.{ReplayFault}
-use Rattle.schedule_replay.specs.declared.fault.ReplayFault.TheVariants.{BadInput, Broken, Full, LinkFault, WriteFault, NoMemory}
+use Rattle.report_lines.specs.declared.fault.ReplayFault.{ReplayFault}
+use Rattle.report_lines.specs.declared.fault.ReplayFault.TheVariants.{BadInput, Broken, Full, LinkFault, WriteFault, NoMemory}
 use Rattle.schedule_replay.specs.declared.replay.Opening as code
 use Rattle.schedule_replay.specs.declared.replay.Replay.{Replay}
 use Rattle.schedule_replay.specs.declared.stages.Opened.{Opened}

@@ -14,9 +14,9 @@ use Rattle.schedule_replay.specs.Replays.{ReplayValue}
 use Rattle.schedule_replay.specs.Reports.{report}
 use Rattle.schedule_replay.specs.Roads.{Road}
 use Rattle.schedule_replay.specs.Stages.{Begins, ended, run_lines}
-use Rattle.schedule_replay.specs.declared.fault.ReplayFault.TheVariants as fault
+use Rattle.report_lines.specs.declared.fault.ReplayFault.TheVariants as fault
 use Rattle.schedule_text.specs.Reading.{line_at}
-use Rattle.schedule_text.specs.TextLines.{lines_of}
+use Rattle.line_fields.specs.TextLines.{lines_of}
 use Rattle.schedule_text.specs.declared.line.Line.{Line}
 
 -- at most f replicas of each shard are faulty, and what clients sign fits a frame

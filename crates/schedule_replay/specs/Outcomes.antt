@@ -1,12 +1,12 @@
 -- What the bytes of a schedule lead to.
 use Rattle.std.specs.Prelude.{ℕ, List, Result, Ok}
 use Rattle.basil_types.specs.Steps.{◌>>=◌}
-use Rattle.schedule_text.specs.TextLines.{lines_of}
+use Rattle.line_fields.specs.TextLines.{lines_of}
 use Rattle.schedule_replay.specs.Replays.{ReplayValue}
 use Rattle.schedule_replay.specs.Reports.{report}
 use Rattle.schedule_replay.specs.Roads.{Road, Direct}
 use Rattle.schedule_replay.specs.Stages.{Begins, run_lines, ended}
-use Rattle.schedule_replay.specs.declared.fault.ReplayFault.{ReplayFault}
+use Rattle.report_lines.specs.declared.fault.ReplayFault.{ReplayFault}
 
 -- the replay behind the last line, or the fault of the first line that ends it
 abbrev pub replay_on : Road → List ℕ → Result ReplayValue ReplayFault

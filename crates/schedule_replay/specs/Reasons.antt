@@ -14,9 +14,9 @@ use Rattle.schedule_text.specs.declared.line.Line.TheVariants.{Header, Faulty, B
 use Rattle.schedule_text.specs.declared.line.Line.TheVariants.{Claim, Prepare, Settle, Recover, Invoke}
 use Rattle.schedule_text.specs.declared.line.Line.TheVariants.{Deliver, Lose, Divert, Clock, Vote}
 use Rattle.schedule_text.specs.declared.line.Line.TheVariants.{Second, Logged, Elect, Decide, Raw, Stop}
-use Rattle.schedule_text.specs.declared.reason.Reason.{Reason}
-use Rattle.schedule_text.specs.declared.reason.Reason.TheVariants.{Misspelt, OutOfRange, WrongName, CannotBeFaulty}
-use Rattle.schedule_text.specs.declared.reason.Reason.TheVariants.{WrongParty, NoMessage, NoJournal}
+use Rattle.line_fields.specs.declared.reason.Reason.{Reason}
+use Rattle.line_fields.specs.declared.reason.Reason.TheVariants.{Misspelt, OutOfRange, WrongName, CannotBeFaulty}
+use Rattle.line_fields.specs.declared.reason.Reason.TheVariants.{WrongParty, NoMessage, NoJournal}
 use Rattle.schedule_replay.specs.Names.{is_begun, is_formed, is_by_faulty}
 use Rattle.schedule_replay.specs.Replays.{ReplayValue}
 

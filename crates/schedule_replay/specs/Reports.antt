@@ -1,5 +1,5 @@
 -- The report of a run.
-use Rattle.std.specs.Prelude.{ℕ, ◌+◌, List, [], ◌∷◌, ◌++◌, Bool, false, codes, decimal}
+use Rattle.std.specs.Prelude.{ℕ, ◌+◌, List, [], ◌∷◌, ◌++◌, Bool, false, codes}
 use Rattle.std.specs.Prelude.{length, Option, Some, None, option_and_then, if◌then◌else◌}
 use Rattle.std.specs.List.{flat_map}
 use Rattle.std.specs.Option.{option_map_or}
@@ -7,7 +7,6 @@ use Rattle.std.specs.Str.{bytes_eq}
 use Rattle.basil_types.specs.Replayed.{map_of}
 use Rattle.basil_types.specs.Transaction.{TransactionValue, id}
 use Rattle.basil_types.specs.declared.party.Decision.{Decision}
-use Rattle.basil_types.specs.declared.party.Decision.TheVariants.{Commit, Abort}
 use Rattle.basil_types.specs.declared.version.Version.{Version}
 use Rattle.client_core.specs.Slots.{ReadStateValue, Absent, Found, Deleted}
 use Rattle.cluster_run.specs.States.{State}
@@ -15,7 +14,7 @@ use Rattle.cluster_run.specs.Telling.{transaction_at, value_at, decision_at, com
 use Rattle.hex.specs.Hex.{encode_lower}
 use Rattle.schedule_text.specs.Spelling.{key_token, value_token}
 use Rattle.serial_audit.specs.Maps.{pairs_of}
-use Rattle.serial_audit.specs.declared.maps.Pair.{Pair}
+use Rattle.report_lines.specs.Lines.{end_line, fate_line, key_line}
 use Rattle.schedule_replay.specs.Names.{keys_of}
 use Rattle.schedule_replay.specs.Replays.{NamedValue, ReplayValue}
 
@@ -24,15 +23,6 @@ use Rattle.schedule_replay.specs.Replays.{NamedValue, ReplayValue}
 -- by the certificates that were seen; nothing of one that isn't formed
 abbrev pub decided : State → (tx : ℕ) → Option Decision
 decided st tx = option_and_then (λ t. decision_at st (id t)) (transaction_at st tx)
-
-abbrev pub fate_token : Option Decision → List ℕ
-fate_token (Some Commit) = codes "commit"
-fate_token (Some Abort) = codes "abort"
-fate_token None = codes "open"
-
--- `tx NAME commit`, `tx NAME abort` or `tx NAME open`
-abbrev pub fate_line : (name : List ℕ) → Option Decision → List ℕ
-fate_line name fate = codes "tx " ++ name ++ 32 ∷ fate_token fate ++ 10 ∷ []
 
 -- ---- what it read
 
@@ -74,19 +64,11 @@ tx_lines r tx (n ∷ ns) =
 
 -- ---- what all committed transactions leave
 
--- `key KEY VALUE`; a deleted key has no line
-abbrev pub key_line : Pair → List ℕ
-key_line p = if p.deleted then [] else codes "key " ++ key_token p.key ++ 32 ∷ value_token p.value ++ 10 ∷ []
-
 -- ascending by key
 abbrev pub key_lines : State → List ℕ
 key_lines st = flat_map key_line (pairs_of (map_of (committed_by_version st)))
 
 -- ---- the whole
-
--- `end N`, the number of messages
-abbrev pub end_line : ℕ → List ℕ
-end_line messages = codes "end " ++ decimal messages ++ 10 ∷ []
 
 abbrev pub report : ReplayValue → List ℕ
 report r = tx_lines r 0 r.names.begun ++ key_lines r.state ++ end_line (length r.state.pool)

@@ -2,10 +2,10 @@
 use Rattle.std.specs.Prelude.{◌≡◌, ℕ, List, [], ◌∷◌, ◌++◌, Bool, false, ⊤, Option, Some, None, Result, Ok, Err}
 use Rattle.basil_types.specs.Links.{LinkState}
 use Rattle.basil_types.specs.declared.party.Party.{Party}
-use Rattle.schedule_text.specs.declared.reason.Reason.{Reason}
-use Rattle.schedule_replay.specs.declared.fault.ReplayFault.{ReplayFault}
-use Rattle.schedule_replay.specs.declared.fault.ReplayFault.TheVariants.{BadInput, Broken, Full}
-use Rattle.schedule_replay.specs.declared.fault.ReplayFault.TheVariants.{LinkFault, WriteFault, NoMemory}
+use Rattle.report_lines.specs.declared.fault.ReplayFault.{ReplayFault}
+use Rattle.report_lines.specs.declared.fault.ReplayFault.TheVariants.{BadInput, Broken, Full}
+use Rattle.report_lines.specs.declared.fault.ReplayFault.TheVariants.{LinkFault, WriteFault, NoMemory}
+use Rattle.line_fields.specs.declared.reason.Reason.{Reason}
 use Rattle.schedule_replay.specs.declared.replay.Replay.{Replay}
 use Rattle.schedule_replay.specs.declared.stages.Opened.{Opened}
 use Rattle.schedule_replay.specs.declared.stages.Schedule.{Schedule}

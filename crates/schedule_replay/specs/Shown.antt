@@ -12,13 +12,13 @@ use Rattle.replay_kit.specs.Made.{kit_value}
 use Rattle.replay_kit.specs.Values.{replay_value}
 use Rattle.schedule_text.specs.declared.line.Line.{Line}
 use Rattle.schedule_text.specs.declared.line.Line.TheVariants.{Begin}
-use Rattle.schedule_text.specs.declared.reason.Reason.TheVariants.{RefusedCall}
+use Rattle.line_fields.specs.declared.reason.Reason.TheVariants.{RefusedCall}
 use Rattle.schedule_replay.specs.declared.course.Course.{Course}
 use Rattle.schedule_replay.specs.declared.fault.Halt.{Halt}
 use Rattle.schedule_replay.specs.declared.fault.Halt.TheVariants as halt
-use Rattle.schedule_replay.specs.declared.fault.ReplayFault.{ReplayFault}
-use Rattle.schedule_replay.specs.declared.fault.ReplayFault.TheVariants.{BadInput, Broken, Full}
-use Rattle.schedule_replay.specs.declared.fault.ReplayFault.TheVariants.{LinkFault, WriteFault, NoMemory}
+use Rattle.report_lines.specs.declared.fault.ReplayFault.{ReplayFault}
+use Rattle.report_lines.specs.declared.fault.ReplayFault.TheVariants.{BadInput, Broken, Full}
+use Rattle.report_lines.specs.declared.fault.ReplayFault.TheVariants.{LinkFault, WriteFault, NoMemory}
 use Rattle.schedule_replay.specs.declared.replay.Opening as code
 use Rattle.schedule_replay.specs.Events.{deliver, deliver_all}
 use Rattle.schedule_replay.specs.Names.{is_begun}
@@ -147,12 +147,6 @@ Did messages should before course (Err (Full count bytes)) road =
 Did messages should before course (Err LinkFault) road = HasStopped messages before course road
 Did messages should before course (Err WriteFault) road = ⊥
 Did messages should before course (Err NoMemory) road = ⊤
-
--- a breach, and want of memory, end a replay
-abbrev pub ends_by : {A : Type 0} → Result A ReplayFault → Bool
-ends_by (Err (Broken b)) = true
-ends_by (Err NoMemory) = true
-ends_by _ = false
 
 -- a link failed
 abbrev pub is_of_link : ReplayFault → Bool

@@ -8,7 +8,8 @@ use Rattle.schedule_replay.specs.declared.course.Course.{Course}
 use Rattle.schedule_replay.specs.Names.{keys_of}
 use Rattle.schedule_replay.specs.Naming.{name_at}
 use Rattle.schedule_replay.specs.Replays.{ReplayValue}
-use Rattle.schedule_replay.specs.Reports.{decided, fate_line, first_name, has_id, read_lines}
+use Rattle.report_lines.specs.Lines.{fate_line}
+use Rattle.schedule_replay.specs.Reports.{decided, first_name, has_id, read_lines}
 use Rattle.schedule_replay.specs.Shown.{Stands}
 
 -- ---- places of ids

@@ -5,7 +5,8 @@ use Rattle.std.specs.List.{range_with_len}
 use Rattle.basil_types.specs.declared.party.Decision.{Decision}
 use Rattle.basil_types.specs.declared.party.Decision.TheVariants.{Commit, Abort}
 use Rattle.schedule_replay.specs.Replays.{ReplayValue}
-use Rattle.schedule_replay.specs.Reports.{decided, end_line}
+use Rattle.report_lines.specs.Lines.{end_line}
+use Rattle.schedule_replay.specs.Reports.{decided}
 
 abbrev pub is_same_fate : Option Decision → Option Decision → Bool
 is_same_fate (Some Commit) (Some Commit) = true

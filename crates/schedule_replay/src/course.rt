@@ -17,11 +17,12 @@ ghost use Rattle.schedule_replay.specs.Reasons.{CanStop, lacks_journal};
 ghost use Rattle.schedule_replay.specs.Replays.{ReplayValue, along, journaled};
 ghost use Rattle.schedule_replay.specs.Roads.{Uses, carries_all, road_with};
 ghost use Rattle.schedule_replay.specs.Shown.{ByRoads, CanName, Did, Does, Goes, IsOfRoad, Stands};
-ghost use Rattle.schedule_replay.specs.Shown.{ends_by, ends_world, failed_by_link, fault_by, is_link_fault};
+ghost use Rattle.report_lines.specs.Ending.{ends_by};
+ghost use Rattle.schedule_replay.specs.Shown.{ends_world, failed_by_link, fault_by, is_link_fault};
 ghost use Rattle.schedule_text.specs.declared.line.Line.{Line};
 
 use crate::events::event_of;
-use crate::fault::{Halt, ReplayFault};
+use crate::fault::Halt;
 use crate::names::Names;
 use crate::road::hand_over;
 use basil_types::bytes::Bytes;
@@ -34,10 +35,11 @@ use cluster_world::fault::StepFault;
 use cluster_world::world::World;
 use journal_disk::disk::Stop;
 use journaled_runs::{begin_journals, no_journals};
+use line_fields::reason::Reason;
 use replay_kit::{ReplayKit, ReplayPen, ReplayRing};
+use report_lines::fault::ReplayFault;
 use run_journals::Journals;
 use schedule_text::line::Line;
-use schedule_text::reason::Reason;
 use std::alloc::Global;
 
 /// A world, the journals of its replicas, and the names of its transactions.

@@ -8,7 +8,7 @@
 
 mod course;
 mod events;
-pub mod fault;
+mod fault;
 pub mod laws;
 mod names;
 mod reasons;

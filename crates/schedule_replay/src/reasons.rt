@@ -15,8 +15,8 @@ use basil_types::bytes::Bytes;
 use basil_types::cluster::Cluster;
 use basil_types::party::Party;
 use keyring_lms::has_party;
+use line_fields::reason::Reason;
 use schedule_text::line::Line;
-use schedule_text::reason::Reason;
 
 /// Reason 2: a header that isn't the first.
 fn is_late_header(line: &Line) -> bool

@@ -18,10 +18,10 @@ ghost use Rattle.schedule_replay.specs.Replays.{ReplayValue, first_replay, most_
 ghost use Rattle.schedule_replay.specs.Reports as reports;
 ghost use Rattle.schedule_replay.specs.Roads.{Road, Uses};
 ghost use Rattle.schedule_replay.specs.Totals.{totals};
-ghost use Rattle.schedule_replay.specs.Shown.{ByRoads, Did, IsOfReport, Stands, ends_by, is_link_fault, opening_of};
+ghost use Rattle.report_lines.specs.Ending.{ends_by};
+ghost use Rattle.schedule_replay.specs.Shown.{ByRoads, Did, IsOfReport, Stands, is_link_fault, opening_of};
 
 use crate::course::{Course, first_journals};
-use crate::fault::ReplayFault;
 use crate::names::Names;
 use crate::report::text_of;
 use crate::totals::totals_of;
@@ -36,6 +36,7 @@ use journaled_runs::{owners_are_correct, owners_outlast_stops, owners_stay};
 use message_pool::Room;
 use premise_watch::faulty::Faulty;
 use replay_kit::{KitKind, ReplayKit};
+use report_lines::fault::{ReplayFault, ends};
 use run_kit::Kit;
 use schedule_text::line::Line;
 use std::alloc::Global;
@@ -69,17 +70,6 @@ fn limits() -> Room
     Room {
         messages: 1_000_000,
         bytes: 1_073_741_824,
-    }
-}
-
-/// Whether what a line comes to ends a replay: a breach does, and want of memory.
-fn ends(done: &Result<(), ReplayFault>) -> bool
-    ensures { result ≡ ends_by done.now }
-{
-    match done {
-        Err(ReplayFault::Broken(_)) => true,
-        Err(ReplayFault::NoMemory) => true,
-        _ => false,
     }
 }
 

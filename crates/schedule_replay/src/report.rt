@@ -1,7 +1,6 @@
 //! The report of a run.
 
-ghost use Rattle.std.specs.Prelude.{◌≡◌, ◌++◌, ◌∷◌, [], codes, IfOk, OnOk, is_some, option_map, unwrap_or};
-ghost use Rattle.std.specs.List.{flat_map};
+ghost use Rattle.std.specs.Prelude.{◌≡◌, ◌++◌, [], IfOk, OnOk, is_some, option_map, unwrap_or};
 ghost use Rattle.basil_types.specs.Transaction as transactions;
 ghost use Rattle.client_core.specs.Keeping.{told_state};
 ghost use Rattle.cluster_run.specs.Telling.{transaction_at, value_at};
@@ -11,7 +10,6 @@ ghost use Rattle.schedule_replay.specs.Replays.{ReplayValue};
 ghost use Rattle.schedule_replay.specs.Reports as reports;
 ghost use Rattle.schedule_replay.specs.Shown.{Stands};
 ghost use Rattle.schedule_replay.specs.Telling.{AddsPlace, AreFirst, Tells, transaction_lines};
-ghost use Rattle.schedule_text.specs.Spelling.{key_token};
 
 use crate::course::Course;
 use basil_types::bytes::Bytes;
@@ -21,10 +19,9 @@ use basil_types::version::Version;
 use client_core::ReadState;
 use hex::encode;
 use id_maps::map::{IdMap, empty_map};
-use itoa::Buffer;
-use schedule_text::writing::{spell_key, spell_value};
-use serial_audit::maps::{Pair, replay_map};
-use std::alloc::Global;
+use report_lines::lines::{put, put_asked, put_end, put_fate, put_pairs};
+use schedule_text::writing::spell_value;
+use serial_audit::maps::replay_map;
 
 /// The places of the first formed transactions of each id, from 0.
 type Places = IdMap<[u8; 32], u32>;
@@ -39,76 +36,6 @@ pub(crate) fn text_of(course: &Course) -> Result<Vec<u8>, NoMemory>
     course.put_keys(&mut out)?;
     put_end(&mut out, course.world.messages())?;
     Ok(out)
-}
-
-/// Appends a text.
-pub(crate) fn put(out: &mut Vec<u8>, text: &[u8]) -> Result<(), NoMemory>
-    ensures { OnOk result (out.new.items ≡ out.old.items ++ text.now) }
-{
-    out.extend_from_slice(text)?;
-    Ok(())
-}
-
-/// `tx NAME commit`, `tx NAME abort` or `tx NAME open`
-fn put_fate(out: &mut Vec<u8>, name: &[u8], fate: Option<Decision>) -> Result<(), NoMemory>
-    ensures { OnOk result (out.new.items ≡ out.old.items ++ reports.fate_line name.now fate) }
-{
-    put(out, b"tx ")?;
-    put(out, name)?;
-    match fate {
-        Some(Decision::Commit) => put(out, b" commit\n"),
-        Some(Decision::Abort) => put(out, b" abort\n"),
-        None => put(out, b" open\n"),
-    }
-}
-
-/// `read NAME KEY` and a space.
-fn put_asked(alloc: Global, out: &mut Vec<u8>, name: &[u8], key: &[u8]) -> Result<(), NoMemory>
-    ensures { OnOk result
-        (out.new.items ≡ out.old.items ++ (codes "read " ++ name.now ++ 32 ∷ key_token key.now ++ 32 ∷ [])) }
-{
-    let key = spell_key(alloc, key)?;
-    put(out, b"read ")?;
-    put(out, name)?;
-    put(out, b" ")?;
-    put(out, &key)?;
-    put(out, b" ")
-}
-
-/// `key KEY VALUE`, or nothing for a deleted key.
-fn put_key(alloc: Global, out: &mut Vec<u8>, pair: &Pair) -> Result<(), NoMemory>
-    ensures { OnOk result (out.new.items ≡ out.old.items ++ reports.key_line pair.now) }
-{
-    if pair.deleted {
-        return Ok(());
-    }
-    let key = spell_key(alloc, pair.key.as_slice())?;
-    let value = spell_value(alloc, pair.value.as_slice())?;
-    put(out, b"key ")?;
-    put(out, &key)?;
-    put(out, b" ")?;
-    put(out, &value)?;
-    put(out, b"\n")
-}
-
-/// A line for each of these pairs, but for deleted keys.
-fn put_pairs(alloc: Global, out: &mut Vec<u8>, pairs: &[Pair]) -> Result<(), NoMemory>
-    ensures { OnOk result (out.new.items ≡ out.old.items ++ flat_map reports.key_line pairs.now) }
-{
-    for pair in pairs {
-        put_key(alloc, out, pair)?;
-    }
-    Ok(())
-}
-
-/// `end N`
-pub(crate) fn put_end(out: &mut Vec<u8>, messages: u64) -> Result<(), NoMemory>
-    ensures { OnOk result (out.new.items ≡ out.old.items ++ reports.end_line messages) }
-{
-    let mut buffer = Buffer::new();
-    put(out, b"end ")?;
-    put(out, buffer.format(messages).as_bytes())?;
-    put(out, b"\n")
 }
 
 /// Whether a read has its choice.

@@ -2,7 +2,7 @@
 
 ghost use Rattle.std.specs.Prelude.{◌≡◌, ◌≤◌, ◌++◌, ℕ, List, [], false, Err, IfOk, Ok, OnOk};
 ghost use Rattle.premise_watch.specs.Parties.{AreCounted};
-ghost use Rattle.schedule_text.specs.Limits.{most_lines};
+ghost use Rattle.line_fields.specs.Limits.{most_lines};
 ghost use Rattle.schedule_replay.specs.Kits.{kit_of};
 ghost use Rattle.schedule_replay.specs.Lines as lines;
 ghost use Rattle.schedule_replay.specs.Roads.{Carries, Road, Uses, road_with};
@@ -11,19 +11,21 @@ ghost use Rattle.schedule_replay.specs.Stages as stages;
 ghost use Rattle.schedule_replay.specs.Stages.{AreParties, Stage};
 ghost use Rattle.schedule_replay.specs.Replays.{first_replay};
 
-use crate::fault::ReplayFault;
 use crate::replay::{Opening, Replay};
 use basil_types::cluster::Cluster;
 use basil_types::links::Links;
 use basil_types::memory::NoMemory;
 use basil_types::party::Party;
 use keyring_lms::has_party;
+use line_fields::keys_kind::KeysKind;
+use line_fields::limits::LONGEST_LINE;
+use line_fields::reason::Reason;
 use premise_watch::faulty::Faulty;
 use replay_kit::KitKind;
+use report_lines::fault::ReplayFault;
 use schedule_text::laws::grammar_is_read;
-use schedule_text::line::{KeysKind, Line, LineFault};
-use schedule_text::reading::{LONGEST_LINE, is_header, is_skipped, read_line};
-use schedule_text::reason::Reason;
+use schedule_text::line::{Line, LineFault};
+use schedule_text::reading::{is_header, is_skipped, read_line};
 use std::alloc::Global;
 
 /// What a header opens, and the faulty parties that lines have named since: of the cluster, at most f replicas of each

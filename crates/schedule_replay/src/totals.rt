@@ -6,10 +6,10 @@ ghost use Rattle.schedule_replay.specs.Shown.{Stands};
 ghost use Rattle.schedule_replay.specs.Totals as defined;
 
 use crate::course::Course;
-use crate::report::{put, put_end};
 use basil_types::memory::NoMemory;
 use basil_types::party::Decision;
 use itoa::Buffer;
+use report_lines::lines::{put, put_end};
 
 /// Whether two fates are the same.
 fn is_same_fate(fate: Option<Decision>, other: Option<Decision>) -> bool

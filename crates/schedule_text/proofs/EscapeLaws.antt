@@ -8,8 +8,8 @@ use Rattle.std.specs.List.{list_all}
 use Rattle.hex.specs.Hex.{IsBytes, lower_digits, encode_lower, encode_with}
 use Rattle.hex.proofs.HexLemmas.{decode_of-encode_lower, length-encode_with}
 use Rattle.basil_types.specs.Limits.{frame_limit}
-use Rattle.schedule_text.specs.Tokens.{Token}
-use Rattle.schedule_text.specs.Fields.{is_plain, is_lower_hex, escape, onto, unescaped, text, value, hex, frame}
+use Rattle.line_fields.specs.Tokens.{Token}
+use Rattle.line_fields.specs.Fields.{is_plain, is_lower_hex, escape, onto, unescaped, text, value, hex, frame}
 use Rattle.schedule_text.specs.Spelling.{spelled_byte, key_token, value_token}
 use Rattle.schedule_text.specs.Fitting.{HasBytes}
 use Rattle.schedule_text.proofs.TokenLaws.{clean, is_other}

@@ -11,11 +11,11 @@ use Rattle.hex.specs.Hex.{pair_value, value_at, hex_digit_value, digit_or_error,
 use Rattle.hex.specs.declared.error.FromHexError.{FromHexError}
 use Rattle.hex.proofs.HexLemmas.{decode_of-ok, decode_of-even}
 use Rattle.basil_types.specs.Limits.{frame_limit}
-use Rattle.schedule_text.specs.declared.complaint.Complaint.{Complaint}
-use Rattle.schedule_text.specs.declared.complaint.Complaint.TheVariants.{Misspelt, OutOfSize}
-use Rattle.schedule_text.specs.Tokens.{Token}
-use Rattle.schedule_text.specs.Fields.{is_plain, is_digit, is_lower_hex, hex_digit, pair_of_digits, unless_plain}
-use Rattle.schedule_text.specs.Fields.{escape, onto, unescaped, sized, text, value, spelt, hex, sized_frame, frame}
+use Rattle.line_fields.specs.declared.complaint.Complaint.{Complaint}
+use Rattle.line_fields.specs.declared.complaint.Complaint.TheVariants.{Misspelt, OutOfSize}
+use Rattle.line_fields.specs.Tokens.{Token}
+use Rattle.line_fields.specs.Fields.{is_plain, is_digit, is_lower_hex, hex_digit, pair_of_digits, unless_plain}
+use Rattle.line_fields.specs.Fields.{escape, onto, unescaped, sized, text, value, spelt, hex, sized_frame, frame}
 use Rattle.schedule_text.specs.Spelling.{spelled_byte, key_token, value_token}
 use Rattle.schedule_text.specs.Fitting.{HasBytes}
 use Rattle.schedule_text.proofs.TokenLaws.{and-left, and-right}

@@ -12,15 +12,15 @@ use Rattle.hex.specs.Hex.{lower_digits}
 use Rattle.basil_types.specs.Limits.{IsU64}
 use Rattle.basil_types.specs.declared.party.Decision.{Decision}
 use Rattle.basil_types.specs.declared.party.Decision.TheVariants.{Commit, Abort}
-use Rattle.schedule_text.specs.declared.line.KeysKind.{KeysKind}
-use Rattle.schedule_text.specs.declared.line.KeysKind.TheVariants.{Plain, W4H5, W4H10, W8H5, W8H10, Batch}
-use Rattle.schedule_text.specs.Tokens.{Token}
-use Rattle.schedule_text.specs.Fields.{number, number_in, is_digit, is_canonical, views, is_lower}
-use Rattle.schedule_text.specs.Fields.{is_name_byte, name, writer, decision, is_lower_hex, hex_digit, keys_kind}
-use Rattle.schedule_text.specs.Parties.{place}
+use Rattle.line_fields.specs.declared.keys_kind.KeysKind.{KeysKind}
+use Rattle.line_fields.specs.declared.keys_kind.KeysKind.TheVariants.{Plain, W4H5, W4H10, W8H5, W8H10, Batch}
+use Rattle.line_fields.specs.Tokens.{Token}
+use Rattle.line_fields.specs.Fields.{number, number_in, is_digit, is_canonical, views, is_lower}
+use Rattle.line_fields.specs.Fields.{is_name_byte, name, writer, decision, is_lower_hex, hex_digit, keys_kind}
+use Rattle.line_fields.specs.Parties.{place}
 use Rattle.schedule_text.specs.Spelling.{keys_token, decision_token, writer_token}
 use Rattle.schedule_text.specs.Fitting.{IsName, IsWriter, IsPlace, IsClient}
-use Rattle.schedule_text.proofs.Digits.{own}
+use Rattle.line_fields.proofs.Digits.{own}
 use Rattle.schedule_text.proofs.TokenLaws.{and-left, and-right, all-weaker, clean, is_other}
 
 -- ---- tests

@@ -16,18 +16,18 @@ use Rattle.basil_types.specs.declared.party.Party.{Party}
 use Rattle.basil_types.specs.declared.party.Party.TheVariants.{Replica, Client}
 use Rattle.basil_types.specs.declared.party.Decision.{Decision}
 use Rattle.basil_types.specs.declared.party.Decision.TheVariants.{Commit, Abort}
-use Rattle.schedule_text.specs.declared.complaint.Complaint.{Complaint}
-use Rattle.schedule_text.specs.declared.complaint.Complaint.TheVariants.{Misspelt, OutOfRange}
-use Rattle.schedule_text.specs.declared.line.KeysKind.{KeysKind}
-use Rattle.schedule_text.specs.declared.line.KeysKind.TheVariants.{Plain, W4H5, W4H10, W8H5, W8H10, Batch}
-use Rattle.schedule_text.specs.Tokens.{Token}
-use Rattle.schedule_text.specs.Complaints.{both, made, made2}
-use Rattle.schedule_text.specs.Fields.{number, number_in, in_range, is_digit, is_canonical, views, in_order, is_name}
-use Rattle.schedule_text.specs.Fields.{name, writer, decision, literal, keys_kind, behind, labelled, where_named}
-use Rattle.schedule_text.specs.Parties.{party, replica_party, client_party, only_party, place, whole, if_ended}
+use Rattle.line_fields.specs.declared.complaint.Complaint.{Complaint}
+use Rattle.line_fields.specs.declared.complaint.Complaint.TheVariants.{Misspelt, OutOfRange}
+use Rattle.line_fields.specs.declared.keys_kind.KeysKind.{KeysKind}
+use Rattle.line_fields.specs.declared.keys_kind.KeysKind.TheVariants.{Plain, W4H5, W4H10, W8H5, W8H10, Batch}
+use Rattle.line_fields.specs.Tokens.{Token}
+use Rattle.line_fields.specs.Complaints.{both, made, made2}
+use Rattle.line_fields.specs.Fields.{number, number_in, in_range, is_digit, is_canonical, views, in_order, is_name}
+use Rattle.line_fields.specs.Fields.{name, writer, decision, literal, keys_kind, behind, labelled, where_named}
+use Rattle.line_fields.specs.Parties.{party, replica_party, client_party, only_party, place, whole, if_ended}
 use Rattle.schedule_text.specs.Spelling.{keys_token, decision_token, writer_token, party_tokens}
 use Rattle.schedule_text.specs.Fitting.{IsName, IsWriter, IsPlace, IsClient, IsParty}
-use Rattle.schedule_text.proofs.Digits.{own, AreDigits}
+use Rattle.line_fields.proofs.Digits.{own, AreDigits}
 use Rattle.schedule_text.proofs.TokenLaws.{and-left, and-right}
 use Rattle.schedule_text.proofs.ResultTakes.{ok-is, some-is, if-ok, made-takes, both-takes}
 

@@ -3,12 +3,12 @@ use Rattle.std.proofs.Common.{◌≡◌, ℕ, ◌+◌, ◌*◌, List, ◌∷◌,
 use Rattle.std.specs.Fmt.{decimal}
 use Rattle.basil_types.specs.Limits.{IsU64}
 use Rattle.basil_types.specs.Setting.{Setting, IsSetting}
-use Rattle.schedule_text.specs.declared.line.KeysKind.{KeysKind}
-use Rattle.schedule_text.specs.declared.line.KeysKind.TheVariants.{Plain, W4H5, W4H10, W8H5, W8H10, Batch}
+use Rattle.line_fields.specs.declared.keys_kind.KeysKind.{KeysKind}
+use Rattle.line_fields.specs.declared.keys_kind.KeysKind.TheVariants.{Plain, W4H5, W4H10, W8H5, W8H10, Batch}
 use Rattle.schedule_text.specs.declared.line.Line.TheVariants.{Header}
-use Rattle.schedule_text.specs.Tokens.{Token, one_of, two_of, three_of, four_of, five_of, six_of, seven_of, eight_of}
-use Rattle.schedule_text.specs.Complaints.{all3, all4}
-use Rattle.schedule_text.specs.Fields.{behind, literal, number, keys_kind, labelled}
+use Rattle.line_fields.specs.Tokens.{Token, one_of, two_of, three_of, four_of, five_of, six_of, seven_of, eight_of}
+use Rattle.line_fields.specs.Complaints.{all3, all4}
+use Rattle.line_fields.specs.Fields.{behind, literal, number, keys_kind, labelled}
 use Rattle.schedule_text.specs.Headers.{header, header_fields, journal_fields, cluster_numbers, cluster_of}
 use Rattle.schedule_text.specs.Kinds.{kind_of}
 use Rattle.schedule_text.specs.Lines.{line_of}

@@ -7,15 +7,15 @@ use Rattle.basil_types.specs.Limits.{IsU64}
 use Rattle.basil_types.specs.Setting.{Setting, IsSetting}
 use Rattle.basil_types.specs.declared.cluster.ClusterFault.{ClusterFault}
 use Rattle.basil_types.specs.declared.cluster.ClusterFault.TheVariants.{FOutOfRange, ShardsOutOfRange, ReadsOutOfRange}
-use Rattle.schedule_text.specs.declared.complaint.Complaint.{Complaint}
-use Rattle.schedule_text.specs.declared.line.KeysKind.{KeysKind}
+use Rattle.line_fields.specs.declared.complaint.Complaint.{Complaint}
+use Rattle.line_fields.specs.declared.keys_kind.KeysKind.{KeysKind}
 use Rattle.schedule_text.specs.declared.line.Line.{Line}
 use Rattle.schedule_text.specs.declared.line.Line.TheVariants.{Header}
 use Rattle.schedule_text.specs.declared.kinds.header.ClusterNumbers.{ClusterNumbers}
 use Rattle.schedule_text.specs.declared.kinds.header.HeaderFields.{HeaderFields}
-use Rattle.schedule_text.specs.Tokens.{Token, seven_of, eight_of}
-use Rattle.schedule_text.specs.Complaints.{both, all4}
-use Rattle.schedule_text.specs.Fields.{literal, number, keys_kind, labelled}
+use Rattle.line_fields.specs.Tokens.{Token, seven_of, eight_of}
+use Rattle.line_fields.specs.Complaints.{both, all4}
+use Rattle.line_fields.specs.Fields.{literal, number, keys_kind, labelled}
 use Rattle.schedule_text.specs.Headers.{header, header_fields, journal_fields, cluster_numbers}
 use Rattle.schedule_text.specs.Headers.{cluster_of, accepted, with_cluster, seven_fields, eight_fields}
 use Rattle.schedule_text.specs.Spelling.{line_tokens, keys_token, journal_tokens}

@@ -9,8 +9,8 @@ use Rattle.basil_types.specs.declared.party.Decision.TheVariants.{Commit, Abort}
 use Rattle.schedule_text.specs.declared.line.Line.TheVariants.{Faulty, Begin, Read, Write, Delete, Claim, Prepare}
 use Rattle.schedule_text.specs.declared.line.Line.TheVariants.{Settle, Recover, Invoke, Round, Deliver, Lose, Divert}
 use Rattle.schedule_text.specs.declared.line.Line.TheVariants.{Clock, Vote, Second, Logged, Elect, Decide, Raw, Show, Stop}
-use Rattle.schedule_text.specs.Tokens.{one_of, two_of, three_of, four_of, five_of, six_of, seven_of}
-use Rattle.schedule_text.specs.Complaints.{all3, all4, all5}
+use Rattle.line_fields.specs.Tokens.{one_of, two_of, three_of, four_of, five_of, six_of, seven_of}
+use Rattle.line_fields.specs.Complaints.{all3, all4, all5}
 use Rattle.schedule_text.specs.Kinds.{kind_of, message_kind_of}
 use Rattle.schedule_text.specs.Lines.{line_of, begin, read, write_of, delete, claim, prepare, call, settle, recover, invoke, round}
 use Rattle.schedule_text.specs.Lines.{deliver, lose, divert, faulty, clock, vote, second, logged, elect, decide, raw, show, stop}

@@ -4,15 +4,15 @@ use Rattle.std.specs.Fmt.{decimal}
 use Rattle.hex.specs.Hex.{encode_lower}
 use Rattle.basil_types.specs.declared.party.Party.{Party}
 use Rattle.basil_types.specs.declared.party.Decision.{Decision}
-use Rattle.schedule_text.specs.declared.complaint.Complaint.{Complaint}
+use Rattle.line_fields.specs.declared.complaint.Complaint.{Complaint}
 use Rattle.schedule_text.specs.declared.line.Line.{Line}
 use Rattle.schedule_text.specs.declared.line.Line.TheVariants.{Faulty, Begin, Read, Write, Delete, Claim, Prepare}
 use Rattle.schedule_text.specs.declared.line.Line.TheVariants.{Settle, Recover, Invoke, Round, Deliver, Lose, Divert}
 use Rattle.schedule_text.specs.declared.line.Line.TheVariants.{Clock, Vote, Second, Logged, Elect, Decide, Raw, Show, Stop}
-use Rattle.schedule_text.specs.Tokens.{Token, one_of, two_of, three_of, five_of, six_of, seven_of}
-use Rattle.schedule_text.specs.Complaints.{both, made, made2, made3, made4, made5, all3, all4, all5}
-use Rattle.schedule_text.specs.Fields.{name, key, value, writer, client, replica, number, decision, views, view, frame, hex, write}
-use Rattle.schedule_text.specs.Parties.{party, only_party, place}
+use Rattle.line_fields.specs.Tokens.{Token, one_of, two_of, three_of, five_of, six_of, seven_of}
+use Rattle.line_fields.specs.Complaints.{both, made, made2, made3, made4, made5, all3, all4, all5}
+use Rattle.line_fields.specs.Fields.{name, key, value, writer, client, replica, number, decision, views, view, frame, hex, write}
+use Rattle.line_fields.specs.Parties.{party, only_party, place}
 use Rattle.schedule_text.specs.Lines.{fields, begin, read, write_of, delete, claim, prepare, call, settle, recover, invoke, round}
 use Rattle.schedule_text.specs.Lines.{deliver, lose, divert, faulty, clock, vote, second, logged, elect, decide, raw, show, stop}
 use Rattle.schedule_text.specs.Spelling.{line_tokens, party_tokens}

@@ -1,6 +1,3 @@
-pub mod Cutting
-pub mod Digits
-pub mod Unescaping
 pub mod Joining
 pub mod TokenLaws
 pub mod FieldLaws
@@ -15,4 +12,3 @@ pub mod EscapeTakes
 pub mod KindTakes
 pub mod HeaderTakes
 pub mod LineTakes
-pub mod LineCuts

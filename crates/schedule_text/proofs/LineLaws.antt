@@ -9,8 +9,8 @@ use Rattle.schedule_text.specs.declared.line.Line.{Line}
 use Rattle.schedule_text.specs.declared.line.Line.TheVariants.{Header, Skipped, Faulty, Begin, Read, Write, Delete, Claim}
 use Rattle.schedule_text.specs.declared.line.Line.TheVariants.{Prepare, Settle, Recover, Invoke, Round, Deliver, Lose, Divert}
 use Rattle.schedule_text.specs.declared.line.Line.TheVariants.{Clock, Vote, Second, Logged, Elect, Decide, Raw, Show, Stop}
-use Rattle.schedule_text.specs.Tokens.{Token, tokens}
-use Rattle.schedule_text.specs.Limits.{longest_line, most_lines}
+use Rattle.line_fields.specs.Tokens.{Token, tokens}
+use Rattle.line_fields.specs.Limits.{longest_line, most_lines}
 use Rattle.schedule_text.specs.Reading.{said, line_value, line_at}
 use Rattle.schedule_text.specs.Spelling.{line_tokens, spelling, key_token, value_token, writer_token, party_tokens, decision_token}
 use Rattle.schedule_text.specs.Fitting.{Fits, SpellingIsRead}

@@ -5,22 +5,22 @@ use Rattle.std.specs.Prelude.{bytes_eq, nat_le, nat_lt, ◌≢◌}
 use Rattle.std.proofs.lemmas.Grind.{common_steps}
 use Rattle.std.specs.List.{join_with_byte}
 use Rattle.std.proofs.lemmas.List.Splits.{join_with_byte-slice_split}
-use Rattle.schedule_text.specs.declared.complaint.Complaint.{Complaint}
-use Rattle.schedule_text.specs.declared.complaint.Complaint.TheVariants.{OutOfSize}
+use Rattle.line_fields.specs.declared.complaint.Complaint.{Complaint}
+use Rattle.line_fields.specs.declared.complaint.Complaint.TheVariants.{OutOfSize}
 use Rattle.schedule_text.specs.declared.line.Line.{Line}
 use Rattle.schedule_text.specs.declared.line.Line.TheVariants.{Skipped}
 use Rattle.schedule_text.specs.declared.kinds.Kind.{Kind}
 use Rattle.schedule_text.specs.declared.kinds.Kind.TheVariants as kind
-use Rattle.schedule_text.specs.Tokens.{Token, tokens}
+use Rattle.line_fields.specs.Tokens.{Token, tokens}
 use Rattle.schedule_text.specs.Kinds.{kind_of, message_kind_of}
-use Rattle.schedule_text.specs.Fields.{number}
+use Rattle.line_fields.specs.Fields.{number}
 use Rattle.schedule_text.specs.Lines.{line_of}
 use Rattle.schedule_text.specs.Spelling.{spelling, line_tokens}
 use Rattle.schedule_text.specs.declared.line.LineFault.{LineFault}
 use Rattle.schedule_text.specs.declared.line.LineFault.TheVariants.{BadLine}
-use Rattle.schedule_text.specs.declared.reason.Reason.TheVariants as reasons
-use Rattle.schedule_text.specs.Limits.{longest_line, most_lines}
-use Rattle.schedule_text.specs.Reading.{said, of_kind, is_skipped, line_value, line_at, answered, numbered}
+use Rattle.line_fields.specs.declared.reason.Reason.TheVariants as reasons
+use Rattle.line_fields.specs.Limits.{longest_line, most_lines, numbered}
+use Rattle.schedule_text.specs.Reading.{said, of_kind, is_skipped, line_value, line_at, answered}
 use Rattle.schedule_text.specs.Fitting.{Says, GrammarIsRead, OneValue}
 use Rattle.schedule_text.proofs.ResultTakes.{ok-is, some-is}
 use Rattle.schedule_text.proofs.FieldTakes.{text-is, le-of}

@@ -2,8 +2,8 @@
 use Rattle.std.proofs.Common.{◌≡◌, List, ◌++◌, true, refl, arith, Ok, Some}
 use Rattle.basil_types.specs.declared.party.Party.{Party}
 use Rattle.basil_types.specs.declared.party.Party.TheVariants.{Replica, Client}
-use Rattle.schedule_text.specs.Tokens.{Token}
-use Rattle.schedule_text.specs.Parties.{party, only_party}
+use Rattle.line_fields.specs.Tokens.{Token}
+use Rattle.line_fields.specs.Parties.{party, only_party}
 use Rattle.schedule_text.specs.Spelling.{party_tokens}
 use Rattle.schedule_text.specs.Fitting.{IsParty}
 use Rattle.schedule_text.proofs.TokenLaws.{all_clean, clean-decimal}

@@ -1,9 +1,9 @@
 -- Where something is read, each of its parts is.
 use Rattle.std.proofs.Common.{◌≡◌, List, [], ◌∷◌, Bool, true, false, refl, ap, ◌∙◌, Result, Ok, Err, Option, Some, None, if◌then◌else◌}
 use Rattle.std.specs.Prelude.{option_map}
-use Rattle.schedule_text.specs.declared.complaint.Complaint.{Complaint}
-use Rattle.schedule_text.specs.Tokens.{Token, one_of, two_of, three_of, four_of, five_of, six_of, seven_of, eight_of}
-use Rattle.schedule_text.specs.Complaints.{both, made, all3, all4, all5}
+use Rattle.line_fields.specs.declared.complaint.Complaint.{Complaint}
+use Rattle.line_fields.specs.Tokens.{Token, one_of, two_of, three_of, four_of, five_of, six_of, seven_of, eight_of}
+use Rattle.line_fields.specs.Complaints.{both, made, all3, all4, all5}
 use Rattle.schedule_text.specs.Lines.{fields}
 
 pub ok-is : {A : Type 0} (a b : A) → ◌≡◌ {A = Result A Complaint} (Ok a) (Ok b) → a ≡ b

@@ -6,9 +6,9 @@ use Rattle.std.proofs.lemmas.List.Sums.{AllPass-from_list_all}
 use Rattle.std.specs.List.{All, list_all, join_with_byte}
 use Rattle.std.specs.Fmt.{decimal}
 use Rattle.std.proofs.lemmas.Fmt.{digits_decimal}
-use Rattle.schedule_text.specs.Tokens.{tokens}
-use Rattle.schedule_text.specs.Fields.{is_digit}
-use Rattle.schedule_text.proofs.Digits.{own}
+use Rattle.line_fields.specs.Tokens.{tokens}
+use Rattle.line_fields.specs.Fields.{is_digit}
+use Rattle.line_fields.proofs.Digits.{own}
 
 abbrev pub is_other : ℕ → Bool
 is_other b = not (eqb b 32)

@@ -10,8 +10,8 @@ use Rattle.schedule_text.specs.declared.line.Line.TheVariants.{Header, Skipped, 
 use Rattle.schedule_text.specs.declared.line.Line.TheVariants.{Delete, Claim, Prepare, Settle, Recover, Invoke}
 use Rattle.schedule_text.specs.declared.line.Line.TheVariants.{Round, Deliver, Lose, Divert, Clock, Vote}
 use Rattle.schedule_text.specs.declared.line.Line.TheVariants.{Second, Logged, Elect, Decide, Raw, Show, Stop}
-use Rattle.schedule_text.specs.Fields.{is_name}
-use Rattle.schedule_text.specs.Limits.{longest_line, most_lines}
+use Rattle.line_fields.specs.Fields.{is_name}
+use Rattle.line_fields.specs.Limits.{longest_line, most_lines}
 use Rattle.schedule_text.specs.Reading.{is_skipped, line_at}
 use Rattle.schedule_text.specs.Spelling.{spelling}
 

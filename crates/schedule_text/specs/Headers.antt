@@ -7,11 +7,11 @@ use Rattle.schedule_text.specs.declared.line.Line.{Line}
 use Rattle.schedule_text.specs.declared.line.Line.TheVariants.{Header}
 use Rattle.schedule_text.specs.declared.kinds.header.ClusterNumbers.{ClusterNumbers}
 use Rattle.schedule_text.specs.declared.kinds.header.HeaderFields.{HeaderFields}
-use Rattle.schedule_text.specs.declared.complaint.Complaint.{Complaint}
-use Rattle.schedule_text.specs.declared.complaint.Complaint.TheVariants.{Refused, Misspelt}
-use Rattle.schedule_text.specs.Tokens.{Token, seven_of, eight_of}
-use Rattle.schedule_text.specs.Complaints.{made, made2, made4}
-use Rattle.schedule_text.specs.Fields.{labelled, literal, number, keys_kind}
+use Rattle.line_fields.specs.declared.complaint.Complaint.{Complaint}
+use Rattle.line_fields.specs.declared.complaint.Complaint.TheVariants.{Refused, Misspelt}
+use Rattle.line_fields.specs.Tokens.{Token, seven_of, eight_of}
+use Rattle.line_fields.specs.Complaints.{made, made2, made4}
+use Rattle.line_fields.specs.Fields.{labelled, literal, number, keys_kind}
 
 unfoldable pub cluster_numbers : Token → Token → Token → Token → Result ClusterNumbers Complaint
 cluster_numbers f shards reads delta =

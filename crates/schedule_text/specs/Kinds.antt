@@ -5,7 +5,7 @@ use Rattle.schedule_text.specs.declared.kinds.Kind.TheVariants.{Basil, Faulty, B
 use Rattle.schedule_text.specs.declared.kinds.Kind.TheVariants.{Claim, Prepare, Settle, Recover, Invoke}
 use Rattle.schedule_text.specs.declared.kinds.Kind.TheVariants.{Round, Deliver, Lose, Divert, Clock, Vote}
 use Rattle.schedule_text.specs.declared.kinds.Kind.TheVariants.{Second, Logged, Elect, Decide, Raw, Show, Stop}
-use Rattle.schedule_text.specs.Tokens.{Token}
+use Rattle.line_fields.specs.Tokens.{Token}
 
 -- the kind that a first token names, of those that speak of messages or of faulty replicas
 unfoldable pub message_kind_of : Token → Option Kind

@@ -1,8 +1,3 @@
-pub mod Complaints
-pub mod Limits
-pub mod Tokens
-pub mod Fields
-pub mod Parties
 pub mod Headers
 pub mod Kinds
 pub mod Lines
@@ -10,5 +5,3 @@ pub mod Reading
 pub mod Spelling
 pub mod Fitting
 pub mod Pieces
-pub mod TextLines
-pub mod Refusals

@@ -7,13 +7,13 @@ use Rattle.schedule_text.specs.declared.line.Line.TheVariants.{Deliver, Lose, Di
 use Rattle.schedule_text.specs.declared.line.Line.TheVariants.{Logged, Elect, Decide, Raw, Show, Stop}
 use Rattle.schedule_text.specs.declared.kinds.Kind.{Kind}
 use Rattle.schedule_text.specs.declared.kinds.Kind.TheVariants as kind
-use Rattle.schedule_text.specs.declared.complaint.Complaint.{Complaint}
-use Rattle.schedule_text.specs.declared.complaint.Complaint.TheVariants.{Misspelt}
-use Rattle.schedule_text.specs.Tokens.{Token, one_of, two_of, three_of, five_of, six_of, seven_of}
-use Rattle.schedule_text.specs.Complaints.{both, made, made2, made3, made4, made5}
-use Rattle.schedule_text.specs.Fields.{name, key, value, writer, client, replica}
-use Rattle.schedule_text.specs.Fields.{number, decision, views, view, frame, hex, write}
-use Rattle.schedule_text.specs.Parties.{party, only_party, place}
+use Rattle.line_fields.specs.declared.complaint.Complaint.{Complaint}
+use Rattle.line_fields.specs.declared.complaint.Complaint.TheVariants.{Misspelt}
+use Rattle.line_fields.specs.Tokens.{Token, one_of, two_of, three_of, five_of, six_of, seven_of}
+use Rattle.line_fields.specs.Complaints.{both, made, made2, made3, made4, made5}
+use Rattle.line_fields.specs.Fields.{name, key, value, writer, client, replica}
+use Rattle.line_fields.specs.Fields.{number, decision, views, view, frame, hex, write}
+use Rattle.line_fields.specs.Parties.{party, only_party, place}
 use Rattle.schedule_text.specs.Headers.{header}
 
 -- fields of so many tokens; any other number of tokens is misspelt

@@ -6,7 +6,7 @@ use Rattle.schedule_text.specs.declared.writing.pieces.Piece.{Piece}
 use Rattle.schedule_text.specs.declared.writing.pieces.Piece.TheVariants.{Text, Name, Writer, Number}
 use Rattle.schedule_text.specs.declared.writing.pieces.Piece.TheVariants.{Small, Labelled, Keys, Journal}
 use Rattle.schedule_text.specs.declared.writing.pieces.Piece.TheVariants.{Named, Decided, Key, Value, Hex}
-use Rattle.schedule_text.specs.Tokens.{Token}
+use Rattle.line_fields.specs.Tokens.{Token}
 use Rattle.schedule_text.specs.Spelling.{keys_token, decision_token, key_token, value_token}
 use Rattle.schedule_text.specs.Spelling.{writer_token, party_tokens, journal_tokens}
 

@@ -1,18 +1,18 @@
 -- What a line of a schedule says, or the one reason why it says nothing.
 use Rattle.std.specs.Prelude.{ℕ, Bool, true, false, codes, bytes_eq, List, [], ◌∷◌, ◌==◌, length}
-use Rattle.std.specs.Prelude.{nat_lt, nat_le, if◌then◌else◌, Option, Some, None, Result, Ok, Err}
+use Rattle.std.specs.Prelude.{nat_lt, if◌then◌else◌, Option, Some, None, Result, Ok, Err}
 use Rattle.schedule_text.specs.declared.line.Line.{Line}
 use Rattle.schedule_text.specs.declared.line.Line.TheVariants.{Skipped}
 use Rattle.schedule_text.specs.declared.line.LineFault.{LineFault}
 use Rattle.schedule_text.specs.declared.line.LineFault.TheVariants.{BadLine}
 use Rattle.schedule_text.specs.declared.kinds.Kind.{Kind}
-use Rattle.schedule_text.specs.declared.complaint.Complaint.{Complaint}
-use Rattle.schedule_text.specs.declared.complaint.Complaint.TheVariants.{Misspelt, OutOfSize}
-use Rattle.schedule_text.specs.declared.reason.Reason.TheVariants as reasons
-use Rattle.schedule_text.specs.Complaints.{reason_of}
-use Rattle.schedule_text.specs.Tokens.{Token, tokens}
+use Rattle.line_fields.specs.declared.complaint.Complaint.{Complaint}
+use Rattle.line_fields.specs.declared.complaint.Complaint.TheVariants.{Misspelt}
+use Rattle.line_fields.specs.declared.reason.Reason.TheVariants as reasons
+use Rattle.line_fields.specs.Complaints.{reason_of}
+use Rattle.line_fields.specs.Tokens.{Token, tokens}
 use Rattle.schedule_text.specs.Kinds.{kind_of}
-use Rattle.schedule_text.specs.Limits.{longest_line, most_lines}
+use Rattle.line_fields.specs.Limits.{longest_line, numbered}
 use Rattle.schedule_text.specs.Lines.{line_of}
 
 abbrev pub of_kind : Option Kind → List Token → Result Line Complaint
@@ -32,11 +32,6 @@ is_skipped (b ∷ rest) = b == 35
 -- a skipped line is so whatever follows
 unfoldable pub line_value : List ℕ → Result Line Complaint
 line_value line = if is_skipped line then Ok Skipped else said (tokens line)
-
--- no line stands behind the millionth
-abbrev pub numbered : {A : Type 0} → ℕ → Result A Complaint → Result A Complaint
-numbered number (Ok line) = if nat_le number most_lines then Ok line else Err OutOfSize
-numbered number (Err c) = Err c
 
 abbrev pub answered : ℕ → Result Line Complaint → Result Line LineFault
 answered number (Ok line) = Ok line

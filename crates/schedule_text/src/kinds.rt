@@ -8,7 +8,7 @@ pub mod header;
 pub mod messages;
 pub mod replicas;
 
-use crate::fields::spellings::is_text;
+use line_fields::fields::spellings::is_text;
 
 /// The kinds of lines, by their first tokens.
 #[derive(Clone, Copy, PartialEq, Eq)]

@@ -1,26 +1,10 @@
 //! The lines of a schedule.
 
-use crate::reason::Reason;
 use basil_types::bytes::Bytes;
 use basil_types::cluster::Cluster;
 use basil_types::party::{Decision, Party};
-
-/// How the parties of a run sign.
-#[derive(Clone, Copy, PartialEq, Eq)]
-pub enum KeysKind {
-    /// `plain`: no signing at all.
-    Plain,
-    /// `w4h5`: LMS with Winternitz width 4 and height 5 (RFC 8554).
-    W4H5,
-    /// `w4h10`: LMS with Winternitz width 4 and height 10.
-    W4H10,
-    /// `w8h5`: LMS with Winternitz width 8 and height 5.
-    W8H5,
-    /// `w8h10`: LMS with Winternitz width 8 and height 10.
-    W8H10,
-    /// `batch`: batches of one over plain keys.
-    Batch,
-}
+use line_fields::keys_kind::KeysKind;
+use line_fields::reason::Reason;
 
 /// What one line of a schedule says. Names are a lower-case letter and up to 15 lower-case letters or digits, keys
 /// have 1 to 64 bytes, values up to 256 and frames up to `FRAME_LIMIT`. A shard is 0 to 7, a replica's index 0 to 30

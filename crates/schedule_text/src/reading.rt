@@ -1,14 +1,11 @@
 //! Reading a line.
 
-ghost use Rattle.std.specs.Prelude.{◌≡◌, ◌≢◌, IfOk, IfErr, length, nat_lt, option_copied, bytes_eq, codes};
-ghost use Rattle.schedule_text.specs.Tokens.{tokens, tokens_after};
+ghost use Rattle.std.specs.Prelude.{◌≡◌, ◌≢◌, IfOk, IfErr, option_copied, bytes_eq, codes};
+ghost use Rattle.line_fields.specs.Tokens.{tokens, tokens_after};
 ghost use Rattle.schedule_text.specs.Lines.{line_of};
-ghost use Rattle.schedule_text.specs.Limits.{longest_line};
 ghost use Rattle.schedule_text.specs.Reading;
-ghost use Rattle.schedule_text.specs.Reading.{line_at, line_value, said, numbered};
+ghost use Rattle.schedule_text.specs.Reading.{line_at, line_value, said};
 
-use crate::complaint::Complaint;
-use crate::fields::spellings::is_text;
 use crate::kinds::clients::{
     read_begin, read_claim, read_delete, read_invoke, read_prepare, read_read, read_recover,
     read_settle, read_write,
@@ -22,15 +19,12 @@ use crate::kinds::replicas::{
 };
 use crate::kinds::{Kind, kind_of};
 use crate::line::{Line, LineFault};
-use crate::tokens::cut;
 use basil_types::memory::NoMemory;
+use line_fields::complaint::Complaint;
+use line_fields::fields::spellings::is_text;
+use line_fields::limits::{is_too_long, read_numbered};
+use line_fields::tokens::cut;
 use std::alloc::Global;
-
-/// The most bytes of a line.
-pub const LONGEST_LINE: usize = 2_200_000;
-
-/// The most lines of a schedule.
-pub const MOST_LINES: u64 = 1_000_000;
 
 #[tactic(auto, unfolding(crate::specs::Lines::line_of))]
 /// What the tokens behind the first one say.
@@ -100,24 +94,6 @@ fn read_value(alloc: Global, line: &[u8]) -> Result<Result<Line, Complaint>, NoM
         return Ok(Ok(Line::Skipped));
     }
     read_tokens(alloc, line)
-}
-
-/// The value of a line with this number, unless it stands behind the millionth.
-pub fn read_numbered<T: Drop>(value: Result<T, Complaint>, number: u64) -> Result<T, Complaint>
-    ensures { result ≡ numbered number value }
-{
-    let line = value?;
-    if number > MOST_LINES {
-        return Err(Complaint::OutOfSize);
-    }
-    Ok(line)
-}
-
-/// Whether a line is longer than any line of a schedule.
-fn is_too_long(line: &[u8]) -> bool
-    ensures { result ≡ nat_lt longest_line (length line.now) }
-{
-    line.len() > LONGEST_LINE
 }
 
 #[tactic(auto, unfolding(crate::specs::Reading::line_at))]

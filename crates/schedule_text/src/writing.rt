@@ -7,13 +7,14 @@ ghost use Rattle.schedule_text.specs.Pieces.{piece_tokens, spaced};
 
 mod pieces;
 
-use crate::line::{KeysKind, Line};
+use crate::line::Line;
 use crate::writing::pieces::Piece::{
     Decided, Hex, Journal, Key, Keys, Labelled, Name, Named, Number, Small, Text, Value, Writer,
 };
 use crate::writing::pieces::{Piece, push_escaped, push_piece};
 use basil_types::cluster::Cluster;
 use basil_types::memory::NoMemory;
+use line_fields::keys_kind::KeysKind;
 use std::alloc::Global;
 
 /// Appends these pieces, each token behind a space.

@@ -3,7 +3,7 @@
 use crate::frames::{CLIENT_SEED, FILE, FIRST, VOTE, WRITEBACK};
 use crate::support::{Answer, Given, Row, are_answered, run_given};
 use basil_cli::status::Status;
-use schedule_text::reason::Reason;
+use line_fields::reason::Reason;
 use std::alloc::Global;
 use std::test::Fail;
 

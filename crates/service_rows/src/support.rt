@@ -92,17 +92,42 @@ fn connections_of(alloc: Global, connections: &[Hex]) -> Result<Vec<Vec<u8>>, Fa
     Ok(all)
 }
 
-/// Runs arguments over what is owned here, which is let go in one place. The clock stands at 10, then at 11, and then
-/// at 0.
+/// A source of these bytes, in pieces of 100, of which these reads fail.
+fn source_of(alloc: Global, input: &[u8], failing: &[u64]) -> Result<MemSource, Fail> {
+    let input = Vec::from_slice(alloc, input)?;
+    let failing = Vec::from_slice(alloc, failing)?;
+    Ok(MemSource::new(input, 100, failing))
+}
+
+/// A sink of which these writes fail.
+fn sink_of(alloc: Global, failing: &[u64]) -> Result<MemSink, Fail> {
+    let failing = Vec::from_slice(alloc, failing)?;
+    Ok(MemSink::new(alloc, 5000, failing)?)
+}
+
+/// The links that are given.
+fn links_of(alloc: Global, given: &Given) -> Result<MemLinks, Fail> {
+    let connections = connections_of(alloc, given.connections)?;
+    let failing = Vec::from_slice(alloc, given.failing_links)?;
+    Ok(MemLinks::new(alloc, connections, Vec::new(alloc), failing))
+}
+
+/// What a call ended with, and copies of what it wrote.
+fn answer_of(alloc: Global, status: Status, text: &[u8], sent: &[u8]) -> Result<Answer, NoMemory> {
+    let text = Vec::from_slice(alloc, text)?;
+    let sent = Vec::from_slice(alloc, sent)?;
+    Ok(Answer { status, text, sent })
+}
+
+/// Runs arguments over what is owned here, which is let go in one place.
 fn run_owned(
     alloc: Global,
     arguments: &[String],
     mut source: MemSource,
     mut sink: MemSink,
     mut links: MemLinks,
-    moments: Vec<u64>,
+    mut clock: MemClock,
 ) -> Result<Answer, NoMemory> {
-    let mut clock = MemClock::new(moments);
     let status = run(
         alloc,
         arguments,
@@ -111,12 +136,10 @@ fn run_owned(
         &mut links,
         &mut clock,
     );
-    let text = Vec::from_slice(alloc, sink.bytes())?;
-    let sent = Vec::from_slice(alloc, links.written())?;
-    Ok(Answer { status, text, sent })
+    answer_of(alloc, status, sink.bytes(), links.written())
 }
 
-/// Runs arguments over an input and what the outside gives.
+/// Runs arguments over an input and what the outside gives. The clock stands at 10, then at 11, and then at 0.
 pub(crate) fn run_given(
     alloc: Global,
     arguments: &[&str],
@@ -124,16 +147,11 @@ pub(crate) fn run_given(
     given: &Given,
 ) -> Result<Answer, Fail> {
     let arguments = given_arguments(alloc, arguments)?;
-    let input = Vec::from_slice(alloc, input)?;
-    let connections = connections_of(alloc, given.connections)?;
-    let failing_reads = Vec::from_slice(alloc, given.failing_reads)?;
-    let failing_writes = Vec::from_slice(alloc, given.failing_writes)?;
-    let failing_links = Vec::from_slice(alloc, given.failing_links)?;
-    let moments = Vec::from_slice(alloc, &[10u64, 11])?;
-    let sink = MemSink::new(alloc, 5000, failing_writes)?;
-    let source = MemSource::new(input, 100, failing_reads);
-    let links = MemLinks::new(alloc, connections, Vec::new(alloc), failing_links);
-    Ok(run_owned(alloc, &arguments, source, sink, links, moments)?)
+    let clock = MemClock::new(Vec::from_slice(alloc, &[10u64, 11])?);
+    let source = source_of(alloc, input, given.failing_reads)?;
+    let sink = sink_of(alloc, given.failing_writes)?;
+    let links = links_of(alloc, given)?;
+    Ok(run_owned(alloc, &arguments, source, sink, links, clock)?)
 }
 
 /// What is written to links, in bytes.

@@ -1,6 +1,6 @@
 -- What `batch` and `unbatch` lead to.
 use Rattle.std.specs.Prelude.{◌≡◌, ℕ, List, [], ◌∷◌, ◌++◌, codes, decimal, Option, Result, Ok, Err}
-use Rattle.schedule_text.specs.Refusals.{Refusal}
+use Rattle.line_fields.specs.Refusals.{Refusal}
 use Rattle.basil_types.specs.Causes.{TookAll}
 use Rattle.batch_sign.specs.Signatures.{Sealing, leaves_of}
 use Rattle.batch_sign.specs.Trees.{words_over}

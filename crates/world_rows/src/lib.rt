@@ -8,6 +8,8 @@ mod carried;
 #[cfg(test)]
 mod limits;
 #[cfg(test)]
+mod replays;
+#[cfg(test)]
 mod stopped;
 #[cfg(test)]
 mod telling;

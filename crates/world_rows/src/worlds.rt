@@ -31,14 +31,15 @@ pub(crate) fn world_of<K: Kit + Drop>(
     f: u8,
     limits: Room,
     kit: K,
-) -> Result<World<K>, Fail> {
+) -> Result<Box<World<K>>, Fail> {
     let cluster = cluster_of(f)?;
     let beginning = Beginning {
         cluster,
         clock: 50,
         limits,
     };
-    Ok(World::new(alloc, beginning, Faulty::new(), kit)?)
+    let world = World::new(alloc, beginning, Faulty::new(), kit)?;
+    Ok(Box::new(alloc, world)?)
 }
 
 /// What an event comes to in a world that hasn't ended.

@@ -2,7 +2,7 @@
 
 use crate::whole::{Whole, are_carried, are_replayed};
 use basil_cli::status::Status;
-use schedule_text::reason::Reason;
+use line_fields::reason::Reason;
 use std::test::Fail;
 
 const ROWS: &[Whole] = &[

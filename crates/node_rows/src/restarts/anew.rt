@@ -5,7 +5,7 @@ use crate::restarts::frames::{
     ELECT_4, FIRST_A, FIRST_B, FIRST_D, FIRST_E, READ, REPLICA_0, REPLICA_1, REPLICA_2, REPLICA_3,
     REPLICA_4, REPLY_COMMITTED, REPLY_PREPARED, VOTE_A, VOTE_E, WRITEBACK_A, joined,
 };
-use crate::restarts::seats::{Kept, Plain, Seat, taken};
+use crate::restarts::seats::{Kept, Plain, Seat, disk_of, taken};
 use basil_types::outbox::Outbox;
 use basil_types::party::Party;
 use journal_disk::memory::MemDisk;
@@ -129,7 +129,7 @@ fn send_alone(
     frames: &[Frame],
     sent: &mut Vec<u8>,
 ) -> Result<(), Fail> {
-    let mut replica = seat.alone(alloc);
+    let mut replica = seat.alone(alloc)?;
     step_all(alloc, &mut replica, frames, sent)
 }
 
@@ -151,14 +151,14 @@ fn step_anew(
 ) -> Option<MemDisk> {
     let mut kept = taken(seat.open(alloc, disk.revive()))?;
     let goes_on = kept.records() == records && step_kept(alloc, &mut kept, frame, sent);
-    let disk = kept.into_disk();
+    let disk = disk_of(kept);
     if goes_on { Some(disk) } else { None }
 }
 
 /// Puts down what a replica sends that starts again before each frame.
 fn send_anew(alloc: Global, seat: &Seat, frames: &[Frame], sent: &mut Vec<u8>) -> Option<u64> {
     let kept = taken(seat.create(alloc, MemDisk::new(alloc)))?;
-    let mut disk = kept.into_disk();
+    let mut disk = disk_of(kept);
     let mut records = 0u64;
     for frame in frames {
         disk = step_anew(alloc, seat, disk, records, frame, sent)?;

@@ -70,7 +70,7 @@ fn leave_all(rt: &impl Abort, alloc: Global, kept: &mut Kept) -> Result<(), Fail
 }
 
 /// A replica whose disk fails at the third frame that it doesn't refuse.
-fn begun(alloc: Global, seat: &Seat) -> Option<Kept> {
+fn begun(alloc: Global, seat: &Seat) -> Option<Box<Kept>> {
     taken(seat.create(alloc, failing(alloc)?))
 }
 

@@ -1,7 +1,7 @@
 //! Frames that are refused, disks on which no journal begins, and journals that aren't opened.
 
 use crate::restarts::frames::{CLIENT_1, FIRST_A, VOTE_A, joined};
-use crate::restarts::seats::{Kept, Seat, disk_with, hand, taken};
+use crate::restarts::seats::{Kept, Opened, Seat, disk_of, disk_with, hand, taken};
 use crate::restarts::spelled::ONE_RECORD;
 use journal_disk::memory::MemDisk;
 use node_journal::JournalFault::{self, BadJournal};
@@ -75,9 +75,9 @@ fn a_refused_frame_is_not_written(rt: HostRuntime) -> Result<(), Fail> {
 }
 
 /// How many records there are, or the fault; and the disk.
-fn found(answer: Result<Kept, Refused<MemDisk>>) -> (Result<u64, JournalFault>, MemDisk) {
+fn found(answer: Opened) -> (Result<u64, JournalFault>, MemDisk) {
     match answer {
-        Ok(kept) => (Ok(kept.records()), kept.into_disk()),
+        Ok(kept) => (Ok(kept.records()), disk_of(kept)),
         Err(Refused { disk, fault }) => (Err(fault), disk),
     }
 }

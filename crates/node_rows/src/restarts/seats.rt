@@ -21,6 +21,9 @@ pub(crate) type Plain = Replica<PlainKeys, PlainPen>;
 /// A replica and its disk.
 pub(crate) type Kept = Journaled<PlainKeys, PlainPen, MemDisk>;
 
+/// A replica and its disk, or why it isn't there, and the disk.
+pub(crate) type Opened = Result<Box<Kept>, Refused<MemDisk>>;
+
 /// Which replica it is of the only shard of a cluster.
 #[derive(Clone, Copy)]
 pub(crate) struct Seat {
@@ -51,24 +54,27 @@ impl Seat {
     }
 
     /// The replica without a disk.
-    pub(crate) fn alone(&self, alloc: Global) -> Plain {
+    pub(crate) fn alone(&self, alloc: Global) -> Result<Box<Plain>, Fail> {
         let keys = PlainKeys::new(&self.cluster);
         let pen = PlainPen::new(self.party());
-        Replica::new(alloc, self.cluster, 0, self.index, keys, pen)
+        let replica = Replica::new(alloc, self.cluster, 0, self.index, keys, pen);
+        Ok(Box::new(alloc, replica)?)
     }
 
     /// The replica with a disk on which its journal begins.
-    pub(crate) fn create(&self, alloc: Global, disk: MemDisk) -> Result<Kept, Refused<MemDisk>> {
+    pub(crate) fn create(&self, alloc: Global, disk: MemDisk) -> Opened {
         let keys = PlainKeys::new(&self.cluster);
         let pen = PlainPen::new(self.party());
-        Journaled::create(alloc, disk, self.cluster, 0, self.index, keys, pen)
+        let answer = Journaled::create(alloc, disk, self.cluster, 0, self.index, keys, pen);
+        boxed(alloc, answer)
     }
 
     /// The replica that starts again from a disk.
-    pub(crate) fn open(&self, alloc: Global, disk: MemDisk) -> Result<Kept, Refused<MemDisk>> {
+    pub(crate) fn open(&self, alloc: Global, disk: MemDisk) -> Opened {
         let keys = PlainKeys::new(&self.cluster);
         let pen = PlainPen::new(self.party());
-        Journaled::open(alloc, disk, self.cluster, 0, self.index, keys, pen)
+        let answer = Journaled::open(alloc, disk, self.cluster, 0, self.index, keys, pen);
+        boxed(alloc, answer)
     }
 
     /// Has the replica start again where it is.
@@ -79,8 +85,24 @@ impl Seat {
     }
 }
 
+/// Keeps the replica apart.
+fn boxed(alloc: Global, answer: Result<Kept, Refused<MemDisk>>) -> Opened {
+    match Box::new(alloc, answer?) {
+        Ok(kept) => Ok(kept),
+        Err(wanting) => Err(Refused {
+            disk: wanting.value.into_disk(),
+            fault: JournalFault::NoMemory,
+        }),
+    }
+}
+
+/// The disk of a replica that is let go.
+pub(crate) fn disk_of(kept: Box<Kept>) -> MemDisk {
+    Box::into_inner(kept).into_disk()
+}
+
 /// The replica and its disk, if it isn't refused.
-pub(crate) fn taken(answer: Result<Kept, Refused<MemDisk>>) -> Option<Kept> {
+pub(crate) fn taken(answer: Opened) -> Option<Box<Kept>> {
     match answer {
         Ok(kept) => Some(kept),
         Err(Refused { disk, fault: _ }) => {

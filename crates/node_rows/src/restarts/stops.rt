@@ -1,7 +1,7 @@
 //! A disk that stops in a step, or of which a call fails, and what the replica knows when it starts again.
 
 use crate::restarts::frames::{CLIENT_1, CLIENT_2, FIRST_A, ID_A, READ, joined};
-use crate::restarts::seats::{Kept, Seat, hand, taken};
+use crate::restarts::seats::{Kept, Seat, disk_of, hand, taken};
 use basil_types::bytes::Bytes;
 use journal_disk::memory::MemDisk;
 use node_journal::StepFault;
@@ -109,7 +109,7 @@ fn begun(
 ) -> Option<MemDisk> {
     let mut kept = taken(seat.create(alloc, disk_for(alloc, happens)?))?;
     let begins = takes_reads(alloc, &mut kept, before, read);
-    let mut disk = kept.into_disk();
+    let mut disk = disk_of(kept);
     if begins && await_stop(alloc, &mut disk, happens) {
         Some(disk)
     } else {
@@ -127,7 +127,7 @@ fn stepped(
     let mut kept = taken(seat.open(alloc, disk))?;
     let first = hand(alloc, &mut kept, 50, CLIENT_1, frames.first);
     let next = hand(alloc, &mut kept, 51, CLIENT_2, frames.read);
-    Some((first, next, kept.into_disk()))
+    Some((first, next, disk_of(kept)))
 }
 
 /// The disk as the stop left it, if there was one.

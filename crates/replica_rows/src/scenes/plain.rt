@@ -122,7 +122,7 @@ const ROWS: &[Row] = &[
 type Plain = Replica<PlainKeys, PlainPen>;
 
 /// A row's replica; fails where the cluster has none.
-fn replica_of(alloc: Global, row: &Row) -> Result<Plain, Fail> {
+fn replica_of(alloc: Global, row: &Row) -> Result<Box<Plain>, Fail> {
     let (shard, index) = (row.shard, row.index);
     let cluster = Cluster::new(row.f, row.shards, row.f.saturating_add(1), 100)?;
     if shard >= cluster.shards || index >= cluster.n() {
@@ -130,7 +130,8 @@ fn replica_of(alloc: Global, row: &Row) -> Result<Plain, Fail> {
     }
     let keys = PlainKeys::new(&cluster);
     let pen = PlainPen::new(Party::Replica { shard, index });
-    Ok(Replica::new(alloc, cluster, shard, index, keys, pen))
+    let replica = Replica::new(alloc, cluster, shard, index, keys, pen);
+    Ok(Box::new(alloc, replica)?)
 }
 
 /// Hands the frame of a phrase to a replica, whose moment is 50; fails where it is refused.

@@ -52,7 +52,7 @@ struct Stage {
     shard: u8,
     cast: Vec<Role>,
     key: LmsKeys,
-    replica: Replica<PlainKeys, LmsPen>,
+    replica: Box<Replica<PlainKeys, LmsPen>>,
     out: Outbox,
     sent: Vec<u8>,
 }
@@ -63,7 +63,7 @@ fn replica_of(
     alloc: Global,
     cluster: Cluster,
     scene: &Scene,
-) -> Result<(Replica<PlainKeys, LmsPen>, LmsKeys), Fail> {
+) -> Result<(Box<Replica<PlainKeys, LmsPen>>, LmsKeys), Fail> {
     let (shard, index) = (scene.shard, scene.index);
     if shard >= cluster.shards || index >= cluster.n() || scene.leaf > 32 {
         return Err(Fail::new("no such replica"));
@@ -81,7 +81,7 @@ fn replica_of(
     let keys = PlainKeys::new(&cluster);
     let pen = LmsPen::new(party, key);
     let replica = Replica::new(alloc, cluster, shard, index, keys, pen);
-    Ok((replica, own))
+    Ok((Box::new(alloc, replica)?, own))
 }
 
 fn stage_of(alloc: Global, scene: &Scene) -> Result<Stage, Fail> {

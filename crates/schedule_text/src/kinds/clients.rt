@@ -1,18 +1,18 @@
 //! Lines of clients: transactions, and the calls on them.
 
 ghost use Rattle.std.specs.Prelude.{◌≡◌, IfOk, option_copied, List, ℕ};
-ghost use Rattle.schedule_text.specs.Tokens.{tokens_after};
+ghost use Rattle.line_fields.specs.Tokens.{tokens_after};
 ghost use Rattle.schedule_text.specs.Lines.{begin, read, write_of, delete, claim};
 ghost use Rattle.schedule_text.specs.Lines.{prepare, call, settle, recover, invoke};
 
-use crate::complaint::{Complaint, read_all3, read_both};
-use crate::fields::escapes::{read_key, read_value};
-use crate::fields::names::{read_name, read_writer};
-use crate::fields::numbers::{read_client, read_number};
 use crate::line::Line;
-use crate::tokens::{one, three, two};
 use basil_types::bytes::Bytes;
 use basil_types::memory::NoMemory;
+use line_fields::complaint::{Complaint, read_all3, read_both};
+use line_fields::fields::escapes::{read_key, read_value};
+use line_fields::fields::names::{read_name, read_writer};
+use line_fields::fields::numbers::{read_client, read_number};
+use line_fields::tokens::{one, three, two};
 use std::alloc::Global;
 
 #[tactic(auto, unfolding(crate::specs::Lines::begin))]

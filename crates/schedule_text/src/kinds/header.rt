@@ -1,16 +1,17 @@
 //! The header of a schedule.
 
 ghost use Rattle.std.specs.Prelude.{◌≡◌, option_copied, true, false};
-ghost use Rattle.schedule_text.specs.Tokens.{tokens_after};
+ghost use Rattle.line_fields.specs.Tokens.{tokens_after};
 ghost use Rattle.schedule_text.specs.Headers.{cluster_numbers, header_fields, journal_fields};
 ghost use Rattle.schedule_text.specs.Headers.{seven_fields, eight_fields, cluster_of, header};
-ghost use Rattle.schedule_text.specs.Tokens.{seven_of, eight_of};
+ghost use Rattle.line_fields.specs.Tokens.{seven_of, eight_of};
 
-use crate::complaint::{Complaint, read_all4, read_both};
-use crate::fields::spellings::{read_labelled_keys, read_labelled_number, read_literal};
-use crate::line::{KeysKind, Line};
-use crate::tokens::{eight, seven};
+use crate::line::Line;
 use basil_types::cluster::Cluster;
+use line_fields::complaint::{Complaint, read_all4, read_both};
+use line_fields::fields::spellings::{read_labelled_keys, read_labelled_number, read_literal};
+use line_fields::keys_kind::KeysKind;
+use line_fields::tokens::{eight, seven};
 
 /// A cluster's numbers as a header spells them, before it is known whether there is such a cluster.
 #[derive(Clone, Copy)]

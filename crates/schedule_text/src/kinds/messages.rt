@@ -1,18 +1,18 @@
 //! Lines on the messages of the pool, on parties and on frames.
 
 ghost use Rattle.std.specs.Prelude.{◌≡◌, IfOk, option_copied};
-ghost use Rattle.schedule_text.specs.Tokens.{tokens_after};
-ghost use Rattle.schedule_text.specs.Parties.{only_party};
+ghost use Rattle.line_fields.specs.Tokens.{tokens_after};
+ghost use Rattle.line_fields.specs.Parties.{only_party};
 ghost use Rattle.schedule_text.specs.Lines.{round, deliver, lose, divert, faulty, raw, show};
 
-use crate::complaint::{Complaint, read_all3, read_both};
-use crate::fields::frames::read_frame;
-use crate::fields::numbers::read_number;
-use crate::fields::parties::read_party;
 use crate::line::Line;
-use crate::tokens::{next, one};
 use basil_types::memory::NoMemory;
 use basil_types::party::Party;
+use line_fields::complaint::{Complaint, read_all3, read_both};
+use line_fields::fields::frames::read_frame;
+use line_fields::fields::numbers::read_number;
+use line_fields::fields::parties::read_party;
+use line_fields::tokens::{next, one};
 use std::alloc::Global;
 
 #[tactic(auto, unfolding(crate::specs::Lines::round))]
@@ -54,7 +54,7 @@ pub fn read_lose(rest: Option<&[u8]>) -> Result<Line, Complaint>
     }
 }
 
-#[tactic(auto, unfolding(crate::specs::Parties::only_party))]
+#[tactic(auto, unfolding(line_fields::specs::Parties::only_party))]
 /// A party, and no token behind.
 fn read_only_party(rest: Option<&[u8]>) -> Result<Party, Complaint>
     ensures { result ≡ only_party (tokens_after (option_copied rest.entry)) }

@@ -1,20 +1,20 @@
 //! Lines on replicas: their clocks and stops, and what faulty ones say.
 
 ghost use Rattle.std.specs.Prelude.{◌≡◌, IfOk, option_copied};
-ghost use Rattle.schedule_text.specs.Tokens.{tokens_after};
+ghost use Rattle.line_fields.specs.Tokens.{tokens_after};
 ghost use Rattle.schedule_text.specs.Lines.{clock, vote, second, logged, elect, decide, stop};
 
-use crate::complaint::{Complaint, read_all3, read_all4, read_all5, read_both};
-use crate::fields::frames::read_hex;
-use crate::fields::names::read_name;
-use crate::fields::numbers::{
+use crate::line::Line;
+use basil_types::memory::NoMemory;
+use line_fields::complaint::{Complaint, read_all3, read_all4, read_all5, read_both};
+use line_fields::fields::frames::read_hex;
+use line_fields::fields::names::read_name;
+use line_fields::fields::numbers::{
     read_client, read_number, read_replica, read_view, read_views, read_write,
 };
-use crate::fields::parties::read_place;
-use crate::fields::spellings::read_decision;
-use crate::line::Line;
-use crate::tokens::{five, seven, six, three};
-use basil_types::memory::NoMemory;
+use line_fields::fields::parties::read_place;
+use line_fields::fields::spellings::read_decision;
+use line_fields::tokens::{five, seven, six, three};
 use std::alloc::Global;
 
 #[tactic(auto, unfolding(crate::specs::Lines::clock))]

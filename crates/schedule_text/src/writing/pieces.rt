@@ -7,12 +7,12 @@ ghost use Rattle.schedule_text.specs.Spelling.{keys_token, decision_token, key_t
 ghost use Rattle.schedule_text.specs.Spelling.{spelled_byte, party_tokens, journal_tokens};
 ghost use Rattle.schedule_text.specs.Pieces.{piece_tokens, spaced};
 
-use crate::fields::escapes::is_plain;
-use crate::line::KeysKind;
 use basil_types::bytes::Bytes;
 use basil_types::memory::NoMemory;
 use basil_types::party::{Decision, Party};
 use itoa::Buffer;
+use line_fields::fields::escapes::is_plain;
+use line_fields::keys_kind::KeysKind;
 
 /// A piece of a line: mostly one token.
 #[derive(Clone, Copy)]

@@ -127,7 +127,7 @@ fn is_so(
     requires { IsSpoken (message_of m.now) }
 {
     let faulty = faulty_of(case, cluster);
-    let mut watch = Watch::new(alloc);
+    let mut watch = Box::new(alloc, Watch::new(alloc))?;
     let answer = answer_of(&mut watch, cluster, &faulty, m, case.unnoted);
     is_answered(alloc, &answer, case.forged)
 }

@@ -160,9 +160,14 @@ fn is_refused(
     )
 }
 
-/// A sight of a run without faulty parties.
-fn new_sight(alloc: Global, cluster: &Cluster) -> Sight<PlainKeys> {
-    Sight::new(alloc, *cluster, Faulty::new(), PlainKeys::new(cluster))
+/// A sight of a run with these faulty parties.
+fn new_sight(
+    alloc: Global,
+    cluster: &Cluster,
+    faulty: Faulty,
+) -> Result<Box<Sight<PlainKeys>>, Fail> {
+    let sight = Sight::new(alloc, *cluster, faulty, PlainKeys::new(cluster));
+    Ok(Box::new(alloc, sight)?)
 }
 
 /// The first of these two of a new sight. It is owned here alone, and let go in one place.
@@ -175,7 +180,7 @@ fn is_proven_anew(
 ) -> Result<bool, Fail>
     requires { IsSpoken (message_of m.now) }
 {
-    let mut sight = new_sight(alloc, cluster);
+    let mut sight = new_sight(alloc, cluster, Faulty::new())?;
     is_proven(alloc, &mut sight, frame, m, case)
 }
 
@@ -187,7 +192,7 @@ fn is_refused_anew(
     m: &MessageView<'_>,
     case: &Case,
 ) -> Result<bool, Fail> {
-    let mut sight = new_sight(alloc, cluster);
+    let mut sight = new_sight(alloc, cluster, Faulty::new())?;
     is_refused(alloc, &mut sight, frame, m, case)
 }
 
@@ -246,9 +251,7 @@ fn shows_nothing(alloc: Global, sight: &mut Sight<PlainKeys>) -> Result<bool, Fa
 fn other_bytes_show_nothing(rt: HostRuntime) -> Result<(), Fail> {
     let cluster = Cluster::new(1, 1, 2, 100)?;
     let faulty = only(FAULTY, &cluster);
-    let mut sight = Sight::new(rt.alloc(), cluster, faulty, PlainKeys::new(&cluster));
-    let nothing = shows_nothing(rt.alloc(), &mut sight);
-    drop(sight);
-    assert!(rt; nothing?);
+    let mut sight = new_sight(rt.alloc(), &cluster, faulty)?;
+    assert!(rt; shows_nothing(rt.alloc(), &mut sight)?);
     Ok(())
 }

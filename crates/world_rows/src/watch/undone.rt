@@ -49,9 +49,7 @@ fn are_seen_again(alloc: Global, watch: &mut Watch) -> Result<bool, Fail> {
 /// back.
 #[test]
 fn texts_are_seen_again(rt: HostRuntime) -> Result<(), Fail> {
-    let mut watch = Watch::new(rt.alloc());
-    let seen = are_seen_again(rt.alloc(), &mut watch);
-    drop(watch);
-    assert!(rt; seen?);
+    let mut watch = Box::new(rt.alloc(), Watch::new(rt.alloc()))?;
+    assert!(rt; are_seen_again(rt.alloc(), &mut watch)?);
     Ok(())
 }

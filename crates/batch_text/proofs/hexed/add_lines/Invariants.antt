@@ -1,6 +1,6 @@
 use Rattle.std.proofs.Common.{◌≡◌, ◌≤◌, ◌+◌, length}
 use Rattle.batch_text.specs.Texts.{with_lines}
-use Rattle.schedule_text.specs.TextLines.{lines_of}
+use Rattle.line_fields.specs.TextLines.{lines_of}
 use Rattle.batch_text.proofs.hexed.add_lines.Given as goal
 
 abbrev pub invariant-lines : goal.invariant-lines

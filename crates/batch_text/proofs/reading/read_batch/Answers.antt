@@ -1,5 +1,5 @@
 use Rattle.std.proofs.Common.{rules, ◌≡◌, Ok}
-use Rattle.schedule_text.specs.TextLines.{lines_of}
+use Rattle.line_fields.specs.TextLines.{lines_of}
 use Rattle.batch_text.specs.Texts.{batch_in}
 use Rattle.batch_text.proofs.Growing.{batch-some}
 use Rattle.batch_text.proofs.reading.read_batch.Goals as goal

@@ -1,6 +1,6 @@
 use Rattle.std.proofs.Common.{ap}
 use Rattle.std.specs.Prelude.{codes}
-use Rattle.schedule_replay.specs.Reports.{end_line}
+use Rattle.report_lines.specs.Lines.{end_line}
 use Rattle.schedule_replay.specs.Totals.{total_line}
 use Rattle.schedule_replay.proofs.Reporting.{four_parts}
 use Rattle.schedule_replay.proofs.totals.totals_of.Goals as goal

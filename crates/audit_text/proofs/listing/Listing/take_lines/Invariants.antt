@@ -1,6 +1,6 @@
 use Rattle.std.proofs.Common.{◌≡◌, ◌≤◌, ◌+◌, length}
 use Rattle.audit_text.specs.Listing.{list_lines}
-use Rattle.schedule_text.specs.TextLines.{lines_of}
+use Rattle.line_fields.specs.TextLines.{lines_of}
 use Rattle.audit_text.proofs.listing.Listing.take_lines.Given as goal
 
 abbrev pub invariant-lines : goal.invariant-lines

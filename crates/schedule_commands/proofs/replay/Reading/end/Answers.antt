@@ -7,7 +7,7 @@ use Rattle.schedule_replay.specs.Replays.{ReplayValue}
 use Rattle.schedule_replay.specs.Roads.{road_with}
 use Rattle.schedule_replay.specs.Schedules.{Ends}
 use Rattle.schedule_replay.specs.Shown.{is_link_fault}
-use Rattle.schedule_replay.specs.declared.fault.ReplayFault.{ReplayFault}
+use Rattle.report_lines.specs.declared.fault.ReplayFault.{ReplayFault}
 use Rattle.schedule_commands.specs.Behind.{Closes}
 use Rattle.schedule_commands.specs.TextLines.{open_line}
 use Rattle.schedule_commands.proofs.Behind.{closes_so, ends_faulty, ends_unlinked, nothing_more, replay_ends, replay_is, used_well}

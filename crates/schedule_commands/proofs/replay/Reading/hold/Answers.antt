@@ -2,7 +2,7 @@ use Rattle.std.proofs.Common.{rules, [], ◌≡◌, ◌+◌, ◌<◌, ◌≤◌,
 use Rattle.std.proofs.lemmas.List.{length-append}
 use Rattle.schedule_replay.proofs.RoadLaws.{carries_as, carries_none}
 use Rattle.schedule_replay.specs.Roads.{road_with}
-use Rattle.schedule_text.specs.Limits.{longest_line}
+use Rattle.line_fields.specs.Limits.{longest_line}
 use Rattle.schedule_commands.specs.TextLines.{open_line}
 use Rattle.schedule_commands.proofs.Behind.{goes_on, holds_long}
 use Rattle.schedule_commands.proofs.replay.Reading.hold.Goals as goal

@@ -3,7 +3,8 @@ use Rattle.std.specs.List.{flat_map}
 use Rattle.std.proofs.lemmas.Result.{on_ok_weaker}
 use Rattle.basil_types.specs.Replayed.{map_of}
 use Rattle.serial_audit.specs.Maps.{pairs_of}
-use Rattle.schedule_replay.specs.Reports.{key_line, key_lines}
+use Rattle.report_lines.specs.Lines.{key_line}
+use Rattle.schedule_replay.specs.Reports.{key_lines}
 use Rattle.schedule_replay.proofs.Reporting.{appended}
 use Rattle.schedule_replay.proofs.course.Course.put_keys.Goals as goal
 

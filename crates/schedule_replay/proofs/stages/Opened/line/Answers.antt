@@ -5,7 +5,7 @@ use Rattle.schedule_replay.specs.Replays.{first_replay}
 use Rattle.schedule_replay.specs.Roads.{road_with}
 use Rattle.schedule_replay.specs.Schedules.{Took}
 use Rattle.schedule_replay.specs.Shown.{opening_of}
-use Rattle.schedule_replay.specs.declared.fault.ReplayFault.TheVariants.{NoMemory}
+use Rattle.report_lines.specs.declared.fault.ReplayFault.TheVariants.{NoMemory}
 use Rattle.schedule_replay.specs.declared.stages.Schedule.TheVariants.{Runs}
 use Rattle.schedule_replay.proofs.RoadLaws.{carries_as, carries_none}
 use Rattle.schedule_replay.proofs.StageLaws.{join_done, not_joined, other_line, run_fault, run_goes, skipped, took_fault}

@@ -1,8 +1,0 @@
-use Rattle.std.proofs.Common.{rules}
-use Rattle.schedule_text.proofs.complaint.Complaint.or_earlier.Goals as goal
-
-pub returns-then-number : goal.returns-then-number
-returns-then-number c = search rules
-
-pub returns-else-number : goal.returns-else-number
-returns-else-number c = search rules
