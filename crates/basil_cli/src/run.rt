@@ -288,12 +288,15 @@ fn run_alone<S: Source, K: Sink, L: Links>(
 /// - `keys SET SEED IDENT` writes the LMS public key (RFC 8554) of that parameter set, SEED and identifier, in hex.
 /// - `sign SET SEED IDENT Q` reads a message and writes its signature with leaf Q of that key, in hex.
 /// - `verify PUBLIC SIGNATURE` reads a message and writes `accepted` where the signature is valid, else `refused R`.
+/// - `hsskeys TOP BOTTOM SEED IDENT`, `hsssign TOP BOTTOM SEED IDENT P` and `hssverify PUBLIC SIGNATURE` do the same with
+///   HSS keys of two levels, which sign with number P.
 /// - `batch SET SEED IDENT Q` reads messages in hex, a line each, and writes a signature of each, all by one signature
 ///   with leaf Q of that key, in hex, a line each.
 /// - `unbatch PUBLIC SIGNATURE` reads a message in hex and, behind it, nothing or a batch, as `batch` does. Where the
 ///   signature is valid it writes `accepted` or, with a batch, `in I`, the message's place in it, else `refused R`.
 /// - `check` reads a header and a writeback's frame in hex and writes `commit` or `abort` where the certificate proves
 ///   it, else `refused R`.
+/// - `confirm` reads a writeback's frame in hex and a cluster's file and does the same by the public keys of its parties.
 /// - `audit` reads transactions with their reads and writes and writes `serial` where each read is of the version that
 ///   the serial order gives it, else the first that isn't, as `stray NAME KEY FOUND EXPECTED`.
 /// - `node S R SEED LEAF CONNECTIONS` reads a cluster's file, serves so many connections as replica R of shard S, whose
@@ -306,6 +309,7 @@ fn run_alone<S: Source, K: Sink, L: Links>(
 ///   signature, both in hex.
 /// - `recover C SEED LEAF TRANSACTION SIGNATURE` carries through, as client C, a transaction that it or another client
 ///   formed, and writes `commit` or `abort`.
+/// - `certify C SEED LEAF TRANSACTION SIGNATURE` does the same, and writes the writeback's frame in hex, for `confirm`.
 pub fn run<S: Source, K: Sink, L: Links, C: Clock>(
     alloc: Global,
     arguments: &[String],

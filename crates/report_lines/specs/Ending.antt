@@ -1,5 +1,5 @@
 -- What ends a replay.
-use Rattle.std.specs.Prelude.{Bool, true, false, Result, Ok, Err}
+use Rattle.std.specs.Prelude.{Bool, true, false, Result, Err}
 use Rattle.report_lines.specs.declared.fault.ReplayFault.{ReplayFault}
 use Rattle.report_lines.specs.declared.fault.ReplayFault.TheVariants.{Broken, NoMemory}
 

@@ -111,7 +111,7 @@ impl<V: Verifier, S: Signer> Journals<V, S> {
 }
 
 impl<V: Verifier + Drop, S: Signer + Drop> Journals<V, S> {
-    ghost use Rattle.std.specs.Prelude.{◌≡◌, ◌<◌, ◌⊎◌, ◌++◌, ◌∷◌, [], ℕ, List, IfOk, OnOk, length};
+    ghost use Rattle.std.specs.Prelude.{◌≡◌, ◌<◌, ◌⊎◌, ◌++◌, ◌∷◌, [], ℕ, List, IfOk, OnErr, OnOk, length};
     ghost use Rattle.basil_types.specs.declared.party.Party.TheVariants as parties;
     ghost use Rattle.node_journal.specs.Steps.{handed};
     ghost use Rattle.node_steps.specs.Pens.{PenValue, pen_value};
@@ -121,9 +121,10 @@ impl<V: Verifier + Drop, S: Signer + Drop> Journals<V, S> {
 
     /// One more, behind the others.
     pub fn add(&mut self, journal: RunJournal<V, S>) -> Result<(), NoMemory>
-        ensures { (who : ℕ → ℕ → ReplicaSelf) (begun : ℕ → ℕ → PenValue) (values : List JournalValue)
+        ensures added { (who : ℕ → ℕ → ReplicaSelf) (begun : ℕ → ℕ → PenValue) (values : List JournalValue)
             (value : JournalValue) → AreJournals who begun self.old values → IsOne who begun journal value →
             OnOk result (AreJournals who begun self.new (values ++ value ∷ [])) }
+        ensures as_before { OnErr result (self.new.journals.items ≡ self.old.journals.items) }
     {
         self.journals.push(journal)?;
         Ok(())

@@ -145,7 +145,7 @@ impl Course {
         if !is_chosen(&state) {
             return Ok(());
         }
-        put_asked(self.alloc, out, self.names.at(tx as usize), key.as_slice())?;
+        put_asked(out, self.names.at(tx as usize), key.as_slice())?;
         self.put_chosen(places, &state, out)?;
         put(out, b"\n")
     }
@@ -199,6 +199,6 @@ impl Course {
     {
         let committed = self.world.committed()?;
         let pairs = replay_map(self.alloc, &committed, None)?;
-        put_pairs(self.alloc, out, &pairs)
+        put_pairs(out, &pairs)
     }
 }

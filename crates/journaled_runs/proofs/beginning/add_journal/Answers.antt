@@ -15,6 +15,6 @@ pub returns : goal.returns
 returns g c = λ s st cluster kit shows.
     correct_added s c.args.journals.now c.add.new.self (first_standing s c.args.shard c.args.index)
     (sym (c.is_faulty.ensures s st shows) ∙ c.if-is_faulty.false)
-    (λ before h. c.in_ok-add.ensures (replica_self s) (pen_of s) before (fresh c.args.shard c.args.index) h
+    (λ before h. c.in_ok-add.ensures.added (replica_self s) (pen_of s) before (fresh c.args.shard c.args.index) h
     (begun_one s (g.K.Kit.value c.kit.result.now) c.args.cluster c.args.shard c.args.index _ _ _ c.in_ok-journal.journal cluster
     (kit ∙ ap g.K.Kit.value (sym c.kit.ensures)) c.in_ok-own.ensures.kit c.in_ok-journal.ensures))

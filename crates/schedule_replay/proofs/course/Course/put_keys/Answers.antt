@@ -15,4 +15,4 @@ returns c =
     appended c.args.out.now.items c.put_pairs.new.out.items (flat_map key_line c.deref-2.result.now) (key_lines r.state) put
     (ap (flat_map key_line) (c.deref-2.ensures.value ∙ c.in_ok-pairs.ensures
     ∙ ap (λ ts. pairs_of (map_of ts)) (c.deref.ensures.value ∙ c.in_ok-committed.ensures r.setup r.state s.shows))))
-    c.put_pairs.ensures
+    c.put_pairs.ensures.appended

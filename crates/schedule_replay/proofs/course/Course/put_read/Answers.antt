@@ -16,6 +16,6 @@ returns c =
     is_read c.args.self.now c.args.places.now.entries r t c.args.tx c.args.key.now c.as_slice.result.now
     (told_state c.value-state.result) (c.value-state.ensures r.setup r.state t.stands.shows) c.as_slice.ensures c.is_chosen.result
     (c.is_chosen.ensures r) c.args.out.now.items c.put_asked.new.out.items c.put_chosen.new.out.items c.put.new.out.items
-    c.at.result.now c.as_slice-2.result.now c.if-not-is_chosen.false c.at.ensures c.as_slice-2.ensures c.in_ok-put_asked.ensures
+    c.at.result.now c.as_slice-2.result.now c.if-not-is_chosen.false c.at.ensures c.as_slice-2.ensures c.in_ok-put_asked.ensures.appended
     (c.in_ok-put_chosen.ensures r t) put)
-    c.put.ensures
+    c.put.ensures.appended

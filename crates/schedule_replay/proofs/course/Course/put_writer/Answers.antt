@@ -11,7 +11,7 @@ returns-in-Some c =
     appended c.args.out.now.items c.put.new.out.items c.at.result.now (writer_token r c.args.writer.now) put
     (writer_named c.args.self.now c.args.places.now.entries r t c.args.writer.now c.in-Some.tx.now c.at.result.now c.in-Some.ensures.value
     c.at.ensures))
-    c.put.ensures
+    c.put.ensures.appended
 
 pub returns-in_ok-spelled-in-None : goal.returns-in_ok-spelled-in-None
 returns-in_ok-spelled-in-None c =
@@ -20,4 +20,4 @@ returns-in_ok-spelled-in-None c =
     appended c.args.out.now.items c.put-in-None.new.out.items c.as_bytes.result.now (writer_token r c.args.writer.now) put
     (writer_spelled c.args.self.now c.args.places.now.entries r t c.args.writer.now c.as_bytes.result.now c.in-None.ensures.value
     (c.as_bytes.ensures.value ∙ c.in_ok-spelled-in-None.ensures)))
-    c.put-in-None.ensures
+    c.put-in-None.ensures.appended
