@@ -87,8 +87,8 @@ words_counted (Take slot starts) = refl
 pub sent_words : (w : Work) (old new : List (List ℕ)) → new ≡ old ++ words_by w → old ≡ [] → length new ≡ word_count w
 sent_words w old new is none = ap length is ∙ ap (λ l. length (l ++ words_by w)) none ∙ words_counted w
 
--- what is sent to these parties alone
-pub sent_alone : (out new : List Envelope) (frame spelled : List ℕ) (parties whom : List Party)
-    → new ≡ out ++ map (enveloped frame) parties → out ≡ [] → frame ≡ spelled → parties ≡ whom → new ≡ map (enveloped spelled) whom
-sent_alone out new frame spelled parties whom is none same to =
-    is ∙ ap (λ l. l ++ map (enveloped frame) parties) none ∙ ap (λ f. map (enveloped f) parties) same ∙ ap (map (enveloped spelled)) to
+-- what is sent to these parties
+pub sent_to_these : (new : List Envelope) (frame spelled : List ℕ) (parties whom : List Party)
+    → new ≡ map (enveloped frame) parties → frame ≡ spelled → parties ≡ whom → new ≡ map (enveloped spelled) whom
+sent_to_these new frame spelled parties whom is same to =
+    is ∙ ap (λ f. map (enveloped f) parties) same ∙ ap (map (enveloped spelled)) to

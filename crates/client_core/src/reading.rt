@@ -21,7 +21,7 @@ use crate::seat::Seat;
 use crate::work::{ClientPlan, Work};
 use basil_types::memory::NoMemory;
 use basil_types::outbox::Outbox;
-use client_steps::address::{frames_reach_shards, send_to, shard_parties};
+use client_steps::address::{frames_reach_shards, sent_to, shard_parties};
 use client_steps::fault::CallFault;
 use client_steps::steps::ReadStep;
 use frame_views::frames::ReadView;
@@ -42,8 +42,7 @@ fn ask_frames(seat: &Seat, time: u64, key: &[u8]) -> Result<Outbox, NoMemory>
     put_read(&ReadView { key, time, client }, &mut frame)?;
     let shard = shard_of(key, &seat.cluster);
     let parties = shard_parties(seat.alloc, &seat.cluster, shard)?;
-    let mut out = outbox(seat.alloc);
-    send_to(seat.alloc, parties.as_slice(), frame.as_slice(), &mut out)?;
+    let out = sent_to(seat.alloc, parties.as_slice(), frame.as_slice())?;
     frames_reach_shards();
     Ok(out)
 }

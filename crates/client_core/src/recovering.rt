@@ -27,11 +27,10 @@ use basil_types::memory::NoMemory;
 use basil_types::outbox::Outbox;
 use basil_types::transaction::Transaction;
 use client_recover::Pursuit;
-use client_steps::address::{frames_reach_shards, involved_parties, send_to};
+use client_steps::address::{frames_reach_shards, involved_parties, sent_to};
 use client_steps::fault::CallFault;
 use frame_views::frames::RecoverView;
 use frame_writing::put_recover;
-use node_steps::pending::outbox;
 use std::alloc::Global;
 use txn_meta::form::check_form;
 
@@ -80,8 +79,7 @@ fn recover_frames(seat: &Seat, t: &Transaction, signature: &[u8]) -> Result<Outb
     };
     put_recover(&question, &mut frame)?;
     let parties = involved_parties(seat.alloc, &seat.cluster, t.view())?;
-    let mut out = outbox(seat.alloc);
-    send_to(seat.alloc, parties.as_slice(), frame.as_slice(), &mut out)?;
+    let out = sent_to(seat.alloc, parties.as_slice(), frame.as_slice())?;
     frames_reach_shards();
     Ok(out)
 }

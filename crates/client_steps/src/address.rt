@@ -1,6 +1,6 @@
 //! To whom a client sends, and the frames that it sends to them.
 
-ghost use Rattle.std.specs.Prelude.{◌≡◌, ◌≤◌, ◌++◌, ℕ, All, IfOk, OnOk, map, slice_get};
+ghost use Rattle.std.specs.Prelude.{◌≡◌, ◌≤◌, ◌++◌, [], ℕ, All, IfOk, OnOk, map, slice_get};
 ghost use Rattle.basil_types.specs.Limits.{signature_limit};
 ghost use Rattle.basil_types.specs.Setting.{Setting};
 ghost use Rattle.basil_types.specs.Shown.{transaction_of};
@@ -15,6 +15,7 @@ ghost use Rattle.txn_meta.specs.Places.{members};
 
 use basil_types::bytes::Bytes;
 use basil_types::cluster::Cluster;
+use basil_types::list::List;
 use basil_types::memory::NoMemory;
 use basil_types::outbox::{Envelope, Outbox};
 use basil_types::party::Party;
@@ -78,23 +79,20 @@ pub fn involved_parties(
     Ok(parties)
 }
 
-/// Appends this frame to each of these parties.
-pub fn send_to(
-    alloc: Global,
-    parties: &[Party],
-    frame: &[u8],
-    out: &mut Outbox,
-) -> Result<(), NoMemory>
-    ensures messages { OnOk result
-        (out.new.messages.items ≡ out.old.messages.items ++ map (enveloped frame.now) parties.now) }
-    ensures signed { out.new.signed ≡ out.old.signed }
+/// This frame for each of these parties, and nothing signed.
+pub fn sent_to(alloc: Global, parties: &[Party], frame: &[u8]) -> Result<Outbox, NoMemory>
+    ensures messages { IfOk result (λ out. out.messages.items ≡ map (enveloped frame.now) parties.now) }
+    ensures signed { IfOk result (λ out. out.signed.items ≡ []) }
 {
+    let mut messages = Vec::new(alloc);
     for to in parties {
         let frame = Bytes::copy_of(alloc, frame)?;
-        out.messages.room_for(1)?;
-        out.messages.push(Envelope { to: *to, frame });
+        messages.push(Envelope { to: *to, frame })?;
     }
-    Ok(())
+    Ok(Outbox {
+        messages: List::from_vec(messages),
+        signed: List::new(alloc),
+    })
 }
 
 /// A frame that lacks its signature, for each of these parties.

@@ -1,7 +1,6 @@
 //! What a client sends for a transaction that it pursues (Basil, stage 2, writeback phase).
 
 ghost use Rattle.std.specs.Prelude.{◌≡◌, [], false, is_some, None, IfOk, IfSome, map};
-ghost use Rattle.client_steps.specs.Addressing.{enveloped};
 ghost use Rattle.client_steps.specs.Sending.{IsSending, SendsSecond};
 ghost use Rattle.client_recover.specs.Pursuits as pursuits;
 ghost use Rattle.client_recover.specs.Pursuits.{outcome, take_frame, to_involved};
@@ -13,7 +12,7 @@ ghost use Rattle.frame_views.specs.Spelling.{spelling};
 ghost use Rattle.frame_views.specs.Values as values;
 ghost use Rattle.node_steps.specs.Framed.{framed};
 
-use crate::address::{involved_parties, send_to, shard_parties};
+use crate::address::{involved_parties, sent_to, shard_parties};
 use basil_types::memory::NoMemory;
 use basil_types::outbox::Outbox;
 use basil_types::party::Party;
@@ -42,16 +41,6 @@ fn nothing(alloc: Global) -> Sending
         out: outbox(alloc),
         starts: false,
     }
-}
-
-/// This frame for each of these parties.
-fn sent_to(alloc: Global, parties: &[Party], frame: &[u8]) -> Result<Outbox, NoMemory>
-    ensures messages { IfOk result (λ out. out.messages.items ≡ map (enveloped frame.now) parties.now) }
-    ensures signed { IfOk result (λ out. out.signed.items ≡ []) }
-{
-    let mut out = outbox(alloc);
-    send_to(alloc, parties, frame, &mut out)?;
-    Ok(out)
 }
 
 /// The frame of a message.
